@@ -1,0 +1,16 @@
+pub mod Behind
+pub mod Blanks
+pub mod Boundaries
+pub mod Checking
+pub mod Collecting
+pub mod Cuts
+pub mod FirstToken
+pub mod Lines
+pub mod OneWay
+pub mod Predicates
+pub mod Promises
+pub mod Sentences
+pub mod Signs
+pub mod Tokens
+pub mod Typing
+pub mod Unprimed

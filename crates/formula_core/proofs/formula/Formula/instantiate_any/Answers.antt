@@ -1,0 +1,8 @@
+use Rattle.std.proofs.Common.{◌∙◌, ap, refl, [], ◌∷◌, ◌++◌}
+use Rattle.formula_core.specs.Formulas.{instantiated}
+use Rattle.formula_core.proofs.formula.Formula.instantiate_any.Goals as goal
+
+pub returns : goal.returns
+returns c =
+    let made = instantiated c.args.terms.now 0 c.args.self.now in
+    c.only_of.ensures made (c.in_ok-instantiate_onto.ensures 0 refl ∙ ap (λ before. before ++ made ∷ []) c.new-out.ensures.items)

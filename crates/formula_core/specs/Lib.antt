@@ -1,0 +1,17 @@
+pub mod Env
+pub mod Formulas
+pub mod Identifiers
+pub mod Laws
+pub mod Names
+pub mod Numbers
+pub mod Rows
+pub mod Scopes
+pub mod Shifting
+pub mod Sizes
+pub mod Substitution
+pub mod Texts
+pub mod TypeTable
+pub mod Types
+pub mod Wellness
+pub mod WholeSets
+pub mod formers

@@ -1,0 +1,44 @@
+//! Names, types, formulas and substitution: the plain data that everything else is written over.
+#![tactic(auto)]
+
+mod boxed;
+mod env;
+mod formula;
+mod identifiers;
+mod laws;
+mod list;
+mod memory;
+mod name;
+mod op;
+mod order;
+mod raw;
+mod row;
+mod shift;
+mod size;
+mod steps;
+mod text;
+mod ty;
+mod type_table;
+mod well;
+mod whole_set;
+
+pub use boxed::Boxed;
+pub use env::{Env, EnvFault};
+pub use formula::{Formula, copy_formulas, same_formulas};
+pub use identifiers::{copy_identifiers, same_identifiers};
+pub use laws::{
+    binding_is_undone, free_after_substitution, shifting_keeps_well, substituting_twice,
+};
+pub use list::List;
+pub use memory::OutOfMemory;
+pub use name::{Name, NameFault, is_identifier, is_in_word};
+pub use op::{BINDERS, Binder, OPERATORS, Op};
+pub use raw::{Action, Raw, RawAction, RawBinder, RawBound, RawOp, Ref};
+pub use row::{BinaryRow, NullaryRow, Row, UnaryRow};
+pub use size::{MOST_HEIGHT, MOST_NODES, MOST_TYPE_NODES};
+pub use steps::Steps;
+pub use text::{Label, PoName, Text};
+pub use ty::{Ty, copy_types, same_types};
+
+#[cfg(test)]
+mod tests;

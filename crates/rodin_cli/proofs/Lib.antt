@@ -1,0 +1,14 @@
+pub mod Answering
+pub mod Clean
+pub mod Completing
+pub mod Edits
+pub mod Folding
+pub mod Headings
+pub mod Known
+pub mod Legal
+pub mod OnePart
+pub mod PastBlanks
+pub mod Sessions
+pub mod Statuses
+pub mod Typed
+pub mod Words

@@ -1,0 +1,94 @@
+-- Exchanges one after another.
+use Rattle.std.proofs.Common.{◌≡◌, ◌⊎◌, inl, inr, ℕ, List, [], ◌∷◌, ◌++◌, refl, sym, ap, ◌∙◌, subst, append_assoc}
+use Rattle.std.proofs.lemmas.List.{append-nil, map-append}
+use Rattle.std.specs.Prelude.{Option, Some, None}
+use Rattle.std.specs.Io.KnownBytes.{Keeps}
+use Rattle.sequent_core.specs.declared.Sequent.{Sequent}
+use Rattle.sequent_core.specs.declared.Attempt.{Attempt}
+use Rattle.status_core.specs.declared.Status.{Status}
+use Rattle.status_core.specs.declared.Event.{Event}
+use Rattle.status_core.specs.declared.Event.TheVariants.{Build, Take, Ask}
+use Rattle.status_core.specs.declared.Question.TheVariants.{Faults as AskFaults}
+use Rattle.status_core.specs.declared.Reply.{Reply}
+use Rattle.status_core.specs.declared.Reply.TheVariants.{Nothing}
+use Rattle.status_core.specs.State.{State}
+use Rattle.status_core.specs.Run.{Exchange, Run, history_of}
+use Rattle.rodin_cli.specs.declared.session.Session.{Session}
+use Rattle.rodin_cli.specs.Parts.{Component}
+use Rattle.rodin_cli.specs.Session.{Performs, IsUnchanged, Extends}
+use Rattle.rodin_cli.specs.Script.{AreTurns, AreEdits, IsWhole, IsFront}
+
+pub Run-both : (a b c : State) (xs ys : List Exchange) → Run a xs b → Run b ys c → Run a (xs ++ ys) c
+Run-both a b c [] ys p q = subst (λ s. Run s ys c) p q
+Run-both a b c (x ∷ xs) ys p q = (p.0, p.1, Run-both p.0 b c xs ys p.2 q)
+
+pub Run-split : (a b : State) (xs ys : List Exchange) → Run a (xs ++ ys) b → (s : State) × Run a xs s × Run s ys b
+Run-split a b [] ys r = (a, refl, r)
+Run-split a b (x ∷ xs) ys r = let t = Run-split r.0 b xs ys r.2 in (t.0, (r.0, r.1, t.1), t.2)
+
+pub performed : (old new : Session) (event : Event) (reply : Reply) → Performs old event reply new →
+    (x : Exchange) × (x.event ≡ event) × (x.reply ≡ reply) × Extends old (x ∷ []) new
+performed old new event reply p = (record { event = event; reply = reply; entry = p.0.0 }, refl, refl, ((new.core, p.0.1, refl), p.1))
+
+pub unchanged : (old new : Session) → IsUnchanged old new → Extends old [] new
+unchanged old new p = (p.0, p.1 ∙ sym (append-nil old.history.items))
+
+pub both : (a b c : Session) (xs ys : List Exchange) → Extends a xs b → Extends b ys c → Extends a (xs ++ ys) c
+both a b c xs ys p q = (
+  Run-both a.core b.core c.core xs ys p.0 q.0,
+  q.1 ∙ ap (λ h. h ++ history_of 0 ys) p.1 ∙ append_assoc a.history.items (history_of 0 xs) (history_of 0 ys)
+      ∙ ap (λ h. a.history.items ++ h) (sym (map-append (λ x. (0, x.event)) xs ys)),
+)
+
+pub AreTurns-both : (answers : Sequent → Attempt → Type 0) (sure : Sequent → Type 0) (xs ys : List Exchange) → AreTurns answers sure xs → AreTurns answers sure ys → AreTurns answers sure (xs ++ ys)
+AreTurns-both answers sure [] ys p q = q
+AreTurns-both answers sure (x ∷ []) ys p q = absurd p
+AreTurns-both answers sure (x ∷ y ∷ xs) ys p q = (p.0, AreTurns-both answers sure xs ys p.1 q)
+
+pub regrouped : (edits : List Exchange) (build : Exchange) (turns end : List Exchange) → (edits ++ build ∷ []) ++ (turns ++ end) ≡ (edits ++ build ∷ turns) ++ end
+regrouped edits build turns end = simp append_assoc
+
+pub regrouped_whole : (edits : List Exchange) (build : Exchange) (turns : List Exchange) (nothing x y : Exchange) →
+    ((edits ++ build ∷ []) ++ (turns ++ nothing ∷ [])) ++ (x ∷ y ∷ []) ≡ (edits ++ build ∷ turns) ++ nothing ∷ x ∷ y ∷ []
+regrouped_whole edits build turns nothing x y = simp append_assoc
+
+pub regrouped_asked : (edits : List Exchange) (build : Exchange) (turns : List Exchange) (nothing x : Exchange) →
+    ((edits ++ build ∷ []) ++ (turns ++ nothing ∷ [])) ++ (x ∷ []) ≡ (edits ++ build ∷ turns) ++ nothing ∷ x ∷ []
+regrouped_asked edits build turns nothing x = simp append_assoc
+
+module _ (answers : Sequent → Attempt → Type 0) (sure : Sequent → Type 0) (parts : List Component) where
+  -- after the turns nothing is left, and the questions fail
+  pub front_of_asking : (a b c d : Session) (edits : List Exchange) (build : Exchange) (turns : List Exchange) (nothing : Exchange) →
+      AreEdits parts edits → build.event ≡ Build → AreTurns answers sure turns → nothing.event ≡ Take None → nothing.reply ≡ Nothing →
+      Extends a (edits ++ build ∷ []) b → Extends b (turns ++ nothing ∷ []) c →
+      (IsUnchanged c d ⊎ ((x : Exchange) × (x.event ≡ Ask AskFaults) × Extends c (x ∷ []) d)) →
+      (exchanges : List Exchange) × IsFront answers sure parts exchanges × Extends a exchanges d
+  front_of_asking a b c d edits build turns nothing are is turned taken left p q (inl same) = (
+    (edits ++ build ∷ []) ++ (turns ++ nothing ∷ []),
+    inr (edits, build, turns, nothing ∷ [], regrouped edits build turns (nothing ∷ []), are, is, turned, taken),
+    subst (λ xs. Extends a xs d) (append-nil _) (both a c d _ [] (both a b c _ _ p q) (unchanged c d same)),
+  )
+  front_of_asking a b c d edits build turns nothing are is turned taken left p q (inr asked) = (
+    ((edits ++ build ∷ []) ++ (turns ++ nothing ∷ [])) ++ (asked.0 ∷ []),
+    inr (edits, build, turns, nothing ∷ asked.0 ∷ [], regrouped_asked edits build turns nothing asked.0, are, is, turned, (taken, left, asked.1)),
+    both a c d _ (asked.0 ∷ []) (both a b c _ _ p q) asked.2,
+  )
+
+  -- a whole run is a front of one
+  pub front_of_whole : (shown : List (List ℕ × Status)) (exchanges : List Exchange) → IsWhole answers sure parts shown exchanges → IsFront answers sure parts exchanges
+  front_of_whole shown exchanges w =
+      inr (
+        w.edits,
+        w.build,
+        w.turns,
+        w.nothing ∷ w.faults ∷ w.statuses ∷ [],
+        w.in_order,
+        w.edits_are,
+        w.build_is,
+        w.turns_are,
+        (w.nothing_is.0, w.nothing_is.1, w.faults_is.0, w.statuses_is.0, refl),
+      )
+
+pub Keeps-same : (known : Option (List ℕ)) → Keeps known known
+Keeps-same None = tt
+Keeps-same (Some bytes) = refl

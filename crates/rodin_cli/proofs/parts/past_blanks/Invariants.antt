@@ -1,0 +1,13 @@
+use Rattle.std.proofs.Common.{◌≡◌, length}
+use Rattle.camille_text.specs.Tokens.{blank_length}
+use Rattle.rodin_cli.specs.Parts.{past_blanks}
+use Rattle.rodin_cli.proofs.parts.past_blanks.Given as goal
+
+abbrev pub invariant-loop-blank : goal.invariant-loop-blank
+invariant-loop-blank l = record {
+  same : past_blanks l.rest ≡ past_blanks l.bytes;
+  blank : l.blank ≡ blank_length l.rest;
+}
+
+abbrev pub decreases-loop-blank : goal.decreases-loop-blank
+decreases-loop-blank l = length l.rest

@@ -1,0 +1,110 @@
+-- What `check` did: its status, its history, and what it read and wrote.
+use Rattle.std.specs.Prelude.{◌≡◌, ◌⊎◌, ℕ, ◌≤◌, List, [], ◌∷◌, length, map, codes, String, string_bytes, Some}
+use Rattle.std.specs.List.{AllZip}
+use Rattle.std.specs.FinMap.{get}
+use Rattle.std.specs.declared.alloc.Global.{Global}
+use Rattle.sequent_core.specs.declared.Sequent.{Sequent}
+use Rattle.sequent_core.specs.declared.Obligation.{Obligation}
+use Rattle.sequent_core.specs.declared.Attempt.{Attempt}
+use Rattle.sequent_core.specs.declared.Tree.{Tree}
+use Rattle.sequent_core.specs.Trees.{Derives}
+use Rattle.status_core.specs.declared.Durable.{Durable}
+use Rattle.status_core.specs.declared.Status.{Status}
+use Rattle.status_core.specs.declared.Status.TheVariants.{Discharged}
+use Rattle.status_core.specs.Status.{Shows}
+use Rattle.status_core.specs.Table.{IsTable}
+use Rattle.status_core.specs.State.{State, opened, no_texts, after}
+use Rattle.status_core.specs.Run.{Exchange, Run, IsLegal, history_of}
+use Rattle.rodin_cli.specs.declared.outcome.Part.{Part}
+use Rattle.rodin_cli.specs.Streams.{Reading, Writing, SourceFailed, Writes, WritesCut, WritesOrFails, WritesNothing, Takes, Ends}
+use Rattle.rodin_cli.specs.Texts.{status_lines}
+use Rattle.rodin_cli.specs.Parts.{Component, IsMadeOf}
+use Rattle.rodin_cli.specs.Script.{IsWhole, IsFront}
+use Rattle.rodin_cli.specs.Completeness.{IsComplete}
+
+-- The exchanges are a legal run from the empty project. They are the history, and what lasts is the fold of their
+-- entries.
+pub record Leads (part : Part) (exchanges : List Exchange) : Type 0 where
+  pub state : State
+  pub run : Run (opened no_texts) exchanges state
+  pub legal : IsLegal exchanges
+  pub history : part.history.items ≡ history_of 0 exchanges
+  pub last : part.last ≡ after no_texts (map (λ x. x.entry) exchanges)
+
+-- The status guarantee, its first sentence: the statuses shown are those of a clean rebuild, that is those of the
+-- stored proofs for the table of the built texts.
+abbrev pub IsCleanRebuild : Durable → List (List ℕ × Status) → Type 0
+IsCleanRebuild d shown = (table : List Obligation) × IsTable d.built table × AllZip (Shows d.proofs) table shown
+
+-- where the obligation is shown discharged, a tree is stored under its name that derives its sequent
+abbrev pub IsProvedWhereDischarged : Durable → Obligation → List ℕ × Status → Type 0
+IsProvedWhereDischarged d o shown =
+    (shown.0 ≡ o.name) × (shown.1 ≡ Discharged → (tree : Tree) × (get d.proofs o.name ≡ Some tree) × Derives tree o.sequent)
+
+-- The status guarantee, its second sentence: every obligation shown discharged has a stored tree that derives its
+-- present sequent.
+abbrev pub IsProved : Durable → List (List ℕ × Status) → Type 0
+IsProved d shown = (table : List Obligation) × IsTable d.built table × AllZip (IsProvedWhereDischarged d) table shown
+
+-- the input is made of parts, the run is whole, and the statuses that it shows are written
+pub record IsAnswered (answers : Sequent → Attempt → Type 0) (sure : Sequent → Type 0) (bytes : List ℕ) (sink : Writing) (part : Part) : Type 0 where
+  pub parts : List Component
+  pub made : IsMadeOf bytes parts
+  pub exchanges : List Exchange
+  pub shown : List (List ℕ × Status)
+  pub whole : IsWhole answers sure parts shown exchanges
+  pub leads : Leads part exchanges
+  pub clean : IsCleanRebuild part.last shown
+  pub proved : IsProved part.last shown
+  pub complete : IsComplete sure part.last exchanges
+  pub text : ((part.status ≡ 0) × Writes sink (status_lines shown)) ⊎ ((part.status ≡ 4) × WritesCut sink (status_lines shown))
+
+-- nothing was done
+abbrev pub HasNoHistory : Part → Type 0
+HasNoHistory part = (part.history.items ≡ []) × (part.last ≡ no_texts)
+
+-- the last line alone is written, and nothing was done
+pub record EndsWithLine (status : ℕ) (line : List ℕ) (sink : Writing) (part : Part) : Type 0 where
+  pub status_is : part.status ≡ status
+  pub nothing : HasNoHistory part
+  pub text : WritesOrFails sink line
+
+-- memory ran out: the history is a front of one of `check`, and nothing is written
+pub record RanOut (answers : Sequent → Attempt → Type 0) (sure : Sequent → Type 0) (bytes : List ℕ) (sink : Writing) (part : Part) : Type 0 where
+  pub status_is : part.status ≡ 9
+  pub exchanges : List Exchange
+  pub front : (exchanges ≡ []) ⊎ ((parts : List Component) × IsMadeOf bytes parts × IsFront answers sure parts exchanges)
+  pub leads : Leads part exchanges
+  pub text : WritesNothing sink
+
+-- What comes of an input of these bytes: the answer, the refusal where it isn't made of parts, or out of memory.
+abbrev pub ComesOf : (Sequent → Attempt → Type 0) → (Sequent → Type 0) → List ℕ → Writing → Part → Type 0
+ComesOf answers sure bytes sink part =
+    IsAnswered answers sure bytes sink part
+    ⊎ (((parts : List Component) → IsMadeOf bytes parts → ⊥) × EndsWithLine 1 (codes "input: form not built\n") sink part)
+    ⊎ RanOut answers sure bytes sink part
+
+-- the input was read: to its end, or its first 65,537 bytes
+pub record IsRead (bytes : List ℕ) (source : Reading) : Type 0 where
+  pub taken : Takes source bytes
+  pub most : length bytes ≤ 65537
+  pub ended : length bytes ≤ 65536 → Ends source
+
+-- a front of the input was read
+abbrev pub IsReadInPart : Reading → Type 0
+IsReadInPart source = (bytes : List ℕ) × Takes source bytes
+
+-- The input was read and answered; or the source failed; or memory ran out while it was read.
+abbrev pub Checks : (Sequent → Attempt → Type 0) → (Sequent → Type 0) → Reading → Writing → Part → Type 0
+Checks answers sure source sink part =
+    ((bytes : List ℕ) × IsRead bytes source × ComesOf answers sure bytes sink part)
+    ⊎ (SourceFailed source × IsReadInPart source × EndsWithLine 3 (codes "input: read fault\n") sink part)
+    ⊎ (IsReadInPart source × (part.status ≡ 9) × HasNoHistory part × WritesNothing sink)
+
+-- the usage line, as the last one
+abbrev pub usage_line : List ℕ
+usage_line = codes "usage: rodin check | rodin session WORKERS | rodin demo SEED N\n"
+
+-- the one word `check`
+abbrev pub IsCheckWords : List (String Global) → Type 0
+IsCheckWords words = map string_bytes words ≡ codes "check" ∷ []

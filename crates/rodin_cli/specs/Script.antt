@@ -1,0 +1,67 @@
+-- The events of `check`: an edit for each part, a build, turns of taking and finishing until nothing is left to take,
+-- and the questions for the faults and the statuses.
+use Rattle.std.specs.Prelude.{◌≡◌, ◌⊎◌, ℕ, List, [], ◌∷◌, ◌++◌, ⊤, None}
+use Rattle.sequent_core.specs.declared.Sequent.{Sequent}
+use Rattle.sequent_core.specs.declared.Ticket.{Ticket}
+use Rattle.sequent_core.specs.declared.Attempt.{Attempt}
+use Rattle.sequent_core.specs.Provers.{IsFair}
+use Rattle.status_core.specs.declared.Status.{Status}
+use Rattle.status_core.specs.declared.Event.TheVariants.{Edit, Build, Take, Finish, Ask}
+use Rattle.status_core.specs.declared.Question.TheVariants.{Statuses as AskStatuses, Faults as AskFaults}
+use Rattle.status_core.specs.declared.Reply.TheVariants.{Nothing, Taken, Statuses, Faults}
+use Rattle.status_core.specs.Run.{Exchange}
+use Rattle.rodin_cli.specs.Parts.{Component}
+
+-- an edit for each part
+abbrev pub AreEdits : List Component → List Exchange → Type 0
+AreEdits [] [] = ⊤
+AreEdits [] (x ∷ exchanges) = ⊥
+AreEdits (part ∷ parts) [] = ⊥
+AreEdits (part ∷ parts) (x ∷ exchanges) = (x.event ≡ Edit part.0 part.1) × AreEdits parts exchanges
+
+-- edits for the first of the parts
+abbrev pub AreFirstEdits : List Component → List Exchange → Type 0
+AreFirstEdits parts [] = ⊤
+AreFirstEdits [] (x ∷ exchanges) = ⊥
+AreFirstEdits (part ∷ parts) (x ∷ exchanges) = (x.event ≡ Edit part.0 part.1) × AreFirstEdits parts exchanges
+
+-- a ticket was taken, and finished with a fair attempt at its sequent
+abbrev pub IsTurn : (Sequent → Attempt → Type 0) → (Sequent → Type 0) → Exchange → Exchange → Type 0
+IsTurn answers sure x y =
+    (ticket : Ticket) × (attempt : Attempt) × (x.event ≡ Take None) × (x.reply ≡ Taken ticket) × (y.event ≡ Finish ticket.number attempt)
+    × IsFair (answers ticket.sequent attempt) (sure ticket.sequent) attempt ticket.sequent
+
+abbrev pub AreTurns : (Sequent → Attempt → Type 0) → (Sequent → Type 0) → List Exchange → Type 0
+AreTurns answers sure [] = ⊤
+AreTurns answers sure (x ∷ []) = ⊥
+AreTurns answers sure (x ∷ y ∷ exchanges) = IsTurn answers sure x y × AreTurns answers sure exchanges
+
+-- what comes after the turns, or a front of it: nothing is left to take, and the two questions
+abbrev pub IsEndFront : List Exchange → Type 0
+IsEndFront [] = ⊤
+IsEndFront (x ∷ []) = x.event ≡ Take None
+IsEndFront (x ∷ y ∷ []) = (x.event ≡ Take None) × (x.reply ≡ Nothing) × (y.event ≡ Ask AskFaults)
+IsEndFront (x ∷ y ∷ z ∷ exchanges) = (x.event ≡ Take None) × (x.reply ≡ Nothing) × (y.event ≡ Ask AskFaults) × (z.event ≡ Ask AskStatuses) × (exchanges ≡ [])
+
+-- a whole run of `check`, which shows these statuses
+pub record IsWhole (answers : Sequent → Attempt → Type 0) (sure : Sequent → Type 0) (parts : List Component) (shown : List (List ℕ × Status)) (exchanges : List Exchange) : Type 0 where
+  pub edits : List Exchange
+  pub build : Exchange
+  pub turns : List Exchange
+  pub nothing : Exchange
+  pub faults : Exchange
+  pub statuses : Exchange
+  pub in_order : exchanges ≡ (edits ++ build ∷ turns) ++ nothing ∷ faults ∷ statuses ∷ []
+  pub edits_are : AreEdits parts edits
+  pub build_is : build.event ≡ Build
+  pub turns_are : AreTurns answers sure turns
+  pub nothing_is : (nothing.event ≡ Take None) × (nothing.reply ≡ Nothing)
+  pub faults_is : (faults.event ≡ Ask AskFaults) × (faults.reply ≡ Faults [] [])
+  pub statuses_is : (statuses.event ≡ Ask AskStatuses) × (statuses.reply ≡ Statuses shown)
+
+-- a front of a run of `check`
+abbrev pub IsFront : (Sequent → Attempt → Type 0) → (Sequent → Type 0) → List Component → List Exchange → Type 0
+IsFront answers sure parts exchanges =
+    AreFirstEdits parts exchanges
+    ⊎ ((edits : List Exchange) × (build : Exchange) × (turns : List Exchange) × (end : List Exchange)
+    × (exchanges ≡ (edits ++ build ∷ turns) ++ end) × AreEdits parts edits × (build.event ≡ Build) × AreTurns answers sure turns × IsEndFront end)

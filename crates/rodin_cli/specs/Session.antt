@@ -1,0 +1,19 @@
+-- A core with the history of what it did.
+use Rattle.std.specs.Prelude.{◌≡◌, List, [], ◌∷◌, ◌++◌}
+use Rattle.status_core.specs.declared.Event.{Event}
+use Rattle.status_core.specs.declared.Reply.{Reply}
+use Rattle.status_core.specs.Step.{Replies}
+use Rattle.status_core.specs.Run.{Exchange, Run, history_of}
+use Rattle.rodin_cli.specs.declared.session.Session.{Session}
+
+-- the event was answered so, and is the last of the history
+abbrev pub Performs : Session → Event → Reply → Session → Type 0
+Performs old event reply new = Replies old.core event reply new.core × (new.history.items ≡ old.history.items ++ (0, event) ∷ [])
+
+-- nothing was done
+abbrev pub IsUnchanged : Session → Session → Type 0
+IsUnchanged old new = (new.core ≡ old.core) × (new.history.items ≡ old.history.items)
+
+-- these exchanges of chair 0 lead from the one to the other, and are added to the history
+abbrev pub Extends : Session → List Exchange → Session → Type 0
+Extends old exchanges new = Run old.core exchanges new.core × (new.history.items ≡ old.history.items ++ history_of 0 exchanges)

@@ -1,0 +1,20 @@
+//! What a run answers.
+use status_core::{Durable, Event};
+
+/// What a command without a disk answers: the exit status, the events, each with its chair, and what lasts.
+#[derive(Drop)]
+pub struct Part {
+    pub status: u8,
+    pub history: Vec<(u32, Event)>,
+    pub last: Durable,
+}
+
+/// What the program answers: the exit status, the disk that was handed in, the events, each with its chair, and what
+/// lasts.
+#[derive(Drop)]
+pub struct Run<D> {
+    pub status: u8,
+    pub disk: D,
+    pub history: Vec<(u32, Event)>,
+    pub last: Durable,
+}

@@ -1,0 +1,165 @@
+// Proof trees.
+ghost use Rattle.std.specs.Prelude.{◌≡◌, ◌↔◌, ◌-◌, ◌^◌, IsTrue, IfOk, min, sum, map};
+ghost use Rattle.std.specs.List.{list_all, list_any};
+ghost use Rattle.sequent_core.specs.Trees.{is_closed, is_review, is_reviewed, node_count};
+
+use crate::rule::{Rule, RuleKind};
+use formula_core::{List, OutOfMemory};
+use std::alloc::Global;
+
+/// A proof tree. A leaf is still to be proved.
+#[derive(Drop)]
+pub enum Tree {
+    Leaf,
+    Node(Rule, List<Tree>),
+}
+
+impl Tree {
+    #[cycle(copy)]
+    pub fn copy(&self, alloc: Global) -> Result<Tree, OutOfMemory>
+        ensures { IfOk result (λ copy. copy ≡ self.now) }
+    {
+        match self {
+            Tree::Leaf => Ok(Tree::Leaf),
+            Tree::Node(rule, children) => {
+                let rule = rule.copy(alloc)?;
+                let children = copy_trees(alloc, children.items())?;
+                Ok(Tree::Node(rule, children))
+            }
+        }
+    }
+
+    #[cycle(same)]
+    pub fn same(&self, other: &Tree) -> bool
+        ensures { IsTrue result ↔ (self.now ≡ other.now) }
+    {
+        match self {
+            Tree::Leaf => match other {
+                Tree::Leaf => true,
+                _ => false,
+            },
+            Tree::Node(rule, children) => match other {
+                Tree::Node(other_rule, others) => {
+                    rule.same(other_rule) && same_trees(children.items(), others.items())
+                }
+                _ => false,
+            },
+        }
+    }
+
+    pub fn is_leaf(&self) -> bool
+        ensures { IsTrue result ↔ (self.now ≡ Tree.Leaf) }
+    {
+        match self {
+            Tree::Leaf => true,
+            Tree::Node(_, _) => false,
+        }
+    }
+
+    /// Whether no leaf is left.
+    #[cycle(closed)]
+    pub fn is_closed(&self) -> bool
+        ensures { result ≡ is_closed self.now }
+    {
+        match self {
+            Tree::Leaf => false,
+            Tree::Node(_, children) => are_closed(children.items()),
+        }
+    }
+
+    /// Whether a review stands in it.
+    #[cycle(reviewed)]
+    pub fn is_reviewed(&self) -> bool
+        ensures { result ≡ is_reviewed self.now }
+    {
+        match self {
+            Tree::Leaf => false,
+            Tree::Node(rule, children) => {
+                rule.kind.is_review() || is_any_reviewed(children.items())
+            }
+        }
+    }
+
+    /// How many nodes it has, leaves counted, or the greatest `u64` where there are more.
+    #[cycle(count)]
+    pub fn node_count(&self) -> u64
+        ensures { result ≡ min (node_count self.now) (2 ^ 64 - 1) }
+    {
+        match self {
+            Tree::Leaf => 1,
+            Tree::Node(_, children) => node_count_of_all(children.items()).saturating_add(1),
+        }
+    }
+}
+
+impl RuleKind {
+    /// Whether it is a review, which proves nothing.
+    pub fn is_review(self) -> bool
+        ensures { result ≡ is_review self }
+    {
+        match self {
+            RuleKind::Hyp => false,
+        }
+    }
+}
+
+#[cycle(copy)]
+fn copy_trees(alloc: Global, items: &[Tree]) -> Result<List<Tree>, OutOfMemory>
+    ensures { IfOk result (λ copies. copies ≡ items.now) }
+{
+    let mut copies = Vec::new(alloc);
+    for item in items {
+        copies.push(item.copy(alloc)?)?;
+    }
+    Ok(List::of(copies))
+}
+
+#[cycle(same)]
+fn same_trees(xs: &[Tree], ys: &[Tree]) -> bool
+    ensures { IsTrue result ↔ (xs.now ≡ ys.now) }
+{
+    if xs.len() != ys.len() {
+        return false;
+    }
+    for i in 0..xs.len() {
+        if !xs[i].same(&ys[i]) {
+            return false;
+        }
+    }
+    true
+}
+
+#[cycle(closed)]
+fn are_closed(trees: &[Tree]) -> bool
+    ensures { result ≡ list_all (λ closed. closed) (map is_closed trees.now) }
+{
+    for tree in trees {
+        if !tree.is_closed() {
+            return false;
+        }
+    }
+    true
+}
+
+#[cycle(reviewed)]
+fn is_any_reviewed(trees: &[Tree]) -> bool
+    ensures { result ≡ list_any (λ reviewed. reviewed) (map is_reviewed trees.now) }
+{
+    for tree in trees {
+        if tree.is_reviewed() {
+            return true;
+        }
+    }
+    false
+}
+
+#[cycle(count)]
+fn node_count_of_all(trees: &[Tree]) -> u64
+    ensures { result ≡ min (sum (map node_count trees.now)) (2 ^ 64 - 1) }
+{
+    let mut total: u64 = 0;
+    for tree in trees {
+        total = total.saturating_add(tree.node_count());
+    }
+    total
+}

@@ -1,0 +1,9 @@
+pub mod Alls
+pub mod Closing
+pub mod Finishing
+pub mod Lists
+pub mod NameMaps
+pub mod OneTable
+pub mod Projects
+pub mod Tables
+pub mod TypedTables

@@ -1,0 +1,6 @@
+pub mod Durable
+pub mod Run
+pub mod State
+pub mod Status
+pub mod Step
+pub mod Table
