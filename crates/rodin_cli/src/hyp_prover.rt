@@ -27,7 +27,7 @@ impl Prover for HypProver {
             return Attempt::NoProof;
         }
         match hypothesis(alloc, &sequent.goal) {
-            Ok(rule) => Attempt::Found(Tree::Node(rule, List::of(Vec::new(alloc)))),
+            Ok(rule) => Attempt::found(Tree::Node(rule, List::of(Vec::new(alloc)))),
             Err(_) => Attempt::NoMemory,
         }
     }

@@ -3,6 +3,7 @@
 
 mod apply;
 mod hint;
+mod members;
 mod prover;
 mod rule;
 mod sequent;

@@ -206,6 +206,7 @@ fn a_leaf_applies_but_derives_nothing(rt: HostRuntime) -> Result<(), Fail> {
     let tree = proof_over_leaf(alloc, "a")?;
     assert!(rt; !tree.is_leaf() && !tree.is_closed() && !tree.is_reviewed());
     assert_eq!(rt; tree.node_count(), 2);
+    assert_eq!(rt; tree.member_count(), 20);
     let child_too_many = answers_of(alloc, &tree)?;
     assert_eq!(rt; child_too_many, (false, false, false));
     Ok(())
