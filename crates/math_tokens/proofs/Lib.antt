@@ -1,0 +1,4 @@
+pub mod Longest
+pub mod Fronts
+pub mod Walk
+pub mod OneWay
