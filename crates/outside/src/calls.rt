@@ -35,6 +35,13 @@ impl Calls {
         }
     }
 
+    // How many calls were made.
+    pub(crate) fn made(&self) -> u64
+        ensures { result ≡ self.now.calls }
+    {
+        self.made
+    }
+
     pub(crate) fn faults(&self) -> u64
         ensures { result ≡ self.now.faults }
     {

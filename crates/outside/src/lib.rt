@@ -14,27 +14,42 @@
 
 mod calls;
 mod disk;
+mod disk_entry;
+mod disk_log;
+mod entry;
 mod faults;
+mod file_pair;
 mod gate;
+mod memory_disk;
 mod memory_sink;
 mod memory_source;
 mod pieces;
+mod recorded;
+mod recording;
+mod side;
 mod sink;
 mod source;
 mod stream_sink;
 mod stream_source;
 mod sure;
+mod sure_disk;
 
-pub use disk::{Disk, NullDisk, Side};
+pub use disk::{Disk, NullDisk};
 pub use faults::Failed;
+pub use file_pair::FilePair;
 pub use gate::{Gate, OpenGate};
+pub use memory_disk::MemoryDisk;
 pub use memory_sink::MemorySink;
 pub use memory_source::MemorySource;
+pub use side::Side;
 pub use sink::Sink;
 pub use source::Source;
 pub use stream_sink::StreamSink;
 pub use stream_source::StreamSource;
 pub use sure::{SureSink, SureSource};
+pub use sure_disk::SureDisk;
 
+#[cfg(test)]
+mod disk_tests;
 #[cfg(test)]
 mod tests;

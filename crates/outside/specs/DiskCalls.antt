@@ -1,0 +1,94 @@
+-- The calls on a disk in memory, and what a stop after them may leave.
+use Rattle.std.specs.Prelude.{◌≡◌, ◌⊎◌, ℕ, ◌+◌, ◌≤◌, List, [], ◌∷◌, length, take, drop, Bool, true, nat_le, nat_lt, ◌&&◌, ⊤}
+use Rattle.std.specs.Bool.{if◌then◌else◌}
+use Rattle.outside.specs.Disk.{Sides, overwritten, Torn, TornCut, OnSide}
+use Rattle.outside.specs.declared.side.Side.{Side}
+use Rattle.outside.specs.declared.side.Side.TheVariants.{Left, Right}
+use Rattle.outside.specs.declared.entry.Entry.{Entry}
+use Rattle.outside.specs.declared.entry.Entry.TheVariants.{Nothing, Wrote, Tore, Cut, ToreCut, Synced}
+
+-- a call: one that changed nothing; a write and its bytes; a write of so many bytes that failed; a cut; a cut that failed; a sync
+pub data Call : Type 0 where
+  nothing : Call
+  wrote : Side → ℕ → List ℕ → Call
+  tore : Side → ℕ → ℕ → Call
+  was_cut : Side → ℕ → Call
+  tore_cut : Side → ℕ → Call
+  synced : Side → Call
+
+-- where the kept bytes of a write end
+abbrev pub end_of : Entry → ℕ
+end_of (Wrote side at from count) = from + count
+end_of rest = 0
+
+-- the bytes of a kept write stand among those that are kept
+abbrev pub IsInside : ℕ → Entry → Type 0
+IsInside n entry = end_of entry ≤ n
+
+abbrev pub seen : List ℕ → Entry → Call
+seen written Nothing = nothing
+seen written (Wrote side at from count) = wrote side at (take count (drop from written))
+seen written (Tore side at count) = tore side at count
+seen written (Cut side len) = was_cut side len
+seen written (ToreCut side len) = tore_cut side len
+seen written (Synced side) = synced side
+
+abbrev pub by_side : List ℕ → List ℕ → Sides
+by_side left right Left = left
+by_side left right Right = right
+
+-- one side changed
+abbrev pub changed : Side → (List ℕ → List ℕ) → Sides → Sides
+changed Left f sides Left = f (sides Left)
+changed Left f sides Right = sides Right
+changed Right f sides Left = sides Left
+changed Right f sides Right = f (sides Right)
+
+-- what reads give after the calls, the last of which stands first
+abbrev pub contents : Sides → List Call → Sides
+contents first [] = first
+contents first (wrote side at bytes ∷ calls) = changed side (overwritten at bytes) (contents first calls)
+contents first (was_cut side len ∷ calls) = changed side (take len) (contents first calls)
+contents first (call ∷ calls) = contents first calls
+
+-- each write and cut began inside the side
+abbrev pub are_possible : Sides → List Call → Bool
+are_possible first [] = true
+are_possible first (wrote side at bytes ∷ calls) = nat_le at (length (contents first calls side)) && are_possible first calls
+are_possible first (was_cut side len ∷ calls) = nat_le len (length (contents first calls side)) && are_possible first calls
+are_possible first (call ∷ calls) = are_possible first calls
+
+-- what a call makes of an image, where reads gave these bytes before it
+abbrev pub Step : Sides → Call → Sides → Sides → Type 0
+Step bytes nothing old new = new ≡ old
+Step bytes (wrote side at written) old new = OnSide side (Torn at (length written)) old new
+Step bytes (tore side at count) old new = OnSide side (Torn at count) old new
+Step bytes (was_cut side len) old new = OnSide side (TornCut len) old new
+Step bytes (tore_cut side len) old new = OnSide side (TornCut len) old new
+Step bytes (synced side) old new = (new ≡ old) × (old side ≡ bytes side)
+
+-- what a stop after the calls may leave
+abbrev pub Images : Sides → List Call → Sides → Type 0
+Images first [] c = c ≡ first
+Images first (call ∷ calls) c = (d : Sides) × Images first calls d × Step (contents first calls) call d c
+
+-- what a stop after t calls or more might have left
+abbrev pub Since : Sides → List Call → ℕ → Sides → Type 0
+Since first [] t c = Images first [] c
+Since first (call ∷ calls) t c = Images first (call ∷ calls) c ⊎ ((t ≤ length calls) × Since first calls t c)
+
+-- the calls with one more, if fewer than so many are kept
+abbrev pub noted : ℕ → Call → List Call → List Call
+noted limit call calls = if nat_lt (length calls) limit then call ∷ calls else calls
+
+-- the number of bytes that the calls wrote
+abbrev pub bytes_in : List Call → ℕ
+bytes_in [] = 0
+bytes_in (wrote side at bytes ∷ calls) = length bytes + bytes_in calls
+bytes_in (call ∷ calls) = bytes_in calls
+
+-- a call that left all bytes as reads gave them
+abbrev pub IsStill : Call → Type 0
+IsStill (wrote side at bytes) = ⊥
+IsStill (was_cut side len) = ⊥
+IsStill call = ⊤

@@ -1,0 +1,199 @@
+// Two files of the working directory as a disk.
+ghost use Rattle.std.specs.Prelude.{◌≡◌, ◌≤◌, [], length, IfOk, Ok};
+ghost use Rattle.outside.specs.Cause.{CountsFault, HasCause};
+
+use crate::faults::Faults;
+use crate::{Disk, Failed, Side};
+use std::fs::{OpenFile, OpenOptions};
+use std::io::{self, Read, Seek, SeekFrom, Write};
+use std::rt::Files;
+
+/// The files `rodin.left` and `rodin.right` of the working directory as a disk, which tells no content. Each error of a
+/// file is a fault.
+///
+/// A file that isn't there has length 0 and is made by the first write; until then its `cut` and `sync` do nothing.
+#[derive(Drop)]
+pub struct FilePair<'a, R: Files> {
+    rt: &'a R,
+    left: Option<R::File>,
+    right: Option<R::File>,
+    faults: Faults,
+}
+
+fn open<R: Files>(rt: &R, path: &str) -> io::Result<Option<R::File>> {
+    match OpenOptions::new().read(true).write(true).open(rt, path) {
+        Ok(file) => Ok(Some(file)),
+        Err(error) if error.kind() == io::ErrorKind::NotFound => Ok(None),
+        Err(error) => Err(error),
+    }
+}
+
+fn make<R: Files>(rt: &R, path: &str) -> io::Result<R::File> {
+    OpenOptions::new()
+        .read(true)
+        .write(true)
+        .create(true)
+        .open(rt, path)
+}
+
+fn read_all<F: Read + Seek>(file: &mut F, at: u64, into: &mut [u8]) -> io::Result<usize>
+    ensures { IfOk result (λ n. n ≤ length into.new) }
+{
+    file.seek(SeekFrom::Start(at))?;
+    let mut filled = 0;
+    while filled < into.len() {
+        let count = file.read(&mut into[filled..])?;
+        if count == 0 {
+            break;
+        }
+        filled += count;
+    }
+    Ok(filled)
+}
+
+fn write_all<F: Write + Seek>(file: &mut F, at: u64, bytes: &[u8]) -> io::Result<()> {
+    file.seek(SeekFrom::Start(at))?;
+    file.write_all(bytes)
+}
+
+fn path_of(side: Side) -> &'static str {
+    match side {
+        Side::Left => "rodin.left",
+        Side::Right => "rodin.right",
+    }
+}
+
+impl<'a, R: Files> FilePair<'a, R> {
+    /// The two files, each opened for reading and writing where it is there.
+    pub fn new(rt: &'a R) -> io::Result<FilePair<'a, R>>
+        ensures { IfOk result (λ disk. ⟦<FilePair<'a, R> as Disk>⟧.faults disk ≡ 0) }
+    {
+        let left = open(rt, "rodin.left")?;
+        let right = open(rt, "rodin.right")?;
+        Ok(FilePair {
+            rt,
+            left,
+            right,
+            faults: Faults::new(),
+        })
+    }
+}
+
+// The answer, with an error counted as a fault.
+fn counted<T>(faults: &mut Faults, answer: io::Result<T>) -> Result<T, Failed>
+    ensures cause { HasCause faults.old faults.new result }
+    ensures counted { CountsFault faults.old faults.new result }
+    ensures value { IfOk result (λ value. answer ≡ Ok value) }
+{
+    match answer {
+        Ok(value) => Ok(value),
+        Err(_) => Err(faults.fail()),
+    }
+}
+
+fn length_of<F: OpenFile>(file: &Option<F>) -> io::Result<u64> {
+    match file {
+        None => Ok(0),
+        Some(file) => Ok(file.metadata()?.len()),
+    }
+}
+
+fn read_side<F: Read + Seek>(file: &mut Option<F>, at: u64, into: &mut [u8]) -> io::Result<usize>
+    ensures { IfOk result (λ n. n ≤ length into.new) }
+{
+    match file {
+        None => Ok(0),
+        Some(file) => read_all(file, at, into),
+    }
+}
+
+fn write_side<R: Files>(
+    rt: &R,
+    path: &str,
+    file: &mut Option<R::File>,
+    at: u64,
+    bytes: &[u8],
+) -> io::Result<()> {
+    if file.is_none() {
+        *file = Some(make(rt, path)?);
+    }
+    match file {
+        None => Ok(()),
+        Some(file) => write_all(file, at, bytes),
+    }
+}
+
+fn cut_side<F: OpenFile>(file: &Option<F>, len: u64) -> io::Result<()> {
+    match file {
+        None => Ok(()),
+        Some(file) => file.set_len(len),
+    }
+}
+
+fn sync_side<F: OpenFile>(file: &Option<F>) -> io::Result<()> {
+    match file {
+        None => Ok(()),
+        Some(file) => file.sync_all(),
+    }
+}
+
+impl<'a, R: Files> Disk for FilePair<'a, R> {
+    ghost told = { ⊥ };
+
+    ghost bytes_of = { λ _ _. [] };
+
+    ghost images = { λ _ _. ⊥ };
+
+    ghost clock = { λ _. 0 };
+
+    ghost moments = { λ _ _ _. ⊥ };
+
+    ghost faults = { λ d. d.faults };
+
+    ghost counts_now = { λ no _ _ _ _ now. now };
+
+    ghost only_now = { λ no _ _ since. since };
+
+    fn faults(&self) -> u64 {
+        self.faults.count()
+    }
+
+    fn len(&mut self, side: Side) -> Result<u64, Failed> {
+        let answer = match side {
+            Side::Left => length_of(&self.left),
+            Side::Right => length_of(&self.right),
+        };
+        counted(&mut self.faults, answer)
+    }
+
+    fn read_at(&mut self, side: Side, at: u64, into: &mut [u8]) -> Result<usize, Failed> {
+        match side {
+            Side::Left => counted(&mut self.faults, read_side(&mut self.left, at, into)),
+            Side::Right => counted(&mut self.faults, read_side(&mut self.right, at, into)),
+        }
+    }
+
+    fn write_at(&mut self, side: Side, at: u64, bytes: &[u8]) -> Result<(), Failed> {
+        let answer = match side {
+            Side::Left => write_side(self.rt, path_of(side), &mut self.left, at, bytes),
+            Side::Right => write_side(self.rt, path_of(side), &mut self.right, at, bytes),
+        };
+        counted(&mut self.faults, answer)
+    }
+
+    fn cut(&mut self, side: Side, len: u64) -> Result<(), Failed> {
+        let answer = match side {
+            Side::Left => cut_side(&self.left, len),
+            Side::Right => cut_side(&self.right, len),
+        };
+        counted(&mut self.faults, answer)
+    }
+
+    fn sync(&mut self, side: Side) -> Result<(), Failed> {
+        let answer = match side {
+            Side::Left => sync_side(&self.left),
+            Side::Right => sync_side(&self.right),
+        };
+        counted(&mut self.faults, answer)
+    }
+}

@@ -1,0 +1,231 @@
+// A disk in memory, which keeps every call.
+ghost use Rattle.std.specs.Prelude.{◌≡◌, ◌+◌, ◌≤◌, ◌<◌, ◌⊎◌, ◌↔◌, ◌∷◌, ◌^◌, ⊤, length, take, IfOk, IsErr, OnErr, OnOk, []};
+ghost use Rattle.std.specs.Io.{ReadsAtMost};
+ghost use Rattle.outside.specs.Cause.{HasCause};
+ghost use Rattle.outside.specs.Disk.{Sides, overwritten, Torn, TornCut, OnSide, Reads, Leaves, SameImages, Syncs, Elapses, ReadsAt};
+ghost use Rattle.outside.specs.DiskCalls.{contents, Images, Since, nothing, wrote, tore, was_cut, tore_cut, synced};
+
+use crate::calls::Calls;
+use crate::entry::Entry;
+use crate::recorded::Recorded;
+use crate::{Disk, Failed, Side};
+use std::alloc::{AllocError, Global};
+use std::marker::Model;
+
+/// A disk in memory, which tells its content. The calls that are to fail are listed.
+///
+/// The calls of [`Disk`] but `faults` are numbered together from 1; past the last number of 64 bits each call has that number.
+/// A call fails where its number is listed or greater than the number of calls that the disk serves, and a write also where
+/// it would pass the room that all writes together have. After a call that fails reads give what they gave before; a stop
+/// may still leave a part of what a failed write or cut would have done, as long as the call is one of those served.
+#[derive(Debug, Drop)]
+pub struct MemoryDisk {
+    disk: Recorded,
+    calls: Calls,
+}
+
+impl Model for MemoryDisk {
+    ghost use Rattle.std.specs.Prelude.{◌≡◌, min, length};
+    ghost use Rattle.outside.specs.DiskLog.{calls_of};
+    ghost use Rattle.outside.specs.DiskMemory.{DiskInMemory};
+
+    ghost Value = { DiskInMemory };
+
+    ghost view = { λ d. record {
+      left = d.disk.first_left.items;
+      right = d.disk.first_right.items;
+      kept = calls_of d.disk.log;
+      room = d.disk.log.room;
+      limit = d.disk.log.limit;
+      fails = d.calls.fails;
+      calls = d.calls.calls;
+      faults = d.calls.faults;
+    } };
+
+    ghost invariant = { λ d. length (calls_of d.disk.log) ≡ min d.calls.calls d.disk.log.limit };
+}
+
+impl MemoryDisk {
+    ghost use Rattle.outside.specs.DiskMemory.{DiskInMemory};
+
+    /// A disk whose sides have these bytes. All its writes together may have `room` bytes, it serves `calls` calls, and the
+    /// calls of the numbers in `fails` fail, the first being 1. It takes all its memory here, so that no later call can
+    /// lack it.
+    pub fn new(
+        alloc: Global,
+        left: Vec<u8>,
+        right: Vec<u8>,
+        room: usize,
+        calls: usize,
+        fails: Vec<u64>,
+    ) -> Result<MemoryDisk, AllocError>
+        ensures { IfOk result (λ disk. disk ≡ record {
+          left = left.items;
+          right = right.items;
+          kept = [];
+          room = room;
+          limit = calls;
+          fails = fails.items;
+          calls = 0;
+          faults = 0;
+        }) }
+    {
+        Ok(MemoryDisk {
+            disk: Recorded::new(alloc, left, right, room, calls)?,
+            calls: Calls::new(fails),
+        })
+    }
+
+    /// The number of calls of [`Disk`] that were made so far, those that failed among them.
+    pub fn calls_made(&self) -> u64
+        ensures { result ≡ self.now.calls }
+    {
+        self.calls.made()
+    }
+}
+
+impl Disk for MemoryDisk {
+    ghost use Rattle.outside.specs.DiskLaws.{counts_now, only_now};
+    ghost use Rattle.outside.specs.DiskMemory.{first_of, IsRefused, LacksRoom, served, failed};
+
+    ghost told = { ⊤ };
+
+    ghost bytes_of = { λ d. contents (first_of d) d.kept };
+
+    ghost images = { λ d. Images (first_of d) d.kept };
+
+    ghost clock = { λ d. length d.kept };
+
+    ghost moments = { λ d t. Since (first_of d) d.kept t };
+
+    ghost faults = { λ d. d.faults };
+
+    ghost counts_now = { λ _ d t c le now. counts_now (first_of d) d.kept t c now };
+
+    ghost only_now = { λ _ d c since. only_now (first_of d) d.kept c since };
+
+    fn faults(&self) -> u64 {
+        self.calls.faults()
+    }
+
+    fn len(&mut self, side: Side) -> Result<u64, Failed>
+        ensures len { ⊤ → IfOk result (λ n. n ≡ length (contents (first_of self.old) self.old.kept side)) }
+        ensures bytes { ⊤ → contents (first_of self.new) self.new.kept ≡ contents (first_of self.old) self.old.kept }
+        ensures images { ⊤ → SameImages (Images (first_of self.old) self.old.kept) (Images (first_of self.new) self.new.kept) }
+        ensures image { ⊤ → Images (first_of self.new) self.new.kept (contents (first_of self.new) self.new.kept) }
+        ensures time { ⊤ → Elapses (length self.old.kept) (length self.new.kept) (Since (first_of self.old) self.old.kept) (Since (first_of self.new) self.new.kept) (Images (first_of self.new) self.new.kept) }
+        ensures cause { HasCause self.old.faults self.new.faults result }
+
+        // Exactly which calls fail, and what each leaves.
+        ensures failing { IsErr result ↔ IsRefused self.old }
+        ensures done { OnOk result (self.new ≡ served nothing self.old) }
+        ensures fault { OnErr result (self.new ≡ failed nothing self.old) }
+    {
+        let is_full = self.disk.is_full();
+        let is_listed = self.calls.begin();
+        let len = self.disk.len(side);
+        self.disk.note_if_room(Entry::Nothing);
+        if is_full || is_listed {
+            return Err(self.calls.fail());
+        }
+        Ok(len)
+    }
+
+    fn read_at(&mut self, side: Side, at: u64, into: &mut [u8]) -> Result<usize, Failed>
+        ensures bound { ReadsAtMost result into.new }
+        ensures read { ⊤ → IfOk result (λ n. ReadsAt (contents (first_of self.old) self.old.kept side) at n into.old into.new) }
+        ensures bytes { ⊤ → contents (first_of self.new) self.new.kept ≡ contents (first_of self.old) self.old.kept }
+        ensures images { ⊤ → SameImages (Images (first_of self.old) self.old.kept) (Images (first_of self.new) self.new.kept) }
+        ensures image { ⊤ → Images (first_of self.new) self.new.kept (contents (first_of self.new) self.new.kept) }
+        ensures time { ⊤ → Elapses (length self.old.kept) (length self.new.kept) (Since (first_of self.old) self.old.kept) (Since (first_of self.new) self.new.kept) (Images (first_of self.new) self.new.kept) }
+        ensures cause { HasCause self.old.faults self.new.faults result }
+
+        // Exactly which calls fail, and what each leaves.
+        ensures failing { IsErr result ↔ IsRefused self.old }
+        ensures done { OnOk result (self.new ≡ served nothing self.old) }
+        ensures fault { OnErr result (self.new ≡ failed nothing self.old) }
+    {
+        let is_full = self.disk.is_full();
+        let is_listed = self.calls.begin();
+        if is_full || is_listed {
+            self.disk.note_if_room(Entry::Nothing);
+            return Err(self.calls.fail());
+        }
+        let count = self.disk.read(side, at, into);
+        self.disk.note_if_room(Entry::Nothing);
+        Ok(count)
+    }
+
+    fn write_at(&mut self, side: Side, at: u64, bytes: &[u8]) -> Result<(), Failed>
+        requires within { ⊤ → at ≤ length (contents (first_of self.old) self.old.kept side) }
+        requires fits { at + length bytes.now < 2 ^ 64 }
+        ensures bytes { ⊤ → Reads side (overwritten at bytes.now (contents (first_of self.old) self.old.kept side)) result (contents (first_of self.old) self.old.kept) (contents (first_of self.new) self.new.kept) }
+        ensures images { ⊤ → Leaves (OnSide side (Torn at (length bytes.now))) result (Images (first_of self.old) self.old.kept) (Images (first_of self.new) self.new.kept) }
+        ensures image { ⊤ → Images (first_of self.new) self.new.kept (contents (first_of self.new) self.new.kept) }
+        ensures time { ⊤ → Elapses (length self.old.kept) (length self.new.kept) (Since (first_of self.old) self.old.kept) (Since (first_of self.new) self.new.kept) (Images (first_of self.new) self.new.kept) }
+        ensures cause { HasCause self.old.faults self.new.faults result }
+
+        // Exactly which calls fail, and what each leaves.
+        ensures failing { IsErr result ↔ (IsRefused self.old ⊎ LacksRoom self.old (length bytes.now)) }
+        ensures done { OnOk result (self.new ≡ served (wrote side at bytes.now) self.old) }
+        ensures fault { OnErr result (self.new ≡ failed (tore side at (length bytes.now)) self.old) }
+    {
+        let is_full = self.disk.is_full();
+        let is_listed = self.calls.begin();
+        if is_full || is_listed || !self.disk.has_room(bytes.len()) {
+            self.disk.note_if_room(Entry::Tore {
+                side,
+                at,
+                count: bytes.len(),
+            });
+            return Err(self.calls.fail());
+        }
+        self.disk.write(side, at, bytes);
+        Ok(())
+    }
+
+    fn cut(&mut self, side: Side, len: u64) -> Result<(), Failed>
+        requires within { ⊤ → «len» ≤ length (contents (first_of self.old) self.old.kept side) }
+        ensures bytes { ⊤ → Reads side (take «len» (contents (first_of self.old) self.old.kept side)) result (contents (first_of self.old) self.old.kept) (contents (first_of self.new) self.new.kept) }
+        ensures images { ⊤ → Leaves (OnSide side (TornCut «len»)) result (Images (first_of self.old) self.old.kept) (Images (first_of self.new) self.new.kept) }
+        ensures image { ⊤ → Images (first_of self.new) self.new.kept (contents (first_of self.new) self.new.kept) }
+        ensures time { ⊤ → Elapses (length self.old.kept) (length self.new.kept) (Since (first_of self.old) self.old.kept) (Since (first_of self.new) self.new.kept) (Images (first_of self.new) self.new.kept) }
+        ensures cause { HasCause self.old.faults self.new.faults result }
+
+        // Exactly which calls fail, and what each leaves.
+        ensures failing { IsErr result ↔ IsRefused self.old }
+        ensures done { OnOk result (self.new ≡ served (was_cut side «len») self.old) }
+        ensures fault { OnErr result (self.new ≡ failed (tore_cut side «len») self.old) }
+    {
+        let is_full = self.disk.is_full();
+        let is_listed = self.calls.begin();
+        if is_full || is_listed {
+            self.disk.note_if_room(Entry::ToreCut { side, len });
+            return Err(self.calls.fail());
+        }
+        self.disk.cut(side, len);
+        Ok(())
+    }
+
+    fn sync(&mut self, side: Side) -> Result<(), Failed>
+        ensures bytes { ⊤ → contents (first_of self.new) self.new.kept ≡ contents (first_of self.old) self.old.kept }
+        ensures images { ⊤ → Syncs side (contents (first_of self.old) self.old.kept side) result (Images (first_of self.old) self.old.kept) (Images (first_of self.new) self.new.kept) }
+        ensures image { ⊤ → Images (first_of self.new) self.new.kept (contents (first_of self.new) self.new.kept) }
+        ensures time { ⊤ → Elapses (length self.old.kept) (length self.new.kept) (Since (first_of self.old) self.old.kept) (Since (first_of self.new) self.new.kept) (Images (first_of self.new) self.new.kept) }
+        ensures cause { HasCause self.old.faults self.new.faults result }
+
+        // Exactly which calls fail, and what each leaves.
+        ensures failing { IsErr result ↔ IsRefused self.old }
+        ensures done { OnOk result (self.new ≡ served (synced side) self.old) }
+        ensures fault { OnErr result (self.new ≡ failed nothing self.old) }
+    {
+        let is_full = self.disk.is_full();
+        let is_listed = self.calls.begin();
+        if is_full || is_listed {
+            self.disk.note_if_room(Entry::Nothing);
+            return Err(self.calls.fail());
+        }
+        self.disk.sync(side);
+        Ok(())
+    }
+}
