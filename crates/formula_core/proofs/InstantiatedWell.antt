@@ -192,6 +192,12 @@ pub instantiated_is_well : (terms : List Formula) (f : Formula) → AllByRecursi
 instantiated_is_well terms f well h =
     (kept terms well f [] [] (ap (is_well_in f) (append-nil (reverse (map type_of terms))) ∙ h)).1
 
+-- it has the type of the body
+pub instantiated_type : (terms : List Formula) (f : Formula) → AllByRecursion (λ f. IsTrue (is_well f)) terms
+    → is_well_in f (reverse (map type_of terms)) ≡ true → type_of (instantiated terms 0 f) ≡ type_of f
+instantiated_type terms f well h =
+    (kept terms well f [] [] (ap (is_well_in f) (append-nil (reverse (map type_of terms))) ∙ h)).0
+
 only_part : (binder : Binder) (own : List Ty) (p : Formula) (t : Ty) (b : Formula) → p ≡ b → is_well (roll-Formula (BindF binder own (p ∷ []) t)) ≡ true → is_well_in b (reverse own) ≡ true
 only_part binder own p t b e h =
     let k : (may_be_bound own && binder_fits binder (map type_of (p ∷ [])) t && list_all (λ f. is_well_in f (reverse own ++ [])) (p ∷ [])) ≡ true =
@@ -201,7 +207,7 @@ only_part binder own p t b e h =
     ap (λ f. is_well_in f (reverse own)) (sym e) ∙ ap (is_well_in p) (sym (append-nil (reverse own))) ∙ one
 
 -- the body of a quantifier that is well, below its identifiers
-body_is_well : (x : Formula-F Formula) (b : Formula) → body_at x ≡ Some b → is_well (roll-Formula x) ≡ true → is_well_in b (reverse (bound_types_at x)) ≡ true
+pub body_is_well : (x : Formula-F Formula) (b : Formula) → body_at x ≡ Some b → is_well (roll-Formula x) ≡ true → is_well_in b (reverse (bound_types_at x)) ≡ true
 body_is_well (IntF n) b e h = cc
 body_is_well (FreeF name t) b e h = cc
 body_is_well (BoundF i t) b e h = cc

@@ -6,9 +6,12 @@ pub mod Equations
 pub mod Induction
 pub mod InstantiatedWell
 pub mod Instantiation
+pub mod KeptTypes
 pub mod Lists
 pub mod Numbers
 pub mod RenumberedWell
+pub mod SchemeView
+pub mod Schemes
 pub mod Scopes
 pub mod Substitution
 pub mod SubstitutionLaws

@@ -52,19 +52,19 @@ whole_set_type = type_induction (λ t. type_of (whole_set t) ≡ ty.Pow t)
     (λ t u h k. ap type_of (whole (PairF t u) (ty.Pair t u) (rolls-Pair t u)) ∙ node_type op.Product (whole_set t ∷ whole_set u ∷ []) (ty.Pow (ty.Pair t u)))
     (ap type_of (whole TruthF ty.Truth rolls-Truth) ∙ node_type op.EmptySet [] (ty.Pow ty.Truth))
 
-at_set : (t : Ty) (f : Ty → Bool) → if_set (ty.Pow t) f ≡ f t
+pub at_set : (t : Ty) (f : Ty → Bool) → if_set (ty.Pow t) f ≡ f t
 at_set t f = ap (λ o. option_map_or f (members_at o) false) (outs-Pow t)
 
-pair_of_parts : (t u : Ty) → is_pair_of (ty.Pair t u) t u ≡ true
+pub pair_of_parts : (t u : Ty) → is_pair_of (ty.Pair t u) t u ≡ true
 pair_of_parts t u = ap (λ o. option_map_or (λ p. same_type p.0 t && same_type p.1 u) (components_at o) false) (outs-Pair t u) ∙ both_true _ _ (same_type_refl t) (same_type_refl u)
 
-value-Given : (name : List ℕ) → is_value_type (ty.Given name) ≡ true
+pub value-Given : (name : List ℕ) → is_value_type (ty.Given name) ≡ true
 value-Given name = type_fold is_value_step (GivenF name) _ (rolls-Given name)
 
-value-Pow : (t : Ty) → is_value_type (ty.Pow t) ≡ is_value_type t
+pub value-Pow : (t : Ty) → is_value_type (ty.Pow t) ≡ is_value_type t
 value-Pow t = type_fold is_value_step (PowF t) _ (rolls-Pow t)
 
-value-Pair : (t u : Ty) → is_value_type (ty.Pair t u) ≡ (is_value_type t && is_value_type u)
+pub value-Pair : (t u : Ty) → is_value_type (ty.Pair t u) ≡ (is_value_type t && is_value_type u)
 value-Pair t u = type_fold is_value_step (PairF t u) _ (rolls-Pair t u)
 
 value-Truth : is_value_type ty.Truth ≡ false

@@ -5,6 +5,8 @@ pub mod Laws
 pub mod Names
 pub mod Numbers
 pub mod Rows
+pub mod SchemeView
+pub mod Schemes
 pub mod Scopes
 pub mod Shifting
 pub mod Sizes

@@ -352,6 +352,7 @@ impl Formula {
         requires types { bound_types self.now ≡ map type_of terms.now }
         ensures value { IfSome (body self.now) (λ b. IfOk result (λ f. f ≡ instantiated terms.now 0 b)) }
         ensures well { IsTrue (is_well self.now) → IfOk result (λ f. IsTrue (is_well f)) }
+        ensures typed { IsTrue (is_well self.now) → IfOk result (λ f. type_of f ≡ type_of self.now) }
     {
         match self.body() {
             Some(part) => part.instantiate_any(alloc, terms),

@@ -1,13 +1,17 @@
 //! Laws of formulas, one on each call. The calls do nothing.
-ghost use Rattle.std.specs.Prelude.{◌≡◌, ◌++◌, ℕ, List, IsTrue, length, map};
+ghost use Rattle.std.specs.Prelude.{◌≡◌, ◌↔◌, ◌++◌, ℕ, List, IsTrue, length, map};
 ghost use Rattle.formula_core.specs.declared.ty.Ty.{Ty};
 ghost use Rattle.formula_core.specs.Wellness.{is_well_in};
 ghost use Rattle.formula_core.specs.Formulas.{joined, occurrences, substituted, instantiated};
 ghost use Rattle.formula_core.specs.Laws.{occurrences_at, first_then};
 ghost use Rattle.formula_core.specs.Shifting.{abstracted, as_terms, shifted};
+ghost use Rattle.formula_core.specs.TypeTable.{fits, binder_fits};
+ghost use Rattle.formula_core.specs.Schemes.{IsInstance, operand_schemes, result_scheme, part_schemes, binder_scheme};
+ghost use Rattle.formula_core.specs.Rows.{row_of};
 
 use crate::formula::Formula;
 use crate::name::Name;
+use crate::op::{Binder, Op};
 use crate::ty::Ty;
 
 /// The free identifiers after a substitution are those of the terms, each in the places of its name, and those that no pair names.
@@ -40,4 +44,22 @@ pub fn shifting_keeps_well(f: &Formula)
     ensures { (inner new bound : List Ty) → IsTrue (is_well_in f.now (inner ++ bound)) → IsTrue (is_well_in (shifted (length new) (length inner) f.now) (inner ++ (new ++ bound))) }
 {
     let _ = f;
+}
+
+/// Operands of these types fit an operator, which then has the type `whole`, exactly where this is an instance of its line in the table of types.
+pub fn fits_by_schemes(op: Op, types: &[Ty], whole: &Ty)
+    ensures { IsTrue (fits (row_of op) types.now whole.now) ↔ IsInstance (operand_schemes (row_of op) (length types.now)) (result_scheme (row_of op)) types.now whole.now }
+{
+    let _ = op;
+    let _ = types;
+    let _ = whole;
+}
+
+/// Parts of these types fit a binder, which then has the type `whole`, exactly where this is an instance of its line in the table of types.
+pub fn binder_fits_by_schemes(binder: Binder, types: &[Ty], whole: &Ty)
+    ensures { IsTrue (binder_fits binder types.now whole.now) ↔ IsInstance (part_schemes binder) (binder_scheme binder) types.now whole.now }
+{
+    let _ = binder;
+    let _ = types;
+    let _ = whole;
 }

@@ -2,7 +2,7 @@
 ghost use Rattle.std.specs.Prelude.{◌≡◌, IsTrue, ◌+◌, ◌^◌, ℕ, min, map, length, IfOk, OnOk, Some, None, ◌++◌, ◌∷◌, [], ◌<◌, if◌then◌else◌};
 ghost use Rattle.formula_core.specs.declared.formula.Formula.TheOpen.{Free as FreeStep};
 ghost use Rattle.formula_core.specs.Formulas.{same_identifier};
-ghost use Rattle.formula_core.specs.Wellness.{is_well, is_well_in};
+ghost use Rattle.formula_core.specs.Wellness.{type_of, is_well, is_well_in};
 ghost use Rattle.formula_core.specs.Shifting.{scope_of, raised, shifted, place_from_last, abstracted, abstracted_step};
 
 use crate::formula::{
@@ -16,7 +16,15 @@ use std::alloc::Global;
 impl Formula {
     /// The formula below `by` further bound identifiers: each index from `depth` on is greater by as many.
     /// Also an index that would pass 2^32 - 1 is answered by `OutOfMemory`.
+    #[tactic(auto, using(crate::proofs::KeptTypes::shifted_type))]
     pub fn shift(&self, alloc: Global, by: u32, depth: u32) -> Result<Formula, OutOfMemory>
+        ensures value { IfOk result (λ f. f ≡ shifted by depth self.now) }
+        ensures typed { IfOk result (λ f. type_of f ≡ type_of self.now) }
+    {
+        self.shift_any(alloc, by, depth)
+    }
+
+    fn shift_any(&self, alloc: Global, by: u32, depth: u32) -> Result<Formula, OutOfMemory>
         ensures { IfOk result (λ f. f ≡ shifted by depth self.now) }
     {
         let mut out = Vec::new(alloc);
@@ -100,7 +108,7 @@ fn as_index(at: u64) -> Result<u32, OutOfMemory>
 impl Formula {
     /// The formula as the body of a binder of these identifiers: each free place of one becomes its index.
     /// Also an index that would pass 2^32 - 1 is answered by `OutOfMemory`.
-    #[tactic(auto, using(crate::proofs::RenumberedWell::abstracted_is_well))]
+    #[tactic(auto, using(crate::proofs::KeptTypes::kept_by_binding))]
     pub fn bind_free(
         &self,
         alloc: Global,
@@ -108,6 +116,7 @@ impl Formula {
     ) -> Result<Formula, OutOfMemory>
         ensures value { IfOk result (λ f. f ≡ abstracted identifiers.now 0 self.now) }
         ensures well { IsTrue (is_well self.now) → IfOk result (λ f. IsTrue (is_well_in f (scope_of identifiers.now))) }
+        ensures typed { IfOk result (λ f. type_of f ≡ type_of self.now) }
     {
         self.bind_any(alloc, identifiers)
     }

@@ -1,6 +1,6 @@
 use Rattle.std.proofs.Common.{◌≡◌, ◌∙◌, ap, [], ◌∷◌, ◌++◌, ◌^◌, min, arith}
 use Rattle.formula_core.specs.Shifting.{shifted}
-use Rattle.formula_core.proofs.formula.Formula.shift.Goals as goal
+use Rattle.formula_core.proofs.formula.Formula.shift_any.Goals as goal
 
 pub returns : goal.returns
 returns c =
