@@ -3,6 +3,7 @@ pub mod BindingLaw
 pub mod Depths
 pub mod Distinct
 pub mod Equations
+pub mod FreeIdentifiers
 pub mod Induction
 pub mod InstantiatedWell
 pub mod Instantiation

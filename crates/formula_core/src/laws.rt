@@ -1,8 +1,9 @@
 //! Laws of formulas, one on each call. The calls do nothing.
-ghost use Rattle.std.specs.Prelude.{◌≡◌, ◌↔◌, ◌++◌, ℕ, List, IsTrue, length, map};
+ghost use Rattle.std.specs.List.{IsDistinct};
+ghost use Rattle.std.specs.Prelude.{Contains, ◌≡◌, ◌↔◌, ◌++◌, ℕ, List, IsTrue, length, map};
 ghost use Rattle.formula_core.specs.declared.ty.Ty.{Ty};
 ghost use Rattle.formula_core.specs.Wellness.{is_well_in};
-ghost use Rattle.formula_core.specs.Formulas.{joined, occurrences, substituted, instantiated};
+ghost use Rattle.formula_core.specs.Formulas.{joined, same_identifier, free_of, occurrences, substituted, instantiated};
 ghost use Rattle.formula_core.specs.Laws.{occurrences_at, first_then};
 ghost use Rattle.formula_core.specs.Shifting.{abstracted, as_terms, shifted};
 ghost use Rattle.formula_core.specs.TypeTable.{fits, binder_fits};
@@ -13,6 +14,14 @@ use crate::formula::Formula;
 use crate::name::Name;
 use crate::op::{Binder, Op};
 use crate::ty::Ty;
+
+/// The list of the free identifiers has each of them once, and no other.
+pub fn free_identifiers_are_once(f: &Formula)
+    ensures distinct { IsDistinct same_identifier (free_of f.now) }
+    ensures those { (x : List ℕ × Ty) → Contains (free_of f.now) x ↔ Contains (occurrences f.now) x }
+{
+    let _ = f;
+}
 
 /// The free identifiers after a substitution are those of the terms, each in the places of its name, and those that no pair names.
 pub fn free_after_substitution(f: &Formula, pairs: &[(Name, Formula)])

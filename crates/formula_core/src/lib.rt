@@ -28,7 +28,8 @@ pub use env::{Env, EnvFault};
 pub use formula::{Formula, copy_formulas, same_formulas};
 pub use identifiers::{copy_identifiers, same_identifiers};
 pub use laws::{
-    binding_is_undone, free_after_substitution, shifting_keeps_well, substituting_twice,
+    binder_fits_by_schemes, binding_is_undone, fits_by_schemes, free_after_substitution,
+    free_identifiers_are_once, shifting_keeps_well, substituting_twice,
 };
 pub use list::List;
 pub use memory::OutOfMemory;

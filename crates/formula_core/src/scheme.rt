@@ -17,7 +17,7 @@ pub enum Letter {
 }
 
 /// A type with letters.
-#[derive(Clone, Copy, Debug)]
+#[derive(Clone, Copy)]
 pub enum Scheme {
     Any(Letter),
     Int,
