@@ -9,7 +9,6 @@ use Rattle.std.proofs.lemmas.Map.Keys.{IsDistinct-push}
 use Rattle.std.proofs.lemmas.Map.Views.{list_any-from_Contains, Contains-from_any}
 use Rattle.formula_core.specs.declared.ty.Ty.{Ty}
 use Rattle.formula_core.specs.declared.formula.Formula.{Formula}
-use Rattle.formula_core.specs.Types.{same_type}
 use Rattle.formula_core.specs.Formulas.{same_identifier, with_new, occurrences, free_of}
 use Rattle.formula_core.proofs.Types.{same_type_exact}
 use Rattle.formula_core.proofs.Weakening.{first_true, second_true, both_true}

@@ -3,9 +3,9 @@ use Rattle.std.proofs.Common.{◌≡◌, ◌∙◌, sym, ap, refl, ℕ, zero, su
 use Rattle.std.specs.List.{list_all}
 use Rattle.std.specs.Option.{option_map_or, option_and_then}
 use Rattle.formula_core.specs.declared.ty.Ty.{Ty, out-Ty, roll-Ty}
-use Rattle.formula_core.specs.declared.ty.Ty.TheOpen.{Ty-F, Int as IntF, Bool as BoolF, Given as GivenF, Pow as PowF, Pair as PairF, Truth as TruthF}
+use Rattle.formula_core.specs.declared.ty.Ty.TheOpen.{Ty-F, Int as IntF, Bool as BoolF, Pow as PowF, Pair as PairF, Truth as TruthF}
 use Rattle.formula_core.specs.declared.ty.Ty.TheVariants as ty
-use Rattle.formula_core.specs.declared.ty.Ty.TheViews.{roll-out-Ty, rolls-Int, rolls-Bool, rolls-Given, rolls-Pow, rolls-Pair, rolls-Truth, outs-Int, outs-Bool, outs-Pow, outs-Pair, outs-Truth}
+use Rattle.formula_core.specs.declared.ty.Ty.TheViews.{roll-out-Ty, rolls-Int, rolls-Bool, rolls-Pow, rolls-Pair, rolls-Truth, outs-Int, outs-Bool, outs-Pow, outs-Pair, outs-Truth}
 use Rattle.formula_core.specs.declared.op.Binder.{Binder}
 use Rattle.formula_core.specs.declared.op.Binder.TheVariants as binder
 use Rattle.formula_core.specs.declared.row.Row.{Row}
@@ -22,7 +22,7 @@ use Rattle.formula_core.specs.Schemes.{Scheme, alpha, power, nullary_scheme, una
 use Rattle.formula_core.proofs.Equations.{type_fold}
 use Rattle.formula_core.proofs.Types.{same_type_exact}
 use Rattle.formula_core.proofs.Weakening.{first_true, second_true, both_true}
-use Rattle.formula_core.proofs.WholeSets.{same_type_refl, value-Pow, value-Pair, at_set, pair_of_parts}
+use Rattle.formula_core.proofs.WholeSets.{same_type_refl, value-Pow, value-Pair, at_set}
 
 -- What a test tells of the type that it was made on.
 
