@@ -1,0 +1,5 @@
+pub mod Log
+pub mod Rule
+pub mod Plays
+pub mod Chairs
+pub mod Seats

@@ -1,0 +1,244 @@
+//! The desk and its chairs.
+ghost use Rattle.std.specs.Prelude.{◌≡◌, ◌+◌, ◌<◌, ◌^◌, [], ◌∷◌, true, false, Some, None, IfOk, IfErr};
+ghost use Rattle.turn_desk.specs.Log.{Begins, Grows, HasSeen, JoinedStay, AllJoined, NoneFrom};
+
+use crate::kept::{Act, Kept};
+use crate::plays::{Give, Learn, Make, Take, TakeIn, Turns};
+use crate::view::View;
+use atomic_table::{Refused, Seat, Table};
+use std::alloc::Global;
+use std::hint::spin_loop;
+use std::marker::Model;
+use std::snapshot::Snapshot;
+use std::sync::Wait;
+use std::sync::atomic::{AtomicU64, Ordering};
+
+/// How often a waiting thread looks at the turn before it sleeps.
+const LOOKS: u32 = 100;
+
+type Place<V> = Seat<Option<V>, View<<V as Kept>::Entry, <V as Kept>::Base>>;
+
+/// One value, on which chairs act in turns.
+///
+/// Contracts see which desk it is and what its value began from. The acts of all chairs stand in one order: the log of the
+/// value has their entries in it.
+pub struct Desk<V: Kept> {
+    table: Table<Option<V>, View<V::Entry, V::Base>, Snapshot<V>, Turns, Global>,
+    // How many threads sleep, or are about to, until a turn is given back.
+    sleepers: AtomicU64,
+}
+
+impl<V: Kept> Model for Desk<V> {
+    ghost use Rattle.std.specs.Prelude.{◌≡◌};
+    ghost use Rattle.turn_desk.specs.Chairs.{DeskState};
+
+    ghost Value = { DeskState V.Base };
+
+    ghost view = { λ d. record { table = d.table.shared.table_id; base = V.base d.table.shared.key.value } };
+
+    ghost invariant = { λ d. (d.table.shared.table_id.words ≡ 1) × (d.table.shared.table_id.slots ≡ 1) };
+}
+
+/// The right to act on the value of a desk under a number, one act at a time.
+///
+/// Contracts see its number, how many acts it has made, and what it has seen: a beginning of the one log with all entries
+/// of its own acts. Of chair 0 they also see how many chairs were made and which were joined. A desk can't be closed where
+/// a chair was dropped and not joined.
+#[derive(Drop)]
+pub struct Chair<V: Kept> {
+    seat: Seat<Option<V>, View<V::Entry, V::Base>>,
+    number: u32,
+    made: u32,
+}
+
+impl<V: Kept> Model for Chair<V> {
+    ghost use Rattle.std.specs.Prelude.{◌≡◌, [], true, false};
+    ghost use Rattle.turn_desk.specs.Chairs.{ChairState};
+
+    ghost Value = { ChairState V.Entry V.Base };
+
+    ghost view = { λ c. record { table = c.seat.table_id; number = c.number; acts = c.seat.me.0.acts; made = c.made; joined = c.seat.me.0.joined; seen = c.seat.me.0.seen; base = c.seat.me.0.base } };
+
+    ghost invariant = { λ c. (c.seat.me.0.number ≡ c.number) × (c.seat.me.0.made ≡ c.made) × (c.seat.me.1 ≡ []) × (c.seat.me.0.seated ≡ true) × (c.seat.me.0.acting ≡ false) };
+}
+
+impl<V: Kept> Desk<V> {
+    ghost use Rattle.turn_desk.specs.Chairs.{IsOf, IsAct, first_chair};
+    ghost use Rattle.turn_desk.specs.Plays.{at_turn, after_turn};
+    ghost use Rattle.turn_desk.specs.Seats.{IsSameSeat};
+
+    /// Makes a desk for a value with no entry yet, and chair 0, which has seen nothing.
+    ///
+    /// # Errors
+    ///
+    /// The value, where memory ran out. No other call of a desk or a chair takes memory.
+    pub fn start(alloc: Global, value: V) -> Result<(Desk<V>, Chair<V>), V>
+        requires { V.log value ≡ [] }
+        ensures ok { IfOk result (λ d. (d.0.base ≡ V.base value) × (d.1 ≡ first_chair d.0)) }
+        ensures err { IfErr result (λ v. v ≡ value) }
+    {
+        let about = Snapshot::of(&value);
+        let Ok(mut slots) = Vec::with_capacity(alloc, 1) else {
+            return Err(value);
+        };
+        slots.push_reserved(Some(value));
+        match Table::new(alloc, &[0], slots, &about) {
+            Ok((table, seat)) => {
+                let chair = Chair {
+                    seat,
+                    number: 0,
+                    made: 1,
+                };
+                let sleepers = AtomicU64::new(0);
+                Ok((Desk { table, sleepers }, chair))
+            }
+            Err(Refused { mut slots }) => {
+                let value = slots.pop().unwrap().unwrap();
+                slots.destroy_empty();
+                Err(value)
+            }
+        }
+    }
+
+    // Waits for the turn, and takes the value.
+    fn take_turn<R: Wait>(&self, rt: &R, seat: &mut Place<V>) -> V
+        requires seat { seat.old.table_id ≡ self.now.table }
+        requires rests { (seat.old.me.0.seated ≡ true) × (seat.old.me.1 ≡ []) }
+        ensures seat { IsSameSeat seat.old seat.new × (seat.new.me ≡ (at_turn seat.old.me.0 (V.log result), (0, None) ∷ [])) }
+        ensures log { HasSeen V.chair_of seat.old.me.0.number seat.old.me.0.seen (V.log result) }
+        ensures base { seat.old.me.0.base ≡ Some (V.base result) }
+    {
+        let shared = &self.table.shared;
+        for _ in rt.forever() {
+            let found = shared.peek(0);
+            if found % 2 == 0 && found < u64::MAX - 1 {
+                if shared.compare_exchange::<Take>(seat, 0, found, found + 1) == found {
+                    return shared.exchange(seat, 0, None).unwrap();
+                }
+            } else {
+                self.wait_past(rt, found);
+            }
+        }
+        unreachable!()
+    }
+
+    // Waits until the turn word may be another than was found: a short turn awake, a longer one asleep.
+    fn wait_past<R: Wait>(&self, rt: &R, found: u64) {
+        let shared = &self.table.shared;
+        for _ in 0..LOOKS {
+            if shared.peek(0) != found {
+                return;
+            }
+            spin_loop();
+        }
+        self.sleepers.fetch_add(1, Ordering::SeqCst);
+        shared.park(rt, 0, (found % (1 << 32)) as u32);
+        self.sleepers.fetch_sub(1, Ordering::SeqCst);
+    }
+
+    // Wakes a thread that sleeps, if there is one. A thread counts itself before it looks at the turn for the last time.
+    fn wake_sleeper(&self) {
+        if self.sleepers.load(Ordering::SeqCst) > 0 {
+            self.table.shared.wake_one(0);
+        }
+    }
+
+    // Gives the value back, and the turn.
+    fn give_turn(&self, seat: &mut Place<V>, value: V)
+        requires seat { seat.old.table_id ≡ self.now.table }
+        requires acts { (seat.old.me.0.seated ≡ true) × (seat.old.me.0.acting ≡ true) × (seat.old.me.1 ≡ (0, None) ∷ []) }
+        requires log { Grows V.chair_of seat.old.me.0.number seat.old.me.0.seen (V.log value) }
+        requires base { seat.old.me.0.base ≡ Some (V.base value) }
+        ensures seat { IsSameSeat seat.old seat.new × (seat.new.me ≡ (after_turn seat.old.me.0 (V.log value), [])) }
+        ensures joined { JoinedStay V.chair_of seat.old.me.0.joined (V.log value) }
+    {
+        let shared = &self.table.shared;
+        let empty = shared.exchange(seat, 0, Some(value));
+        let None = empty else { unreachable!() };
+        shared.fetch_add::<Give>(seat, 0, 1);
+        self.wake_sleeper();
+    }
+
+    /// Waits for the turn, and does the action on the value as the chair's next act.
+    ///
+    /// Waiting looks a hundred times and then sleeps. Nothing says when the turn comes, or which of several waiting chairs
+    /// has it first. A desk has 2^63 - 1 turns; after them the call waits for ever. The action must not act on the desk.
+    pub fn act<R: Wait, A: Act<V>>(&self, rt: &R, chair: &mut Chair<V>, action: A) -> A::Answer
+        requires { IsOf self.now chair.old }
+        ensures chair { chair.new ≡ record chair.old { acts = chair.old.acts + 1; seen = chair.new.seen } }
+        ensures act { IsAct V.log V.chair_of V.base (A.does action chair.old.number) self.now.base chair.old.number chair.old.seen result chair.new.seen }
+        ensures joined { JoinedStay V.chair_of chair.old.joined chair.new.seen }
+    {
+        let number = chair.number;
+        let mut value = self.take_turn(rt, &mut chair.seat);
+        let answer = action.act(number, &mut value);
+        self.give_turn(&mut chair.seat, value);
+        answer
+    }
+
+    /// Gives the value back, once all chairs that were made are joined. Its log is what chair 0 has seen.
+    pub fn close(self, chair: Chair<V>) -> V
+        requires of { IsOf self chair }
+        requires first { chair.number ≡ 0 }
+        requires all { AllJoined chair.joined chair.made }
+        ensures log { V.log result ≡ chair.seen }
+        ensures base { V.base result ≡ self.base }
+        ensures joined { JoinedStay V.chair_of chair.joined (V.log result) }
+        ensures unmade { NoneFrom V.chair_of chair.made (V.log result) }
+    {
+        let Desk { table, sleepers: _ } = self;
+        let Chair {
+            seat,
+            number: _,
+            made: _,
+        } = chair;
+        let mut closed = table.close_with(seat);
+        let value = closed.take(0).unwrap();
+        closed.free();
+        value
+    }
+}
+
+impl<V: Kept> Chair<V> {
+    ghost use Rattle.turn_desk.specs.Chairs.{IsOf, new_chair, with_chair};
+
+    /// Makes the chair with the next number, which has seen the same as chair 0.
+    pub fn split(&mut self, desk: &Desk<V>) -> Chair<V>
+        requires of { IsOf desk.now self.old }
+        requires first { (self.old.number ≡ 0) × (self.old.made + 1 < 2 ^ 32) }
+        ensures maker { self.new ≡ record self.old { made = self.old.made + 1 } }
+        ensures made { result ≡ new_chair self.old self.old.made }
+        ensures unused { NoneFrom V.chair_of self.old.made self.old.seen }
+    {
+        let shared = &desk.table.shared;
+        shared.load::<Learn>(&mut self.seat, 0);
+        let seat = shared.split_seat::<Make>(&mut self.seat);
+        let number = self.made;
+        self.made += 1;
+        Chair {
+            seat,
+            number,
+            made: 0,
+        }
+    }
+
+    /// Takes another chair in. Chair 0 has then seen the longer of what both had seen.
+    ///
+    /// From then on the other's own acts are known with chair 0: its entries in the log stay those.
+    pub fn join(&mut self, desk: &Desk<V>, other: Chair<V>)
+        requires of { IsOf desk.now self.old × IsOf desk.now other }
+        requires first { self.old.number ≡ 0 }
+        ensures joined { self.new ≡ with_chair V.chair_of self.old other }
+        ensures seen { HasSeen V.chair_of 0 self.old.seen self.new.seen × HasSeen V.chair_of other.number other.seen self.new.seen }
+        ensures own { JoinedStay V.chair_of self.new.joined self.new.seen }
+    {
+        let Chair {
+            seat,
+            number: _,
+            made: _,
+        } = other;
+        let shared = &desk.table.shared;
+        shared.join_seat::<TakeIn<V>>(&mut self.seat, seat);
+        shared.load::<Learn>(&mut self.seat, 0);
+    }
+}
