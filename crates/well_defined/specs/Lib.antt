@@ -1,0 +1,4 @@
+pub mod Conditions
+pub mod Connectives
+pub mod Laws
+pub mod Predicates
