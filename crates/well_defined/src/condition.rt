@@ -1,5 +1,8 @@
 //! The condition under which a formula has a value.
-ghost use Rattle.std.specs.Prelude.{◌≡◌, ◌++◌, ◌∷◌, [], IfOk, OnOk, map, length};
+ghost use Rattle.std.specs.Prelude.{◌≡◌, ◌++◌, ◌∷◌, [], IsTrue, IfOk, OnOk, Contains, map, length};
+ghost use Rattle.std.specs.List.{AllByRecursion};
+ghost use Rattle.formula_core.specs.Identifiers.{identifiers};
+ghost use Rattle.formula_core.specs.Wellness.{is_well, type_of};
 ghost use Rattle.formula_core.specs.declared.formula.Formula.{Formula};
 ghost use Rattle.well_defined.specs.Predicates.{top};
 ghost use Rattle.well_defined.specs.Connectives.{conjoined, implied, for_every};
@@ -13,8 +16,12 @@ use std::alloc::Global;
 
 /// The condition under which a formula has a value, L of the formula.
 /// Also an index that would pass 2^32 - 1 is answered by `OutOfMemory`.
+#[tactic(auto, using(crate::proofs::Wellness::laws, crate::proofs::Identifiers::laws))]
 pub fn wd(alloc: Global, formula: &Formula) -> Result<Formula, OutOfMemory>
-    ensures { IfOk result (λ l. l ≡ wd_of formula.now) }
+    ensures value { IfOk result (λ l. l ≡ wd_of formula.now) }
+    ensures well { IsTrue (is_well formula.now) → IfOk result (λ l. IsTrue (is_well l)) }
+    ensures predicate { IsTrue (is_well formula.now) → IfOk result (λ l. type_of l ≡ Ty.Truth) }
+    ensures identifiers { IfOk result (λ l. AllByRecursion (Contains (identifiers formula.now)) (identifiers l)) }
 {
     let mut out = Vec::new(alloc);
     add_condition(formula, alloc, &mut out)?;

@@ -8,4 +8,4 @@ mod own;
 mod predicate;
 
 pub use condition::wd;
-pub use laws::atoms_are_well_defined;
+pub use laws::{atoms_are_well_defined, total_formulas_are_well_defined};
