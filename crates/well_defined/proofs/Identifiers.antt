@@ -16,7 +16,7 @@ use Rattle.formula_core.specs.declared.ty.Ty.TheVariants as ty
 use Rattle.formula_core.specs.declared.ty.Ty.TheViews.{rolls-Int, rolls-Bool, rolls-Truth}
 use Rattle.formula_core.specs.declared.formula.Formula.{Formula}
 use Rattle.formula_core.specs.declared.formula.Formula.TheOpen.{Int as NumberF}
-use Rattle.formula_core.specs.declared.formula.Formula.TheVariants.{Int, Free, Bound, Node, Bind}
+use Rattle.formula_core.specs.declared.formula.Formula.TheVariants.{Int, Bound, Node}
 use Rattle.formula_core.specs.declared.formula.Formula.TheViews as view
 use Rattle.formula_core.specs.Formulas.{joined}
 use Rattle.formula_core.specs.Identifiers.{carriers_step, carriers, identifiers_step, identifiers}
@@ -30,7 +30,7 @@ use Rattle.formula_core.proofs.Equations.{formula_fold, type_fold, carriers-Give
 use Rattle.formula_core.proofs.Induction.{formula_induction}
 use Rattle.formula_core.proofs.Types.{type_induction}
 use Rattle.formula_core.proofs.WholeSets.{whole_set-Int, whole_set-Bool, whole_set-Given, whole_set-Pow, whole_set-Pair, whole_set-Truth}
-use Rattle.well_defined.specs.Predicates.{predicate, quantified, top, conjunction, unequal, at_most, less, member, finite, zero, not_empty, bound_b, bound_x, bounded, domain, partial_functions, applicable, implication}
+use Rattle.well_defined.specs.Predicates.{predicate, quantified, top, conjunction, unequal, at_most, less, member, zero, not_empty, bound_b, bound_x, bounded, domain, partial_functions, implication}
 use Rattle.well_defined.specs.Connectives.{conjoined, implied, for_every, is_top}
 use Rattle.well_defined.specs.Conditions.{unary_condition, binary_condition, own_condition, operands_condition, quantified_condition, binder_condition, wd_of}
 use Rattle.well_defined.proofs.Equations.{wd-Int, wd-Free, wd-Bound, wd-Node, wd-Bind}

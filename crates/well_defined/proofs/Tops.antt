@@ -1,5 +1,5 @@
 -- Where L is ⊤: at atoms, and where nothing is partial.
-use Rattle.std.proofs.Common.{◌≡◌, ◌∙◌, sym, ap, refl, ℕ, Bool, true, false, not, ◌&&◌, List, [], ◌∷◌, map, fold, IsTrue, if◌then◌else◌}
+use Rattle.std.proofs.Common.{◌≡◌, ◌∙◌, sym, ap, refl, Bool, true, false, not, ◌&&◌, List, [], ◌∷◌, map, fold, IsTrue, if◌then◌else◌}
 use Rattle.std.specs.List.{AllByRecursion, list_all}
 use Rattle.formula_core.specs.declared.op.Op.{Op}
 use Rattle.formula_core.specs.declared.op.Op.TheVariants as op
@@ -9,7 +9,7 @@ use Rattle.formula_core.specs.declared.ty.Ty.{Ty}
 use Rattle.formula_core.specs.declared.ty.Ty.TheVariants.{Truth}
 use Rattle.formula_core.specs.declared.formula.Formula.{Formula}
 use Rattle.formula_core.specs.declared.formula.Formula.TheOpen.{Node as NodeF, Bind as BindF}
-use Rattle.formula_core.specs.declared.formula.Formula.TheVariants.{Int, Free, Bound, Node, Bind}
+use Rattle.formula_core.specs.declared.formula.Formula.TheVariants.{Node, Bind}
 use Rattle.formula_core.specs.declared.formula.Formula.TheViews.{outs-Node, outs-Bind, rolls-Node, rolls-Bind}
 use Rattle.formula_core.proofs.Equations.{formula_fold}
 use Rattle.formula_core.proofs.Induction.{formula_induction}

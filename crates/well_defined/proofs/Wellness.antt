@@ -24,7 +24,7 @@ use Rattle.formula_core.proofs.Types.{same_type_exact}
 use Rattle.formula_core.proofs.Weakening.{first_true, second_true, both_true, well_further}
 use Rattle.formula_core.proofs.Wellness.{well-Int, well-Bound, well-Node, well-Bind}
 use Rattle.formula_core.proofs.WholeSets.{same_type_refl, whole_set_type, whole_set_is_well}
-use Rattle.well_defined.specs.Predicates.{predicate, quantified, top, conjunction, unequal, at_most, less, member, finite, zero, not_empty, bound_b, bound_x, bounded, domain, partial_functions, applicable, implication}
+use Rattle.well_defined.specs.Predicates.{predicate, quantified, top, conjunction, unequal, at_most, less, member, finite, zero, not_empty, bound_b, bound_x, bounded, domain, partial_functions, implication}
 use Rattle.well_defined.specs.Connectives.{conjoined, implied, for_every, is_top}
 use Rattle.well_defined.specs.Conditions.{unary_condition, binary_condition, own_condition, operands_condition, quantified_condition, binder_condition, wd_of}
 use Rattle.well_defined.proofs.Equations.{wd-Int, wd-Free, wd-Bound, wd-Node, wd-Bind}

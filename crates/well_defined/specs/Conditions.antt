@@ -40,7 +40,7 @@ second_guarded op.Implies p l m = conjoined l (implied p m)
 second_guarded op.Or p l m = conjoined l (alternative p m)
 second_guarded _ p l m = conjoined l m
 
--- of any other number of operands, each of which has to have a value: L of all of them, from left to right
+-- where there are not two, each has to have a value: the conjunction of L of all, from left to right
 abbrev pub operands_condition : Op → List Formula → List Formula → Formula
 operands_condition op (p ∷ q ∷ []) (l ∷ m ∷ []) = second_guarded op p l m
 operands_condition op parts conditions = fold conjoined top conditions
@@ -50,13 +50,13 @@ abbrev pub quantified_condition : Binder → List Ty → Formula → Formula
 quantified_condition binder.QuantifiedIntersection types p = quantified binder.Exists types p
 quantified_condition _ types p = top
 
--- what a binder asks: `∀x·L(P)` of `∀x·P` and `∃x·P`, and `∀x·L(P) ∧ (P ⇒ L(E))` of a comprehension, ⋃ or ⋂ of `P ∣ E`
+-- what a binder asks: `∀x·P` and `∃x·P` ask for `∀x·L(P)`, and a comprehension, ⋃ or ⋂ of `P ∣ E` for `∀x·(L(P) ∧ (P ⇒ L(E)))`
 abbrev pub binder_condition : Binder → List Ty → List Formula → List Formula → Formula
 binder_condition binder types (p ∷ []) (l ∷ []) = for_every types l
 binder_condition binder types (p ∷ e ∷ []) (l ∷ m ∷ []) = conjoined (for_every types (conjoined l (implied p m))) (quantified_condition binder types p)
 binder_condition binder types _ _ = top
 
--- One level. Each part stands beside its condition.
+-- One level. Each part stands beside its condition. What the operands ask comes first, and what the form itself asks last.
 abbrev pub wd_step : Formula-F (Formula × Formula) → Formula
 wd_step (Int n) = top
 wd_step (Free name t) = top

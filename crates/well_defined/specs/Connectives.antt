@@ -4,7 +4,7 @@ use Rattle.formula_core.specs.declared.op.Op.TheVariants as op
 use Rattle.formula_core.specs.declared.op.Binder.TheVariants as binder
 use Rattle.formula_core.specs.declared.ty.Ty.{Ty}
 use Rattle.formula_core.specs.declared.formula.Formula.{Formula, out-Formula}
-use Rattle.formula_core.specs.declared.formula.Formula.TheOpen.{Formula-F, Int, Free, Bound, Node, Bind}
+use Rattle.formula_core.specs.declared.formula.Formula.TheOpen.{Formula-F, Node}
 use Rattle.well_defined.specs.Predicates.{top, conjunction, implication, disjunction, quantified}
 
 abbrev pub is_top_at : Formula-F Formula → Bool

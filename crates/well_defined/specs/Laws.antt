@@ -1,5 +1,5 @@
 -- What the laws of well-definedness speak of.
-use Rattle.std.specs.Prelude.{Bool, true, false, not, ◌&&◌, List, [], ◌∷◌}
+use Rattle.std.specs.Prelude.{Bool, true, false, not, ◌&&◌, [], ◌∷◌}
 use Rattle.std.specs.List.{list_all}
 use Rattle.formula_core.specs.declared.op.Op.{Op}
 use Rattle.formula_core.specs.declared.op.Op.TheVariants as op
