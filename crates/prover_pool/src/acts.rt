@@ -4,17 +4,13 @@ ghost use Rattle.sequent_core.specs.Members.{members_of};
 
 use crate::work::{Done, Taken, Work};
 use sequent_core::Attempt;
-use std::alloc::Global;
 use turn_desk::Act;
 
 /// Asks for the next piece of work.
-pub struct Taking {
-    pub alloc: Global,
-}
+pub struct Taking;
 
 /// Hands in what a prover answered on a ticket.
 pub struct Finishing {
-    pub alloc: Global,
     pub ticket: u64,
     pub attempt: Attempt,
     ghost few: { members_of attempt < 2 ^ 32 },
@@ -28,8 +24,7 @@ impl<V: Work> Act<V> for Taking {
     ghost does = { λ act k before answer after. Takes V.chair_of V.meaning (V.base before) k (V.log before) answer (V.log after) };
 
     fn act(self, chair: u32, value: &mut V) -> Taken {
-        let Taking { alloc } = self;
-        value.take(alloc, chair)
+        value.take(chair)
     }
 }
 
@@ -41,11 +36,7 @@ impl<V: Work> Act<V> for Finishing {
     ghost does = { λ act k before answer after. Finishes V.chair_of V.meaning (V.base before) k act.ticket act.attempt (V.log before) answer (V.log after) };
 
     fn act(self, chair: u32, value: &mut V) -> Done {
-        let Finishing {
-            alloc,
-            ticket,
-            attempt,
-        } = self;
-        value.finish(alloc, chair, ticket, attempt)
+        let Finishing { ticket, attempt } = self;
+        value.finish(chair, ticket, attempt)
     }
 }

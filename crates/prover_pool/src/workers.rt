@@ -43,7 +43,7 @@ pub fn serve<R: Wait, V: Work, P: Prover, G: Gate>(
 {
     for _ in rt.forever() {
         let told = notices.work_told(rt);
-        match desk.act(rt, chair, Taking { alloc }) {
+        match desk.act(rt, chair, Taking) {
             Taken::Stop => return,
             Taken::Nothing => {
                 if notices.wait_for_work(rt, told) {
@@ -55,7 +55,6 @@ pub fn serve<R: Wait, V: Work, P: Prover, G: Gate>(
                 let attempt = ask(alloc, prover, ticket);
                 gate.before_finish(number);
                 let finishing = Finishing {
-                    alloc,
                     ticket: number,
                     attempt,
                 };
