@@ -1,0 +1,7 @@
+mod Heads
+mod Pieces
+mod Quiet
+mod Runs
+mod Scanning
+mod Standing
+mod Surveys
