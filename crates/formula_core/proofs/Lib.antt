@@ -10,6 +10,7 @@ pub mod Instantiation
 pub mod KeptTypes
 pub mod Lists
 pub mod Numbers
+pub mod Places
 pub mod RenumberedWell
 pub mod SchemeView
 pub mod Schemes

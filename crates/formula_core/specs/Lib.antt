@@ -4,6 +4,7 @@ pub mod Identifiers
 pub mod Laws
 pub mod Names
 pub mod Numbers
+pub mod Places
 pub mod Rows
 pub mod SchemeView
 pub mod Schemes

@@ -1,8 +1,7 @@
-ghost use Rattle.std.specs.Prelude.{◌≡◌, ◌↔◌, IsTrue, IfOk, OnOk, fold, ◌++◌, ◌∷◌};
-ghost use Rattle.formula_core.specs.Formulas.{occurrences, with_new, joined, same_identifier, free_of, substituted, instantiated, instantiated_step, body, only};
+ghost use Rattle.std.specs.Prelude.{◌≡◌, ◌↔◌, IsTrue, IfOk, OnOk, ◌++◌, ◌∷◌};
+ghost use Rattle.formula_core.specs.Formulas.{substituted, instantiated, instantiated_step, body, only};
 ghost use Rattle.formula_core.specs.declared.formula.Formula.{Formula};
 ghost use Rattle.formula_core.specs.declared.formula.Formula.TheOpen.{Bound as IndexStep};
-ghost use Rattle.std.specs.List.{list_any};
 ghost use Rattle.std.specs.Option.{option_copied};
 ghost use Rattle.std.specs.Map.{lookup};
 ghost use Rattle.std.specs.Prelude.{map, [], bytes_eq, ℕ, min, ◌^◌, ◌+◌, length, IsSome, IfSome};
@@ -196,66 +195,6 @@ pub(crate) fn only_of(made: Vec<Formula>) -> Result<Formula, OutOfMemory>
         Some(f) => Ok(f),
         None => Err(OutOfMemory),
     }
-}
-
-impl Formula {
-    /// Each free identifier once, by first place.
-    pub fn free(&self, alloc: Global) -> Result<Vec<(Name, Ty)>, OutOfMemory>
-        ensures { IfOk result (λ v. v.items ≡ free_of self.now) }
-    {
-        let mut found = Vec::new(alloc);
-        self.collect(alloc, &mut found)?;
-        Ok(found)
-    }
-
-    #[cycle(free)]
-    fn collect(&self, alloc: Global, found: &mut Vec<(Name, Ty)>) -> Result<(), OutOfMemory>
-        ensures { OnOk result (found.new.items ≡ fold with_new found.old.items (occurrences self.now)) }
-    {
-        match self {
-            Formula::Int(_) => Ok(()),
-            Formula::Free(name, ty) => add_new(alloc, found, name, ty),
-            Formula::Bound(_, _) => Ok(()),
-            Formula::Node(_, parts, _) => collect_all(alloc, parts.items(), found),
-            Formula::Bind(_, _, parts, _) => collect_all(alloc, parts.items(), found),
-        }
-    }
-}
-
-#[cycle(free)]
-fn collect_all(
-    alloc: Global,
-    items: &[Formula],
-    found: &mut Vec<(Name, Ty)>,
-) -> Result<(), OutOfMemory>
-    ensures { OnOk result (found.new.items ≡ fold with_new found.old.items (joined (map occurrences items.now))) }
-{
-    for item in items {
-        item.collect(alloc, found)?;
-    }
-    Ok(())
-}
-
-/// Adds an identifier that is not there yet.
-fn add_new(
-    alloc: Global,
-    found: &mut Vec<(Name, Ty)>,
-    name: &Name,
-    ty: &Ty,
-) -> Result<(), OutOfMemory>
-    ensures { OnOk result (found.new.items ≡ with_new found.old.items (name.now, ty.now)) }
-{
-    if has(found, name, ty) {
-        return Ok(());
-    }
-    found.push((name.copy(alloc)?, ty.copy(alloc)?))?;
-    Ok(())
-}
-
-fn has(found: &[(Name, Ty)], name: &Name, ty: &Ty) -> bool
-    ensures { result ≡ list_any (λ x. same_identifier x (name.now, ty.now)) found.now }
-{
-    found.iter().any(|x| x.0.same(name) && x.1.same(ty))
 }
 
 impl Formula {

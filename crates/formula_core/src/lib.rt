@@ -4,6 +4,7 @@
 mod boxed;
 mod env;
 mod formula;
+mod free;
 mod identifiers;
 mod laws;
 mod list;
