@@ -1,0 +1,71 @@
+//! Workers over a small value: all work is done, notices are shut at first, more workers than work, and a fault.
+//! What is printed is the same whatever the schedule.
+#![tactic(auto)]
+
+mod tray;
+mod work;
+
+use crate::tray::{Tray, What};
+use crate::work::{Shut, work_beside};
+use outside::OpenGate;
+use sequent_core::{Attempt, Prover, Sequent};
+use std::alloc::{AllocError, Global};
+use std::io;
+
+// Finds no proof.
+struct NoProver;
+
+impl Prover for NoProver {
+    ghost use Rattle.sequent_core.specs.declared.Attempt.TheVariants.{NoProof};
+    ghost use Rattle.std.specs.Prelude.{◌≡◌};
+
+    ghost sure = { λ prover sequent. ⊥ };
+
+    ghost answers = { λ prover sequent attempt. attempt ≡ NoProof };
+
+    fn attempt(&self, _alloc: Global, _sequent: &Sequent) -> Attempt {
+        Attempt::NoProof
+    }
+}
+
+// What is printed of a tray when its workers are done.
+fn line(alloc: Global, name: &str, workers: u32, tray: &Tray) -> Result<String, AllocError> {
+    let left = tray.left;
+    let finished = tray.finishes();
+    let fault = if tray.fault.is_some() {
+        ", and a fault"
+    } else {
+        ""
+    };
+    let is_idle = |number: &u32| !tray.has_take_of(*number);
+    let idle = (0..workers).map(|place| place + 1).filter(is_idle).count();
+    format!(in alloc;
+        "{name}: {left} left, {finished} finished, {idle} workers without a take{fault}"
+    )
+}
+
+fn main(rt: HostRuntime) -> io::Result<()> {
+    let rows = [
+        ("all work is done", 5, 3, 100, Shut::After(5)),
+        ("shut at first", 5, 3, 100, Shut::First),
+        ("more workers than work", 1, 3, 100, Shut::First),
+        ("no workers", 2, 0, 100, Shut::First),
+        ("a fault at a take", 5, 1, 4, Shut::Never),
+        ("a fault at a finish", 5, 1, 3, Shut::Never),
+        ("a fault at once", 5, 3, 0, Shut::Never),
+    ];
+    for (name, left, workers, room, shut) in rows {
+        let tray = Tray {
+            left,
+            room,
+            steps: Vec::new(rt.alloc()),
+            fault: None,
+        };
+        let done = work_beside(&rt, rt.alloc(), tray, workers, shut, &NoProver, &OpenGate);
+        let Ok(tray) = done else {
+            return Err(io::Error::from(io::ErrorKind::OutOfMemory));
+        };
+        println!(rt; "{}", line(rt.alloc(), name, workers, &tray)?)?;
+    }
+    Ok(())
+}
