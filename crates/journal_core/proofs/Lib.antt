@@ -1,7 +1,9 @@
 mod Heads
 mod Pieces
 mod Quiet
+mod Renewing
 mod Runs
 mod Scanning
 mod Standing
 mod Surveys
+mod Turning

@@ -3,7 +3,7 @@ ghost use Rattle.std.specs.Prelude.{◌≡◌, ◌+◌, ◌-◌, ◌^◌, ◌<�
 ghost use Rattle.outside.specs.Cause.{Rose};
 ghost use Rattle.outside.specs.Disk.{Sides, LeavesOnly};
 ghost use Rattle.outside.specs.declared.side.Side.{Side};
-ghost use Rattle.journal_core.specs.Sides.{Stands, HasRecords, IsBeforeOrAfter, open_records};
+ghost use Rattle.journal_core.specs.Sides.{Stands, HasRecords, IsBeforeOrAfter, IsBeforeOrOne, open_records, other};
 ghost use Rattle.journal_core.specs.Start.{IsCause, IsReady, StandsAsSome, ArePlaced, bodies_of};
 ghost use Rattle.journal_core.specs.Reading.{side_of, number_of, rest_of};
 ghost use Rattle.journal_core.specs.State.{IsKept, JournalState};
@@ -11,6 +11,7 @@ ghost use Rattle.journal_core.specs.State.{IsKept, JournalState};
 use crate::open::open;
 use crate::piece::{JournalFault, Piece};
 use crate::reading::Current;
+use crate::renew::replace;
 use crate::steps::{set_gate, stage};
 use outside::{Disk, Side};
 use std::alloc::Global;
@@ -27,6 +28,15 @@ fn place_of(current: Current) -> (Side, u64, bool)
             generation,
             rest_open,
         } => (side, generation, rest_open),
+    }
+}
+
+fn other_side(side: Side) -> Side
+    ensures { result ≡ other side }
+{
+    match side {
+        Side::Left => Side::Right,
+        Side::Right => Side::Left,
     }
 }
 
@@ -141,6 +151,46 @@ impl<D: Disk> Journal<D> {
             return Err(AppendFault::DiskFault);
         }
         self.gate += 5 + bytes.len() as u64;
+        Ok(())
+    }
+
+    /// Makes the other side the current one, with this one record in place of all that stand. After Ok every stop leaves
+    /// sides that have it alone. It takes no memory.
+    pub fn checkpoint(&mut self, bytes: &[u8]) -> Result<(), AppendFault>
+        // A stop at any moment leaves the records from before, or the new one alone.
+        ensures any_moment { D.told → self.old.failed ≡ false → (bodies : List (List ℕ)) → Stands (D.bytes_of self.old.disk) bodies
+            → LeavesOnly D.clock D.moments self.old.disk self.new.disk (IsBeforeOrOne bodies bytes.now) }
+        ensures acknowledged { D.told → OnOk result ((c : Sides) → D.images self.new.disk c → Stands c (bytes.now ∷ [])) }
+        ensures read { D.told → OnOk result (Stands (D.bytes_of self.new.disk) (bytes.now ∷ [])) }
+        ensures length { OnOk result (self.new.gate ≡ 21 + length bytes.now) }
+        ensures turned { OnOk result (self.new.side ≡ other self.old.side) }
+        ensures next { OnOk result (self.new.generation ≡ self.old.generation + 1) }
+
+        // Exactly when it is refused, and what stays.
+        ensures failed { IsErrOf result AppendFault.Failed ↔ (self.old.failed ≡ true) }
+        ensures full { IsErrOf result AppendFault.JournalFull
+            ↔ ((self.old.failed ≡ false) × ((67108864 < 22 + length bytes.now) ⊎ (self.old.generation ≡ 2 ^ 64 - 1))) }
+        ensures fault { IsErrOf result AppendFault.DiskFault → Rose (D.faults self.old.disk) (D.faults self.new.disk) }
+        ensures kept { (self.new.failed ≡ true) ↔ ((self.old.failed ≡ true) ⊎ IsErrOf result AppendFault.DiskFault) }
+        ensures untouched { IsErrOf result AppendFault.Failed ⊎ IsErrOf result AppendFault.JournalFull → self.new ≡ self.old }
+        ensures later { D.faults self.old.disk ≤ D.faults self.new.disk }
+    {
+        if self.failed {
+            return Err(AppendFault::Failed);
+        }
+        if bytes.len() > 67_108_842 || self.generation == u64::MAX {
+            return Err(AppendFault::JournalFull);
+        }
+        let rest = other_side(self.side);
+        let generation = self.generation + 1;
+        if replace(&mut self.disk, rest, self.rest_open, generation, bytes).is_err() {
+            self.failed = true;
+            return Err(AppendFault::DiskFault);
+        }
+        self.rest_open = self.gate > 16;
+        self.side = rest;
+        self.gate = 21 + bytes.len() as u64;
+        self.generation = generation;
         Ok(())
     }
 

@@ -9,6 +9,7 @@ mod open;
 mod piece;
 mod prepare;
 mod reading;
+mod renew;
 mod scan;
 mod settle;
 mod steps;

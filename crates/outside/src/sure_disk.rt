@@ -16,26 +16,23 @@ impl SureSide {
     fn read_at(&self, at: u64, into: &mut [u8]) -> usize
         ensures { result ≤ length into.new }
     {
-        for i in 0..into.len() {
-            let place = at.saturating_add(i as u64);
-            if place >= self.len {
-                return i;
+        let there = self.len.saturating_sub(at);
+        let count = (into.len() as u64).min(there) as usize;
+        into[..count].fill(0);
+        if let Ok(from) = usize::try_from(at) {
+            if from < self.kept.len() {
+                let kept = count.min(self.kept.len() - from);
+                into[..kept].copy_from_slice(&self.kept[from..from + kept]);
             }
-            into[i] = match usize::try_from(place) {
-                Ok(place) if place < self.kept.len() => self.kept[place],
-                _ => 0,
-            };
         }
-        into.len()
+        count
     }
 
     fn write_at(&mut self, at: u64, bytes: &[u8]) {
-        for i in 0..bytes.len() {
-            let place = at.saturating_add(i as u64);
-            if let Ok(place) = usize::try_from(place) {
-                if place < self.kept.len() {
-                    self.kept[place] = bytes[i];
-                }
+        if let Ok(from) = usize::try_from(at) {
+            if from < self.kept.len() {
+                let kept = bytes.len().min(self.kept.len() - from);
+                self.kept[from..from + kept].copy_from_slice(&bytes[..kept]);
             }
         }
         self.len = self.len.max(at.saturating_add(bytes.len() as u64));
