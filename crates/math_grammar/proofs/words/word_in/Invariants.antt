@@ -1,0 +1,7 @@
+-- the word is not among the entries so far
+use Rattle.std.proofs.Common.{◌≡◌, drop}
+use Rattle.math_grammar.specs.Tokens.{word_in, entries}
+use Rattle.math_grammar.proofs.words.word_in.Given as goal
+
+abbrev pub invariant-loop-text : goal.invariant-loop-text
+invariant-loop-text l = word_in (entries (drop l.text-index l.table)) l.word ≡ word_in (entries l.table) l.word

@@ -1,0 +1,5 @@
+pub mod Bindings
+pub mod KnownTypes
+pub mod Steps
+pub mod Terms
+pub mod Unify

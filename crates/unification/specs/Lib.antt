@@ -1,0 +1,4 @@
+pub mod Found
+pub mod Known
+pub mod Solutions
+pub mod Terms

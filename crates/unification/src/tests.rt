@@ -1,0 +1,89 @@
+use super::*;
+use formula_core::{BinaryRow, Name, OutOfMemory, Ty};
+use std::alloc::Global;
+use std::test::Fail;
+
+fn set_of(alloc: Global, members: Term) -> Result<Term, OutOfMemory> {
+    Ok(Term::Pow(Box::new(alloc, members)?))
+}
+
+/// The types that one equation gives.
+fn solved(alloc: Global, left: Term, right: Term) -> Result<Vec<Option<Ty>>, SolveFault> {
+    let mut equations = Vec::new(alloc);
+    equations.push(Equation { left, right })?;
+    solve(alloc, equations)
+}
+
+fn has_no_solution(alloc: Global, left: Term, right: Term) -> bool {
+    match solved(alloc, left, right) {
+        Err(SolveFault::NoSolution) => true,
+        _ => false,
+    }
+}
+
+/// Whether a variable is found to be the set of integers.
+fn is_set_of_integers(types: &[Option<Ty>], i: u32) -> bool {
+    match type_of(types, i) {
+        Some(ty) => ty.is_set_of_integers(),
+        None => false,
+    }
+}
+
+#[test]
+fn finds_a_type_behind_a_set(rt: HostRuntime) -> Result<(), Fail> {
+    let alloc = rt.alloc();
+    let mut equations = Vec::new(alloc);
+    equations.push(Equation {
+        left: set_of(alloc, Term::Var(0))?,
+        right: Term::Var(1),
+    })?;
+    equations.push(Equation {
+        left: Term::Int,
+        right: Term::Var(0),
+    })?;
+    let types = solve(alloc, equations)?;
+    assert!(rt; is_set_of_integers(&types, 1));
+    assert!(rt; type_of(&types, 2).is_none());
+    Ok(())
+}
+
+#[test]
+fn refuses_what_no_types_solve(rt: HostRuntime) -> Result<(), Fail> {
+    let alloc = rt.alloc();
+    assert!(rt; has_no_solution(alloc, Term::Int, Term::Bool));
+    assert!(rt; has_no_solution(alloc, Term::Var(0), Term::Truth));
+    assert!(rt; has_no_solution(alloc, Term::Var(0), set_of(alloc, Term::Var(0))?));
+    Ok(())
+}
+
+#[test]
+fn tells_carrier_sets_apart(rt: HostRuntime) -> Result<(), Fail> {
+    let alloc = rt.alloc();
+    let s = Term::Given(Name::read(alloc, "S")?);
+    let t = Term::Given(Name::read(alloc, "T")?);
+    assert!(rt; has_no_solution(alloc, s, t));
+    Ok(())
+}
+
+#[test]
+fn leaves_open_what_two_solutions_give(rt: HostRuntime) -> Result<(), Fail> {
+    let alloc = rt.alloc();
+    let types = solved(alloc, Term::Var(0), Term::Var(1))?;
+    assert!(rt; type_of(&types, 0).is_none());
+    assert!(rt; close(alloc, &types, &Term::Var(1))?.is_none());
+    Ok(())
+}
+
+#[test]
+fn instantiates_a_scheme(rt: HostRuntime) -> Result<(), Fail> {
+    let alloc = rt.alloc();
+    let (left, right, _) = BinaryRow::Membership.scheme();
+    let member = Term::of_scheme(alloc, &left, 0)?;
+    let set = Term::of_scheme(alloc, &right, 0)?;
+    let types = solved(alloc, member, Term::of_type(alloc, &Ty::Int)?)?;
+    match close(alloc, &types, &set)? {
+        Some(ty) => assert!(rt; ty.is_set_of_integers()),
+        None => assert!(rt; false),
+    }
+    Ok(())
+}
