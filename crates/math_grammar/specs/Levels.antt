@@ -1,5 +1,5 @@
 -- The levels of the grammar, loosest first, and what each place takes.
-use Rattle.std.specs.Prelude.{ℕ, Bool, true, false, cond, ◌&&◌, nat_le, Option, Some, None}
+use Rattle.std.specs.Prelude.{ℕ, Bool, true, false, cond, ◌&&◌, nat_le, nat_lt, Option, Some, None}
 use Rattle.formula_core.specs.declared.op.Op.TheVariants as op
 use Rattle.formula_core.specs.declared.op.Binder.TheVariants as binder
 use Rattle.formula_core.specs.declared.raw.RawOp.{RawOp}
@@ -220,9 +220,15 @@ call_grade call.Partition = grade.Literal
 call_grade call.Bool = grade.Primary
 call_grade call.Function = grade.Primary
 
-abbrev pub takes_many : Call → Bool
-takes_many call.Partition = true
-takes_many _ = false
+-- how many parts it takes: a partition as many as a limit says, if there is one, and each other word one
+abbrev pub call_parts : Option ℕ → Call → Option ℕ
+call_parts limit call.Partition = limit
+call_parts limit _ = Some 1
+
+-- one more may follow so many
+abbrev pub has_room : Option ℕ → ℕ → Bool
+has_room None n = true
+has_room (Some m) n = nat_lt n m
 
 -- the form with bound names that a token may open
 abbrev pub opens : Symbol → Option Binding

@@ -1,7 +1,7 @@
 //! The levels of operators, and the forms that have words or brackets of their own.
 
-ghost use Rattle.std.specs.Prelude.{◌≡◌};
-ghost use Rattle.math_grammar.specs.Levels.{level, right_of, takes_left, left_of, agrees, prefix_hole, prefix_grade, prefix_op, call_hole, call_grade, takes_many, binding_grade, binder_of, implicit_of, is_quantified, takes_names, takes_shape, is_closed};
+ghost use Rattle.std.specs.Prelude.{◌≡◌, None};
+ghost use Rattle.math_grammar.specs.Levels.{level, right_of, takes_left, left_of, agrees, prefix_hole, prefix_grade, prefix_op, call_hole, call_grade, call_parts, has_room, binding_grade, binder_of, implicit_of, is_quantified, takes_names, takes_shape, is_closed};
 
 use crate::holes::{Grade, Hole};
 use formula_core::{Binder, Op, RawBinder, RawOp};
@@ -186,11 +186,14 @@ impl Call {
         }
     }
 
-    /// Whether it takes more than one part.
-    pub fn takes_many(self) -> bool
-        ensures { result ≡ takes_many self }
+    /// Whether one more part may follow so many, where no limit is set to a partition.
+    pub fn has_room(self, parts: usize) -> bool
+        ensures { result ≡ has_room (call_parts None self) parts }
     {
-        matches!(self, Call::Partition)
+        match self {
+            Call::Partition => true,
+            _ => parts < 1,
+        }
     }
 }
 

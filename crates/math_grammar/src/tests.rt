@@ -100,5 +100,6 @@ fn places_take_what_is_tight_enough(rt: HostRuntime) {
     assert!(rt; !Level::Conjunction.takes_left(Grade::Disjunction));
     assert!(rt; Hole::Literal.inside().fits(Grade::Implication));
     assert!(rt; !Hole::Sum.inside().fits(Grade::Implication));
-    assert!(rt; Call::Partition.takes_many());
+    assert!(rt; Call::Partition.has_room(9));
+    assert!(rt; !Call::Finite.has_room(1));
 }

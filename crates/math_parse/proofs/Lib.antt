@@ -1,0 +1,9 @@
+pub mod Basics
+pub mod Complete
+pub mod Sound
+pub mod Place
+pub mod Words
+pub mod Decided
+pub mod Small
+pub mod Limited
+pub mod Slices

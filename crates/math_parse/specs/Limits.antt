@@ -1,0 +1,61 @@
+-- The limits of a formula: 512 tokens, 128 open brackets, and a partition of 25 parts.
+use Rattle.std.specs.Prelude.{◌≡◌, ℕ, ◌+◌, ◌-◌, ◌<◌, ◌≤◌, ◌||◌, ◌&&◌, Bool, true, false, List, [], ◌∷◌, Option, Some, None, Result, Ok, Err, ◌⊎◌, cond, nat_le, length, take}
+use Rattle.formula_core.specs.declared.raw.Raw.{Raw}
+use Rattle.math_grammar.specs.declared.holes.Hole.{Hole}
+use Rattle.math_grammar.specs.declared.symbols.Symbol.{Symbol}
+use Rattle.math_grammar.specs.declared.symbols.Symbol.TheVariants as sym
+use Rattle.math_grammar.specs.Tokens.{Item}
+use Rattle.math_grammar.specs.Grammar.{Spells, HasContinuation}
+use Rattle.math_parse.specs.Faults.{IsUnexpected}
+use Rattle.math_parse.specs.declared.fault.ParseFault.{ParseFault}
+use Rattle.math_parse.specs.declared.fault.ParseFault.TheVariants as fault
+
+-- a partition has the set and at most 24 parts after it
+abbrev pub most_parts : Option ℕ
+most_parts = Some 25
+
+abbrev pub is_open : Symbol → Bool
+is_open (sym.Open b) = true
+is_open _ = false
+
+-- how many brackets are open behind a token
+abbrev pub open_after : ℕ → Symbol → ℕ
+open_after n (sym.Open b) = n + 1
+open_after n (sym.Close b) = n - 1
+open_after n _ = n
+
+-- the token at i, with so many brackets open before it, is the 513th or the 129th open bracket
+abbrev pub passes : ℕ → ℕ → Symbol → Bool
+passes i n x = nat_le 512 i || (is_open x && nat_le 128 n)
+
+abbrev pub first_large_from : ℕ → ℕ → List Item → Option ℕ
+first_large_from i n [] = None
+first_large_from i n (x ∷ rest) = cond (passes i n x.symbol) (Some i) (first_large_from (i + 1) (open_after n x.symbol) rest)
+
+-- the first token that passes the limit of tokens or of open brackets
+abbrev pub first_large : List Item → Option ℕ
+first_large tokens = first_large_from 0 0 tokens
+
+-- the tokens are a sentence within the limits
+abbrev pub IsSentence : Hole → List Item → Raw → Type 0
+IsSentence h tokens t = Spells most_parts h tokens t × (first_large tokens ≡ None)
+
+-- the tree is found, unless memory runs out
+abbrev pub Finds : Result Raw ParseFault → Raw → Type 0
+Finds (Ok raw) t = raw ≡ t
+Finds (Err fault.OutOfMemory) t = Unit {0}
+Finds (Err _) t = ⊥
+
+-- The token at i passes a limit: of tokens, of open brackets, or it is a comma with which only larger partitions go on.
+abbrev pub IsTooLarge : Hole → List Item → ℕ → Type 0
+IsTooLarge h tokens i =
+    (first_large (take (i + 1) tokens) ≡ Some i)
+    ⊎ (HasContinuation None h (take (i + 1) tokens) × (HasContinuation most_parts h (take (i + 1) tokens) → ⊥))
+
+-- The tokens before the fault begin a sentence within the limits.
+abbrev pub IsFault : Hole → List Item → ParseFault → Type 0
+IsFault h tokens (fault.Unexpected i) =
+    (i ≤ length tokens) × HasContinuation most_parts h (take i tokens) × IsUnexpected None h tokens i × (first_large (take (i + 1) tokens) ≡ None)
+IsFault h tokens (fault.TooLarge i) =
+    (i < length tokens) × HasContinuation most_parts h (take i tokens) × (first_large (take i tokens) ≡ None) × IsTooLarge h tokens i
+IsFault h tokens fault.OutOfMemory = Unit {0}

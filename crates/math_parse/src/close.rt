@@ -1,0 +1,469 @@
+//! The signs that a form takes after a part.
+
+ghost use Rattle.std.specs.Prelude.{◌≡◌, ◌∷◌, ◌++◌, [], cond, None, Some};
+ghost use Rattle.formula_core.specs.declared.raw.Raw.TheVariants as raw;
+ghost use Rattle.math_grammar.specs.Levels.{binding_grade};
+ghost use Rattle.math_parse.specs.Machine.{body_of, after_names, then_want, after_name, second_side, after_type, names_next, type_next, shape_next, after_member, after_shape, pattern_of, shape_step, closed, name_of, typed_name_of, bounds_of, have};
+ghost use Rattle.math_parse.specs.View.{forms, Steps};
+ghost use Rattle.math_parse.specs.declared.frames.Frame.TheVariants as frame;
+
+use crate::bounds::{TypedName, bounds_of, joined, lone, name_of, typed, typed_name_of, untyped};
+use crate::fault::StepFault;
+use crate::frames::{Frame, Phase, held_if, open, open_if, pop, push};
+use crate::nodes::{alone, between, bind, node, type_with, with};
+use formula_core::{List, Name, Op, Raw, RawBinder, RawBound, RawOp, Ref};
+use math_grammar::{Binding, Bracket, Call, Grade, Hole, Level, Shape, Symbol};
+use std::alloc::Global;
+
+/// What follows the names of a form.
+fn body_of(binding: Binding, names: List<RawBound>, before: List<Raw>, place: u32) -> Frame
+    ensures { result ≡ body_of binding names before place }
+{
+    if binding.is_quantified() {
+        Frame::Last(
+            binding,
+            Hole::Predicate,
+            binding.binder(),
+            names,
+            before,
+            place,
+        )
+    } else {
+        Frame::Given(binding, names, before, place)
+    }
+}
+
+/// A comma or a dot behind names.
+fn after_names(
+    alloc: Global,
+    binding: Binding,
+    names: List<RawBound>,
+    place: u32,
+    symbol: Symbol,
+) -> Option<Frame>
+    ensures { result ≡ after_names binding names place symbol }
+{
+    match symbol {
+        Symbol::Comma => Some(Frame::Names(binding, names, place)),
+        Symbol::Dot => Some(body_of(binding, names, List::of(Vec::new(alloc)), place)),
+        _ => None,
+    }
+}
+
+fn then_want(stack: Vec<Frame>, frame: Option<Frame>) -> Result<Phase, StepFault>
+    ensures { Steps result (then_want (forms stack.items) frame) }
+{
+    match frame {
+        Some(frame) => open(stack, frame),
+        None => Err(StepFault::Refused),
+    }
+}
+
+fn close_names(
+    alloc: Global,
+    stack: Vec<Frame>,
+    binding: Binding,
+    before: List<RawBound>,
+    place: u32,
+    formula: Raw,
+    symbol: Symbol,
+) -> Result<Phase, StepFault>
+    ensures { Steps result (after_name (forms stack.items) binding before place symbol (name_of formula)) }
+{
+    let Some(Ref { name, place: at }) = name_of(formula) else {
+        return Err(StepFault::Refused);
+    };
+    if symbol.is_typing() {
+        open(
+            stack,
+            Frame::TypeAfter(binding, before, name, at, None, place),
+        )
+    } else {
+        let names = with(before, untyped(name, at))?;
+        then_want(stack, after_names(alloc, binding, names, place, symbol))
+    }
+}
+
+fn second_side(
+    stack: Vec<Frame>,
+    binding: Binding,
+    before: List<RawBound>,
+    name: Ref,
+    side: Option<Raw>,
+    formula: Raw,
+    place: u32,
+) -> Result<Phase, StepFault>
+    ensures { Steps result (second_side (forms stack.items) binding before name.name name.place side formula place) }
+{
+    match side {
+        Some(_) => Err(StepFault::Refused),
+        None => open(
+            stack,
+            Frame::TypeAfter(binding, before, name.name, name.place, Some(formula), place),
+        ),
+    }
+}
+
+fn close_type(
+    alloc: Global,
+    stack: Vec<Frame>,
+    binding: Binding,
+    before: List<RawBound>,
+    name: Ref,
+    side: Option<Raw>,
+    formula: Raw,
+    place: u32,
+    symbol: Symbol,
+) -> Result<Phase, StepFault>
+    ensures { Steps result (after_type (forms stack.items) binding before name.name name.place side formula place symbol) }
+{
+    if symbol.is_typing() {
+        second_side(stack, binding, before, name, side, formula, place)
+    } else {
+        let ty = type_with(alloc, side, formula)?;
+        let names = with(before, typed(alloc, name.name, name.place, ty)?)?;
+        then_want(stack, after_names(alloc, binding, names, place, symbol))
+    }
+}
+
+fn names_next(
+    alloc: Global,
+    are_names: bool,
+    stack: Vec<Frame>,
+    binding: Binding,
+    all: List<Raw>,
+    place: u32,
+    symbol: Symbol,
+) -> Result<Phase, StepFault>
+    ensures { Steps result (cond are_names (names_next (forms stack.items) binding (bounds_of all) place symbol) None) }
+{
+    if !are_names {
+        return Err(StepFault::Refused);
+    }
+    match bounds_of(alloc, all)? {
+        Some(names) => then_want(stack, after_names(alloc, binding, names, place, symbol)),
+        None => Err(StepFault::Refused),
+    }
+}
+
+fn type_next(
+    alloc: Global,
+    are_names: bool,
+    stack: Vec<Frame>,
+    binding: Binding,
+    before: List<Raw>,
+    formula: Raw,
+    place: u32,
+) -> Result<Phase, StepFault>
+    ensures { Steps result (cond are_names (type_next (forms stack.items) binding (bounds_of before) (typed_name_of formula) place) None) }
+{
+    if !are_names {
+        return Err(StepFault::Refused);
+    }
+    match (bounds_of(alloc, before)?, typed_name_of(formula)) {
+        (
+            Some(before),
+            Some(
+                TypedName {
+                    name,
+                    place: at,
+                    ty,
+                },
+            ),
+        ) => open(
+            stack,
+            Frame::TypeAfter(binding, before, name, at, Some(ty), place),
+        ),
+        _ => Err(StepFault::Refused),
+    }
+}
+
+fn shape_next(
+    alloc: Global,
+    stack: Vec<Frame>,
+    binding: Binding,
+    before: List<Raw>,
+    formula: Raw,
+    place: u32,
+) -> Result<Phase, StepFault>
+    ensures { Steps result (shape_next (forms stack.items) binding before formula place) }
+{
+    if !before.items().is_empty() {
+        return Err(StepFault::Refused);
+    }
+    let parts = alone(alloc, formula)?;
+    let no_names = List::of(Vec::new(alloc));
+    open(
+        stack,
+        Frame::Last(
+            binding,
+            Hole::Predicate,
+            binding.implicit(),
+            no_names,
+            parts,
+            place,
+        ),
+    )
+}
+
+fn close_listed(
+    alloc: Global,
+    stack: Vec<Frame>,
+    binding: Binding,
+    are_names: bool,
+    before: List<Raw>,
+    place: u32,
+    formula: Raw,
+    symbol: Symbol,
+) -> Result<Phase, StepFault>
+    ensures { Steps result (after_member (forms stack.items) binding are_names before place formula symbol) }
+{
+    match symbol {
+        Symbol::Comma => {
+            let all = with(before, formula)?;
+            if binding.is_closed() {
+                open(stack, Frame::Listed(binding, are_names, all, place))
+            } else {
+                names_next(alloc, are_names, stack, binding, all, place, symbol)
+            }
+        }
+        Symbol::Close(Bracket::Brace) => {
+            let all = with(before, formula)?;
+            held_if(
+                binding.is_closed(),
+                stack,
+                Grade::Primary,
+                node(RawOp::Plain(Op::SetExtension), all, place),
+            )
+        }
+        Symbol::Bar => shape_next(alloc, stack, binding, before, formula, place),
+        Symbol::Dot => {
+            let all = with(before, formula)?;
+            names_next(alloc, are_names, stack, binding, all, place, symbol)
+        }
+        Symbol::Infix(Level::Typing, _) => {
+            type_next(alloc, are_names, stack, binding, before, formula, place)
+        }
+        _ => Err(StepFault::Refused),
+    }
+}
+
+fn close_given(
+    stack: Vec<Frame>,
+    binding: Binding,
+    names: List<RawBound>,
+    parts: List<Raw>,
+    place: u32,
+    grade: Grade,
+    formula: Raw,
+    symbol: Symbol,
+) -> Result<Phase, StepFault>
+    ensures { Steps result (closed None (forms stack.items) (frame.Given binding names parts place) grade formula symbol) }
+{
+    let _ = grade;
+    match symbol {
+        Symbol::Bar => {
+            let parts = with(parts, formula)?;
+            open(
+                stack,
+                Frame::Last(
+                    binding,
+                    Hole::Expression,
+                    binding.binder(),
+                    names,
+                    parts,
+                    place,
+                ),
+            )
+        }
+        _ => Err(StepFault::Refused),
+    }
+}
+
+/// A form with bound names, with its last part.
+fn whole(
+    stack: Vec<Frame>,
+    binding: Binding,
+    binder: RawBinder,
+    names: List<RawBound>,
+    parts: List<Raw>,
+    place: u32,
+    formula: Raw,
+) -> Result<Phase, StepFault>
+    ensures { Steps result (Some (have (forms stack.items) (binding_grade binding) (raw.Bind binder names (parts ++ formula ∷ []) place))) }
+{
+    let parts = with(parts, formula)?;
+    Ok(Phase::Have(stack, binding.grade(), bind(binder, names, parts, place)))
+}
+
+fn close_parts(
+    stack: Vec<Frame>,
+    call: Call,
+    op: RawOp,
+    before: List<Raw>,
+    place: u32,
+    grade: Grade,
+    formula: Raw,
+    symbol: Symbol,
+) -> Result<Phase, StepFault>
+    ensures { Steps result (closed None (forms stack.items) (frame.Parts call op before place) grade formula symbol) }
+{
+    let _ = grade;
+    match symbol {
+        Symbol::Close(Bracket::Round) => {
+            let parts = with(before, formula)?;
+            Ok(Phase::Have(stack, call.grade(), node(op, parts, place)))
+        }
+        Symbol::Comma => {
+            let parts = with(before, formula)?;
+            let more = call.has_room(parts.items().len());
+            open_if(more, stack, Frame::Parts(call, op, parts, place))
+        }
+        _ => Err(StepFault::Refused),
+    }
+}
+
+fn close_suffix(
+    alloc: Global,
+    stack: Vec<Frame>,
+    bracket: Bracket,
+    op: RawOp,
+    function: Raw,
+    grade: Grade,
+    formula: Raw,
+    symbol: Symbol,
+) -> Result<Phase, StepFault>
+    ensures { Steps result (closed None (forms stack.items) (frame.Suffixed bracket op function) grade formula symbol) }
+{
+    let _ = grade;
+    let closes = match (bracket, symbol) {
+        (Bracket::Round, Symbol::Close(Bracket::Round)) => true,
+        (Bracket::Square, Symbol::Close(Bracket::Square)) => true,
+        _ => false,
+    };
+    if closes {
+        let suffixed = between(alloc, op, function, formula)?;
+        Ok(Phase::Have(stack, Grade::Suffixed, suffixed))
+    } else {
+        Err(StepFault::Refused)
+    }
+}
+
+fn after_shape(
+    alloc: Global,
+    mut stack: Vec<Frame>,
+    inner: bool,
+    shape: Shape,
+    place: u32,
+    symbol: Symbol,
+) -> Result<Phase, StepFault>
+    ensures { Steps result (after_shape (forms stack.items) inner shape place symbol) }
+{
+    match symbol {
+        Symbol::Infix(Level::Maplet, _) => {
+            push(&mut stack, Frame::Pattern(inner, Some(shape), place))?;
+            Ok(Phase::ShapeWant(stack))
+        }
+        Symbol::Close(Bracket::Round) => {
+            if inner {
+                Ok(Phase::ShapeHave(stack, shape))
+            } else {
+                Err(StepFault::Refused)
+            }
+        }
+        Symbol::Dot => {
+            if inner {
+                Err(StepFault::Refused)
+            } else {
+                let Shape { names, tree } = shape;
+                open(
+                    stack,
+                    Frame::Given(Binding::Lambda, names, alone(alloc, tree)?, place),
+                )
+            }
+        }
+        _ => Err(StepFault::Refused),
+    }
+}
+
+fn pattern_of(frame: Frame) -> Option<(bool, Option<Shape>, u32)>
+    ensures { result ≡ pattern_of frame }
+{
+    match frame {
+        Frame::Pattern(inner, before, place) => Some((inner, before, place)),
+        _ => None,
+    }
+}
+
+/// A sign behind a pattern.
+pub fn shape_step(
+    alloc: Global,
+    mut stack: Vec<Frame>,
+    shape: Shape,
+    symbol: Symbol,
+) -> Result<Phase, StepFault>
+    ensures { Steps result (shape_step (forms stack.items) shape symbol) }
+{
+    let Some(frame) = pop(&mut stack) else {
+        return Err(StepFault::Refused);
+    };
+    let Some((inner, before, place)) = pattern_of(frame) else {
+        return Err(StepFault::Refused);
+    };
+    let shape = joined(alloc, before, shape)?;
+    after_shape(alloc, stack, inner, shape, place, symbol)
+}
+
+/// A sign that a form takes after its part.
+pub fn close(
+    alloc: Global,
+    stack: Vec<Frame>,
+    frame: Frame,
+    grade: Grade,
+    formula: Raw,
+    symbol: Symbol,
+) -> Result<Phase, StepFault>
+    ensures { Steps result (closed None (forms stack.items) frame grade formula symbol) }
+{
+    match frame {
+        Frame::Group(_) => match symbol {
+            Symbol::Close(Bracket::Round) => Ok(Phase::Have(stack, grade.grouped(), formula)),
+            _ => Err(StepFault::Refused),
+        },
+        Frame::Parts(call, op, before, place) => {
+            close_parts(stack, call, op, before, place, grade, formula, symbol)
+        }
+        Frame::Suffixed(bracket, op, function) => {
+            close_suffix(alloc, stack, bracket, op, function, grade, formula, symbol)
+        }
+        Frame::Names(binding, before, place) => {
+            close_names(alloc, stack, binding, before, place, formula, symbol)
+        }
+        Frame::TypeAfter(binding, before, name, at, side, place) => {
+            let name = Ref { name, place: at };
+            close_type(
+                alloc, stack, binding, before, name, side, formula, place, symbol,
+            )
+        }
+        Frame::Listed(binding, are_names, before, place) => {
+            let are_names = are_names && grade.is_declaration();
+            close_listed(
+                alloc, stack, binding, are_names, before, place, formula, symbol,
+            )
+        }
+        Frame::Given(binding, names, parts, place) => {
+            close_given(stack, binding, names, parts, place, grade, formula, symbol)
+        }
+        Frame::Last(binding, _, binder, names, parts, place) => match symbol {
+            Symbol::Close(Bracket::Brace) => {
+                whole(stack, binding, binder, names, parts, place, formula)
+            }
+            _ => Err(StepFault::Refused),
+        },
+        Frame::PatternType(name, place) => {
+            let shape = lone(alloc, name, place, Some(formula))?;
+            shape_step(alloc, stack, shape, symbol)
+        }
+        _ => Err(StepFault::Refused),
+    }
+}
