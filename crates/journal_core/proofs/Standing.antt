@@ -99,7 +99,7 @@ pub one_list : (side : List ℕ) (g h : ℕ) (xs ys : List (List ℕ)) → HasRe
 one_list side g h xs ys a b = same_records ys xs b.gate a.gate b.behind a.behind b.closed a.closed (omega (arith, b.within)) (omega (arith, a.within)) (ap (λ (l : List ℕ). drop 16 l) (sym b.split ∙ a.split))
 
 -- two open sides do not both count
-not_two : (sides : Sides) (g h : ℕ) → IsOpen (sides Left) g → IsOpen (sides Right) h → Yields (sides Right) Left g → Yields (sides Left) Right h → ⊥
+pub not_two : (sides : Sides) (g h : ℕ) → IsOpen (sides Left) g → IsOpen (sides Right) h → Yields (sides Right) Left g → Yields (sides Left) Right h → ⊥
 not_two sides g h a b (inl none) less = not_both _ h b none
 not_two sides g h a b (inr first) (inl none) = not_both _ g a none
 not_two sides g h a b (inr first) (inr less) = omega (arith, first.2, less.2, same_number _ h first.0 b first.1, same_number _ g less.0 a less.1)

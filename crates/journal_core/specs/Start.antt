@@ -32,6 +32,13 @@ IsCause sides (Damaged side gate) = StandsFor sides (damaged side gate)
 IsCause sides DiskFault = ⊤
 IsCause sides OutOfMemory = ⊤
 
+-- what sides that stand for this make a start answer; a fault of the disk and want of memory come before it
+abbrev pub IsAnswerFor : Meaning → JournalFault → Type 0
+IsAnswerFor meaning (Foreign side) = meaning ≡ foreign side
+IsAnswerFor meaning (Damaged side gate) = meaning ≡ damaged side gate
+IsAnswerFor meaning DiskFault = ⊤
+IsAnswerFor meaning OutOfMemory = ⊤
+
 -- the bodies of records, in order
 abbrev pub bodies_of : List Piece → List (List ℕ)
 bodies_of pieces = map (λ piece. piece.bytes.items) pieces

@@ -4,7 +4,7 @@ ghost use Rattle.outside.specs.Cause.{Rose};
 ghost use Rattle.outside.specs.Disk.{Sides, LeavesOnly};
 ghost use Rattle.outside.specs.declared.side.Side.{Side};
 ghost use Rattle.journal_core.specs.Sides.{Stands, HasRecords, IsBeforeOrAfter, IsBeforeOrOne, open_records, other};
-ghost use Rattle.journal_core.specs.Start.{IsCause, IsReady, StandsAsSome, ArePlaced, bodies_of};
+ghost use Rattle.journal_core.specs.Start.{Meaning, records, StandsFor, IsAnswerFor, IsCause, IsReady, StandsAsSome, ArePlaced, bodies_of};
 ghost use Rattle.journal_core.specs.Reading.{side_of, number_of, rest_of};
 ghost use Rattle.journal_core.specs.State.{IsKept, JournalState};
 
@@ -85,6 +85,8 @@ impl<D: Disk> Journal<D> {
     pub fn start(alloc: Global, disk: D) -> Result<(Journal<D>, Vec<Piece>), (D, JournalFault)>
         // The records are those that stand, each on the current side behind its gate; a fault has its cause in the sides.
         ensures records { D.told → MatchResult result (λ opened. Stands (D.bytes_of disk) (bodies_of opened.1.items)) (λ refused. IsCause (D.bytes_of disk) refused.1) }
+        // Sides stand for one thing at most, so a start answers exactly that, if the disk doesn't fail and memory is there.
+        ensures exactly { D.told → (meaning : Meaning) → StandsFor (D.bytes_of disk) meaning → MatchResult result (λ opened. meaning ≡ records (bodies_of opened.1.items)) (λ refused. IsAnswerFor meaning refused.1) }
         ensures placed { D.told → IfOk result (λ opened. ArePlaced opened.0.side 16 opened.1.items) }
         ensures gate { D.told → IfOk result (λ opened. opened.0.gate ≡ 16 + length (open_records (bodies_of opened.1.items))) }
         ensures current { D.told → IfOk result (λ opened. HasRecords (D.bytes_of opened.0.disk opened.0.side) opened.0.generation (bodies_of opened.1.items)) }
