@@ -1,0 +1,10 @@
+pub mod Answered
+pub mod Complete
+pub mod CoreEquations
+pub mod Denoted
+pub mod Determined
+pub mod Entries
+pub mod PartitionParts
+pub mod InARow
+pub mod Places
+pub mod Sound

@@ -1,0 +1,17 @@
+use Rattle.std.proofs.Common.{ap, ◌∙◌}
+use Rattle.std.proofs.lemmas.Result.{err_from_is_err_and}
+use Rattle.type_core.specs.Answers.{extended}
+use Rattle.type_core.proofs.Answered.{the_typing, no_typing}
+use Rattle.type_core.proofs.predicate.type_predicate.Goals as goal
+
+pub returns-in_err-formula-clause-clash : goal.returns-in_err-formula-clause-clash
+returns-in_err-formula-clause-clash c e =
+    let p = err_from_is_err_and c.from_residual.result c.from_residual.ensures.1 in
+    let a = p.1 in
+    let b = p.2 in
+    no_typing _ _ _ (c.in_err-formula.ensures.clash (cc))
+
+pub returns-clause-typed : goal.returns-clause-typed
+returns-clause-typed c =
+    the_typing c.args.env.now c.args.wanted.now c.args.raw.now c.in_ok-formula.formula _ c.in_ok-formula.ensures.typed
+    (c.in_ok-extend.ensures ∙ ap (λ e. extended e c.args.wanted.now c.in_ok-formula.formula) c.in_ok-names.ensures)

@@ -1,0 +1,123 @@
+-- The equations of a bare formula, whose variables are numbered as it is read, and the formula that types of the variables give.
+use Rattle.std.specs.Prelude.{ℕ, suc, ◌+◌, pos, Bool, true, false, List, [], ◌∷◌, ◌++◌, Option, Some, None, map}
+use Rattle.formula_core.specs.declared.ty.Ty.{Ty}
+use Rattle.formula_core.specs.declared.op.Binder.{Binder}
+use Rattle.formula_core.specs.declared.formula.Formula.{Formula}
+use Rattle.formula_core.specs.declared.formula.Formula.TheVariants as formula
+use Rattle.formula_core.specs.Rows.{row_of}
+use Rattle.formula_core.specs.Schemes.{operand_schemes, result_scheme, part_schemes, binder_scheme, type_at}
+use Rattle.formula_core.specs.Wellness.{is_natural}
+use Rattle.unification.specs.Terms.{Open, integers, booleans, predicates, variable, open_of, instance, letters_at}
+use Rattle.unification.specs.Solutions.{Equality}
+use Rattle.type_core.specs.Bare.{Bare, Bares, Bounds, Number, Identifier, Form, Partition, Binding, Ascribed, Broken, nothing, more, unbound, plain, typed, part_count, name_count, has_names}
+use Rattle.type_core.specs.Scopes.{Scope, position_of, with_names}
+use Rattle.type_core.specs.TypeExpressions.{denoted}
+use Rattle.type_core.specs.Partition.{partition_schemes, partition_of}
+
+-- how many variables a formula has
+abbrev mutual
+  pub width : Bare → ℕ
+  width (Number n) = 0
+  width (Identifier x place) = 1
+  width (Form op parts) = 4 + widths parts
+  width (Partition parts) = 4 + widths parts
+  width (Binding binder names parts) = 4 + (name_count names + widths parts)
+  width (Ascribed e written) = width e
+  width (Broken parts) = 0
+
+  pub widths : Bares → ℕ
+  widths nothing = 0
+  widths (more b bs) = width b + widths bs
+
+-- an equation that nothing solves
+abbrev pub impossible : Equality
+impossible = (integers, booleans)
+
+-- variables in a row, one for each name
+abbrev pub variables : Bounds → ℕ → List Open
+variables unbound n = []
+variables (plain x names) n = variable n ∷ variables names (suc n)
+variables (typed x written names) n = variable n ∷ variables names (suc n)
+
+-- bound names with a variable each
+abbrev pub with_variables : Bounds → ℕ → Scope Open → Scope Open
+with_variables names n scope = with_names names (variables names n) scope
+
+-- the nearer of two places
+abbrev pub nearest : {A : Type 0} → Option A → Option A → Option A
+nearest (Some p) free = Some p
+nearest None free = free
+
+abbrev pub place_equations : Option (ℕ × Open) → ℕ → Open → List Equality
+place_equations None n expected = impossible ∷ []
+place_equations (Some p) n expected = (variable n, p.1) ∷ (variable n, expected) ∷ []
+
+abbrev pub name_equations : Option (ℕ × Open) → Option (ℕ × Open) → ℕ → Open → List Equality
+name_equations bound free n expected = place_equations (nearest bound free) n expected
+
+-- nothing where a condition holds
+abbrev pub condition : Bool → List Equality
+condition true = []
+condition false = impossible ∷ []
+
+-- a term is the type of a type expression
+abbrev pub type_equations : Option Ty → Open → List Equality
+type_equations None e = impossible ∷ []
+type_equations (Some t) e = (open_of t, e) ∷ []
+
+-- the types that are written at the names of a binder
+abbrev pub bound_equations : List (List ℕ × Ty) → Scope Open → Bounds → ℕ → List Equality
+bound_equations env outer unbound n = []
+bound_equations env outer (plain x names) n = bound_equations env outer names (suc n)
+bound_equations env outer (typed x written names) n = type_equations (denoted env outer written) (variable n) ++ bound_equations env outer names (suc n)
+
+-- the equations of a formula whose variables begin with n, and whose type is the expected one
+abbrev mutual
+  pub generated : List (List ℕ × Ty) → Scope Open → Scope Open → Bare → ℕ → Open → List Equality
+  generated env bound free (Number k) n expected = (integers, expected) ∷ condition (is_natural k)
+  generated env bound free (Identifier x place) n expected = name_equations (position_of x bound) (position_of x free) n expected
+  generated env bound free (Form op parts) n expected =
+      (instance n (result_scheme (row_of op)), expected) ∷ all_generated env bound free parts (n + 4) (map (instance n) (operand_schemes (row_of op) (part_count parts)))
+  generated env bound free (Partition parts) n expected =
+      (predicates, expected) ∷ all_generated env bound free parts (n + 4) (map (instance n) (partition_schemes (part_count parts)))
+  generated env bound free (Binding binder names parts) n expected =
+      (instance n (binder_scheme binder), expected) ∷ (condition (has_names names) ++ (bound_equations env bound names (n + 4)
+      ++ all_generated env (with_variables names (n + 4) bound) free parts (n + 4 + name_count names) (map (instance n) (part_schemes binder))))
+  generated env bound free (Ascribed e written) n expected = type_equations (denoted env bound written) expected ++ generated env bound free e n expected
+  generated env bound free (Broken parts) n expected = impossible ∷ []
+
+  pub all_generated : List (List ℕ × Ty) → Scope Open → Scope Open → Bares → ℕ → List Open → List Equality
+  all_generated env bound free nothing n [] = []
+  all_generated env bound free nothing n (e ∷ es) = impossible ∷ []
+  all_generated env bound free (more b bs) n [] = impossible ∷ (generated env bound free b n integers ++ all_generated env bound free bs (n + width b) [])
+  all_generated env bound free (more b bs) n (e ∷ es) = generated env bound free b n e ++ all_generated env bound free bs (n + width b) es
+
+-- those of a binder without its parts
+abbrev pub binder_equations : List (List ℕ × Ty) → Scope Open → Binder → Bounds → ℕ → Open → List Equality
+binder_equations env bound binder names n expected = (instance n (binder_scheme binder), expected) ∷ (condition (has_names names) ++ bound_equations env bound names (n + 4))
+
+-- the types of variables in a row
+abbrev pub types_at : (ℕ → Ty) → Bounds → ℕ → List Ty
+types_at v unbound n = []
+types_at v (plain x names) n = v n ∷ types_at v names (suc n)
+types_at v (typed x written names) n = v n ∷ types_at v names (suc n)
+
+abbrev pub name_core : List ℕ → Option (ℕ × Open) → Ty → Formula
+name_core x None t = formula.Free x t
+name_core x (Some p) t = formula.Bound p.0 t
+
+-- the formula, where the variables have these types
+abbrev mutual
+  pub built : (ℕ → Ty) → Scope Open → Bare → ℕ → Formula
+  built v bound (Number k) n = formula.Int k
+  built v bound (Identifier x place) n = name_core x (position_of x bound) (v n)
+  built v bound (Form op parts) n = formula.Node op (all_built v bound parts (n + 4)) (type_at (letters_at v n) (result_scheme (row_of op)))
+  built v bound (Partition parts) n = partition_of (all_built v bound parts (n + 4))
+  built v bound (Binding binder names parts) n =
+      formula.Bind binder (types_at v names (n + 4)) (all_built v (with_variables names (n + 4) bound) parts (n + 4 + name_count names)) (type_at (letters_at v n) (binder_scheme binder))
+  built v bound (Ascribed e written) n = built v bound e n
+  built v bound (Broken parts) n = formula.Int (pos 0)
+
+  pub all_built : (ℕ → Ty) → Scope Open → Bares → ℕ → List Formula
+  all_built v bound nothing n = []
+  all_built v bound (more b bs) n = built v bound b n ∷ all_built v bound bs (n + width b)

@@ -1,0 +1,11 @@
+pub mod Answers
+pub mod Bare
+pub mod Closed
+pub mod CoreForms
+pub mod Generated
+pub mod Partition
+pub mod Scopes
+pub mod TypeExpressions
+pub mod Typings
+pub mod Unknowns
+pub mod Views

@@ -1,0 +1,256 @@
+//! The one typing of a written formula.
+ghost use Rattle.std.specs.Prelude.{◌≡◌, ℕ, suc, ◌+◌, ◌<◌, ◌^◌, length, List, [], IfOk, OnOk, IsOk, IsErrOf, None, Some};
+ghost use Rattle.formula_core.specs.Env.{type_in};
+ghost use Rattle.formula_core.specs.Formulas.{free_of};
+ghost use Rattle.type_core.specs.Answers.{with_name, extended, IsTheTyping, HasNoTyping, HasTwoTypings, IsTheFormula, HasNoFormula, HasTwoFormulas};
+ghost use Rattle.type_core.specs.CoreForms.{core_form};
+ghost use Rattle.type_core.specs.Unknowns.{unknowns, first_by_place, unknown_in};
+ghost use Rattle.type_core.specs.Views.{bare_of, free_scope, expected_term};
+ghost use Rattle.type_core.specs.Generated.{generated};
+ghost use Rattle.unification.specs.Terms.{term_of};
+ghost use Rattle.unification.specs.Solutions.{equations_of};
+ghost use Rattle.std.specs.Option.{option_copied};
+
+use crate::build::{BuildFault, build};
+use crate::collect::collect;
+use crate::read::read;
+use crate::tree::Tree;
+use crate::unknown::search;
+use formula_core::{Env, EnvFault, Formula, Name, OutOfMemory, Raw, Ty};
+use std::alloc::{AllocFailed, Global};
+use unification::{Equation, SolveFault, Term, solve};
+
+/// Why a formula has no typing of its own.
+#[derive(Debug, Drop)]
+pub enum TypeFault {
+    /// The first name, by its byte place, that is neither bound nor wanted nor in the environment.
+    Unknown(Name, u32),
+    Clash,
+    Untyped,
+    OutOfMemory,
+}
+
+impl<T: Drop> From<AllocFailed<T>> for TypeFault {
+    ghost use Rattle.type_core.specs.declared.predicate.TypeFault.TheVariants.{OutOfMemory};
+
+    ghost from_gives = { λ _ e. e ≡ OutOfMemory };
+
+    fn from(_: AllocFailed<T>) -> TypeFault {
+        TypeFault::OutOfMemory
+    }
+}
+
+impl From<OutOfMemory> for TypeFault {
+    ghost use Rattle.type_core.specs.declared.predicate.TypeFault.TheVariants.{OutOfMemory};
+
+    ghost from_gives = { λ _ e. e ≡ OutOfMemory };
+
+    fn from(_: OutOfMemory) -> TypeFault {
+        TypeFault::OutOfMemory
+    }
+}
+
+/// Types a predicate, and adds the wanted names that occur in it to the environment, in their order.
+pub fn type_predicate(
+    alloc: Global,
+    env: &Env,
+    wanted: &[Name],
+    raw: &Raw,
+) -> Result<(Formula, Env), TypeFault>
+    // The typing, where there is exactly one.
+    ensures typed { IfOk result (λ r. IsTheTyping env.now wanted.now raw.now r.0 r.1) }
+    ensures clash { IsErrOf result TypeFault.Clash → HasNoTyping env.now wanted.now raw.now }
+    ensures untyped { IsErrOf result TypeFault.Untyped → HasTwoTypings env.now wanted.now raw.now }
+
+    // An unknown name goes first.
+    ensures unknown { (name : List ℕ) (place : ℕ) → IsErrOf result (TypeFault.Unknown name place) → unknown_in env.now wanted.now raw.now ≡ Some (name, place) }
+    ensures known { IsOk result → unknown_in env.now wanted.now raw.now ≡ None }
+    ensures known_clash { IsErrOf result TypeFault.Clash → unknown_in env.now wanted.now raw.now ≡ None }
+    ensures known_untyped { IsErrOf result TypeFault.Untyped → unknown_in env.now wanted.now raw.now ≡ None }
+{
+    let formula = type_formula(alloc, env, wanted, raw, Some(&Ty::Truth))?;
+    let mut names = env.copy(alloc)?;
+    extend(alloc, &mut names, wanted, &formula)?;
+    Ok((formula, names))
+}
+
+/// Types an expression, of the expected type where one is given.
+pub fn type_expression(
+    alloc: Global,
+    env: &Env,
+    expected: Option<&Ty>,
+    raw: &Raw,
+) -> Result<Formula, TypeFault>
+    // The typing, where there is exactly one.
+    ensures typed { IfOk result (λ f. IsTheFormula env.now [] (core_form raw.now) (option_copied expected.entry) f) }
+    ensures clash { IsErrOf result TypeFault.Clash → HasNoFormula env.now [] (core_form raw.now) (option_copied expected.entry) }
+    ensures untyped { IsErrOf result TypeFault.Untyped → HasTwoFormulas env.now [] (core_form raw.now) (option_copied expected.entry) }
+
+    // An unknown name goes first.
+    ensures unknown { (name : List ℕ) (place : ℕ) → IsErrOf result (TypeFault.Unknown name place) → unknown_in env.now [] raw.now ≡ Some (name, place) }
+    ensures known { IsOk result → unknown_in env.now [] raw.now ≡ None }
+    ensures known_clash { IsErrOf result TypeFault.Clash → unknown_in env.now [] raw.now ≡ None }
+    ensures known_untyped { IsErrOf result TypeFault.Untyped → unknown_in env.now [] raw.now ≡ None }
+{
+    type_formula(alloc, env, &[], raw, expected)
+}
+
+/// Types a formula, of the expected type where one is given.
+fn type_formula(
+    alloc: Global,
+    env: &Env,
+    wanted: &[Name],
+    raw: &Raw,
+    expected: Option<&Ty>,
+) -> Result<Formula, TypeFault>
+    ensures typed { IfOk result (λ f. IsTheFormula env.now wanted.now (core_form raw.now) (option_copied expected.entry) f) }
+    ensures clash { IsErrOf result TypeFault.Clash → HasNoFormula env.now wanted.now (core_form raw.now) (option_copied expected.entry) }
+    ensures untyped { IsErrOf result TypeFault.Untyped → HasTwoFormulas env.now wanted.now (core_form raw.now) (option_copied expected.entry) }
+    ensures unknown { (name : List ℕ) (place : ℕ) → IsErrOf result (TypeFault.Unknown name place) → unknown_in env.now wanted.now raw.now ≡ Some (name, place) }
+    ensures known { IsOk result → unknown_in env.now wanted.now raw.now ≡ None }
+    ensures known_clash { IsErrOf result TypeFault.Clash → unknown_in env.now wanted.now raw.now ≡ None }
+    ensures known_untyped { IsErrOf result TypeFault.Untyped → unknown_in env.now wanted.now raw.now ≡ None }
+{
+    let tree = read(alloc, raw)?;
+    match find_unknown(alloc, env, wanted, &tree)? {
+        Some((name, place)) => Err(TypeFault::Unknown(name, place)),
+        None => type_known(alloc, env, wanted, &tree, expected),
+    }
+}
+
+/// The first name that is unknown.
+fn find_unknown(
+    alloc: Global,
+    env: &Env,
+    wanted: &[Name],
+    tree: &Tree,
+) -> Result<Option<(Name, u32)>, OutOfMemory>
+    ensures { IfOk result (λ found. found ≡ first_by_place (unknowns env.now wanted.now [] (bare_of tree.now))) }
+{
+    let mut bound = Vec::new(alloc);
+    let mut found = None;
+    search(alloc, env, wanted, &mut bound, tree, &mut found)?;
+    Ok(found)
+}
+
+/// Types a formula all whose names are known.
+fn type_known(
+    alloc: Global,
+    env: &Env,
+    wanted: &[Name],
+    tree: &Tree,
+    expected: Option<&Ty>,
+) -> Result<Formula, TypeFault>
+    ensures typed { IfOk result (λ f. IsTheFormula env.now wanted.now (bare_of tree.now) (option_copied expected.entry) f) }
+    ensures clash { IsErrOf result TypeFault.Clash → HasNoFormula env.now wanted.now (bare_of tree.now) (option_copied expected.entry) }
+    ensures untyped { IsErrOf result TypeFault.Untyped → HasTwoFormulas env.now wanted.now (bare_of tree.now) (option_copied expected.entry) }
+    ensures unknown { (name : List ℕ) (place : ℕ) → IsErrOf result (TypeFault.Unknown name place) → ⊥ }
+{
+    if wanted.len() >= u32::MAX as usize {
+        return Err(TypeFault::OutOfMemory);
+    }
+    let first = wanted.len() as u32 + 1;
+    let equations = equations_of_tree(alloc, env, wanted, tree, expected)?;
+    let types = match solve(alloc, equations) {
+        Ok(types) => types,
+        Err(SolveFault::NoSolution) => return Err(TypeFault::Clash),
+        Err(SolveFault::OutOfMemory) => return Err(TypeFault::OutOfMemory),
+    };
+    let mut next = first;
+    let mut scope = Vec::new(alloc);
+    match build(alloc, &types, &mut scope, &mut next, tree) {
+        Ok(formula) => Ok(formula),
+        Err(BuildFault::Untyped) => Err(TypeFault::Untyped),
+        Err(BuildFault::OutOfMemory) => Err(TypeFault::OutOfMemory),
+    }
+}
+
+/// The expected type, or a variable where none is expected.
+fn expected_term(alloc: Global, expected: Option<&Ty>, variable: u32) -> Result<Term, OutOfMemory>
+    ensures { IfOk result (λ t. term_of t ≡ expected_term (option_copied expected.entry) variable) }
+{
+    match expected {
+        Some(ty) => Term::of_type(alloc, ty),
+        None => Ok(Term::Var(variable)),
+    }
+}
+
+fn equations_of_tree(
+    alloc: Global,
+    env: &Env,
+    wanted: &[Name],
+    tree: &Tree,
+    expected: Option<&Ty>,
+) -> Result<Vec<Equation>, OutOfMemory>
+    requires { length wanted.now + 1 < 2 ^ 32 }
+    ensures { IfOk result (λ es. equations_of es.items ≡ generated env.now [] (free_scope env.now wanted.now) (bare_of tree.now) (suc (length wanted.now)) (expected_term (option_copied expected.entry) (length wanted.now))) }
+{
+    let mut equations = Vec::new(alloc);
+    let mut scope = Vec::new(alloc);
+    let variable = wanted.len() as u32;
+    let mut next = variable + 1;
+    let term = expected_term(alloc, expected, variable)?;
+    collect(
+        alloc,
+        env,
+        wanted,
+        &mut scope,
+        &mut next,
+        &mut equations,
+        tree,
+        term,
+    )?;
+    Ok(equations)
+}
+
+/// Adds the wanted names that occur in a formula.
+fn extend(
+    alloc: Global,
+    env: &mut Env,
+    wanted: &[Name],
+    formula: &Formula,
+) -> Result<(), OutOfMemory>
+    ensures { OnOk result (env.new ≡ extended env.old wanted.now formula.now) }
+{
+    let free = formula.free(alloc)?;
+    for name in wanted {
+        add_name(alloc, env, name, &free)?;
+    }
+    Ok(())
+}
+
+fn add_name(
+    alloc: Global,
+    env: &mut Env,
+    name: &Name,
+    free: &[(Name, Ty)],
+) -> Result<(), OutOfMemory>
+    ensures { OnOk result (env.new ≡ with_name env.old name.now (type_in free.now name.now)) }
+{
+    match type_among(free, name) {
+        Some(ty) => add_typed(alloc, env, name, ty),
+        None => Ok(()),
+    }
+}
+
+fn add_typed(alloc: Global, env: &mut Env, name: &Name, ty: &Ty) -> Result<(), OutOfMemory>
+    ensures { OnOk result (env.new ≡ with_name env.old name.now (Some ty.now)) }
+{
+    let name = name.copy(alloc)?;
+    match env.add(name, ty.copy(alloc)?) {
+        Ok(()) => Ok(()),
+        Err(EnvFault::Taken) => Ok(()),
+        Err(EnvFault::OutOfMemory) => Err(OutOfMemory),
+    }
+}
+
+fn type_among<'a>(free: &'a [(Name, Ty)], name: &Name) -> Option<&'a Ty>
+    ensures { option_copied result ≡ type_in free.now name.now }
+{
+    for entry in free {
+        if name.same(&entry.0) {
+            return Some(&entry.1);
+        }
+    }
+    None
+}

@@ -1,0 +1,102 @@
+//! Names and the variables or types that they have.
+ghost use Rattle.std.specs.Prelude.{◌≡◌, ◌+◌, ◌<◌, ◌^◌, length, IfOk, IfSome, IfNone};
+ghost use Rattle.type_core.specs.Scopes.{position_of, has_name};
+ghost use Rattle.type_core.specs.Generated.{nearest};
+ghost use Rattle.type_core.specs.Views.{scope_of, free_scope, numbered, place_of, found_of, variable_of, term_in};
+
+use formula_core::{Env, Name, OutOfMemory, Ty};
+use std::alloc::Global;
+use unification::Term;
+
+/// A bound name and the variable of its type.
+#[derive(Drop)]
+pub(crate) struct Entry {
+    pub name: Name,
+    pub variable: u32,
+}
+
+/// How many bound names are nearer, and the name's variable. The nearest stands last.
+pub(crate) fn find_bound(scope: &[Entry], name: &Name) -> Option<(usize, u32)>
+    ensures place { place_of result ≡ position_of name.now (scope_of scope.now) }
+    ensures within { IfSome result (λ p. p.0 < length scope.now) }
+{
+    match scope.split_last() {
+        None => None,
+        Some((entry, rest)) => {
+            if entry.name.same(name) {
+                Some((0, entry.variable))
+            } else {
+                match find_bound(rest, name) {
+                    None => None,
+                    Some((nearer, variable)) => Some((nearer + 1, variable)),
+                }
+            }
+        }
+    }
+}
+
+/// Whether a name is bound.
+pub(crate) fn is_bound(scope: &[Entry], name: &Name) -> bool
+    ensures { result ≡ has_name name.now (scope_of scope.now) }
+{
+    find_bound(scope, name).is_some()
+}
+
+/// The variable of a wanted name, of which the first has the variable `first`.
+fn find_wanted(wanted: &[Name], first: u32, name: &Name) -> Option<u32>
+    requires { first + length wanted.now < 2 ^ 32 }
+    ensures { variable_of result ≡ found_of (position_of name.now (numbered wanted.now first)) }
+{
+    match wanted.split_first() {
+        None => None,
+        Some((x, rest)) => {
+            if x.same(name) {
+                Some(first)
+            } else {
+                find_wanted(rest, first + 1, name)
+            }
+        }
+    }
+}
+
+/// The type of a name that isn't bound.
+fn find_free(
+    alloc: Global,
+    entries: &[(Name, Ty)],
+    wanted: &[Name],
+    name: &Name,
+) -> Result<Option<Term>, OutOfMemory>
+    requires { length wanted.now < 2 ^ 32 }
+    ensures { IfOk result (λ t. term_in t ≡ found_of (position_of name.now (free_scope entries.now wanted.now))) }
+{
+    match entries.split_first() {
+        None => match find_wanted(wanted, 0, name) {
+            None => Ok(None),
+            Some(i) => Ok(Some(Term::Var(i))),
+        },
+        Some((entry, rest)) => {
+            if entry.0.same(name) {
+                Ok(Some(Term::of_type(alloc, &entry.1)?))
+            } else {
+                find_free(alloc, rest, wanted, name)
+            }
+        }
+    }
+}
+
+/// The type of a name, bound or free.
+pub(crate) fn name_term(
+    alloc: Global,
+    env: &Env,
+    wanted: &[Name],
+    scope: &[Entry],
+    name: &Name,
+) -> Result<Option<Term>, OutOfMemory>
+    requires { length wanted.now < 2 ^ 32 }
+    ensures { IfOk result (λ t. term_in t ≡ found_of (nearest (position_of name.now (scope_of scope.now)) (position_of name.now (free_scope env.now wanted.now)))) }
+{
+    match find_bound(scope, name) {
+        None => find_free(alloc, env.entries(), wanted, name),
+        Some((_, variable)) => Ok(Some(Term::Var(variable))),
+    }
+}
