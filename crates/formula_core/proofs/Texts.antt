@@ -7,6 +7,7 @@ use Rattle.std.specs.Cmp.Lexicographic.{same_text}
 use Rattle.std.proofs.lemmas.Bool.{leb-true, le-leb}
 use Rattle.std.proofs.lemmas.Grind.{common_steps}
 use Rattle.std.proofs.lemmas.List.{take-append-drop}
+use Rattle.std.proofs.Math.Seq.{drop-append_seam, take-append_seam}
 use Rattle.std.proofs.lemmas.List.Folds.{list_all-append}
 use Rattle.formula_core.specs.Names.{prime, is_in_word, starts_word, is_word, is_identifier, is_name}
 use Rattle.formula_core.specs.Texts.{is_in_label, is_label, is_kind, is_po_name, begins_with_blank, has_blank}
@@ -92,3 +93,13 @@ has_blank_from (x ∷ xs) (suc i) h = has_blank_from xs i h ∙ ap (λ n. has_bl
 
 pub joined_by_slashes : (xs ys zs : List ℕ) → (((xs ++ 47 ∷ []) ++ ys) ++ 47 ∷ []) ++ zs ≡ xs ++ 47 ∷ ys ++ 47 ∷ zs
 joined_by_slashes xs ys zs = append_assoc ((xs ++ 47 ∷ []) ++ ys) (47 ∷ []) zs ∙ ap (λ w. w ++ 47 ∷ zs) (append_assoc xs (47 ∷ []) ys)
+
+-- an identifier with a prime at its end is a name
+pub primed_is_name : (w : List ℕ) → is_identifier w ≡ true → is_name (w ++ prime ∷ []) ≡ true
+primed_is_name w h =
+    let at : ℕ = length (w ++ prime ∷ []) - 1 in
+    let end : at ≡ length w = omega (arith, length-append w (prime ∷ [])) in
+    let back : drop at (w ++ prime ∷ []) ≡ prime ∷ [] = ap (λ k. drop k (w ++ prime ∷ [])) end ∙ drop-append_seam w (prime ∷ []) in
+    let front : take at (w ++ prime ∷ []) ≡ w = ap (λ k. take k (w ++ prime ∷ [])) end ∙ take-append_seam w (prime ∷ []) in
+    let has_prime : bytes_eq (drop at (w ++ prime ∷ [])) (prime ∷ []) ≡ true = ap (λ ys. bytes_eq ys (prime ∷ [])) back in
+    ap is_identifier (ap (λ b. if b then take at (w ++ prime ∷ []) else w ++ prime ∷ []) has_prime ∙ front) ∙ h

@@ -1,5 +1,5 @@
-ghost use Rattle.std.specs.Prelude.{◌≡◌, ◌↔◌, IsTrue, IfOk, IsErrOf, false, bytes_eq};
-ghost use Rattle.formula_core.specs.Names.{is_name, is_word, is_reserved, is_identifier, starts_word, is_in_word};
+ghost use Rattle.std.specs.Prelude.{◌≡◌, ◌↔◌, ◌++◌, ◌∷◌, [], IsTrue, IfOk, IsErrOf, false, bytes_eq};
+ghost use Rattle.formula_core.specs.Names.{is_name, is_word, is_reserved, is_identifier, starts_word, is_in_word, prime};
 ghost use Rattle.std.specs.List.{list_all, list_any};
 
 use crate::memory::OutOfMemory;
@@ -91,6 +91,16 @@ impl Name {
         ensures { IfOk result (λ name. name ≡ self.now) }
     {
         let text = String::from_str(alloc, self.text.as_str())?;
+        Ok(Name { text })
+    }
+
+    /// The identifier with a prime at its end: of a variable, the name of its value after an event.
+    pub fn primed(&self, alloc: Global) -> Result<Name, OutOfMemory>
+        requires unprimed { IsTrue (is_identifier self.now) }
+        ensures { IfOk result (λ name. name ≡ self.now ++ prime ∷ []) }
+    {
+        let mut text = String::from_str(alloc, self.text.as_str())?;
+        text.push_str("'")?;
         Ok(Name { text })
     }
 }
