@@ -98,7 +98,7 @@ relation_of_view t a b h = let v : SetOf t (λ p. is_pair_of p a b) = set_view t
 
 -- Types of values.
 
-value-Int : is_value_type ty.Int ≡ true
+pub value-Int : is_value_type ty.Int ≡ true
 value-Int = type_fold is_value_step IntF _ rolls-Int
 
 left_value : (t a b : Ty) → t ≡ ty.Pair a b → is_value_type t ≡ true → is_value_type a ≡ true

@@ -45,4 +45,6 @@ pub use text::{Label, PoName, Text};
 pub use ty::{Ty, copy_types, same_types};
 
 #[cfg(test)]
+mod substitution_tests;
+#[cfg(test)]
 mod tests;
