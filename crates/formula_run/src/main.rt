@@ -1,7 +1,7 @@
 //! A formula of the greatest height and one of the greatest size, counted, copied, compared and let go.
 //!
-//! With a number it makes a formula of so many different names and prints how many free identifiers it has:
-//! `bench/free_names` takes the time.
+//! With a word and a number it makes two formulas of so many different names, does one kind of work on them, and prints
+//! what came of it: `bench/formula_work` takes the time.
 #![tactic(auto)]
 
 use formula_core::{Boxed, Formula, List, Name, NameFault, Op, OutOfMemory, Ty};
@@ -70,12 +70,58 @@ fn has_equal_copy(alloc: Global, f: &Formula) -> bool {
     }
 }
 
-fn free_count(alloc: Global, items: &[Formula]) -> Option<usize> {
-    let mut count: usize = 0;
-    for f in items {
-        count = count.saturating_add(f.free(alloc).ok()?.len());
+// One kind of work on a formula.
+#[derive(Clone, Copy, Debug)]
+enum Work {
+    Make,
+    Free,
+    IsWell,
+    Same,
+    Substitute,
+}
+
+fn work_of(word: &str) -> Option<Work> {
+    match word {
+        "make" => Some(Work::Make),
+        "free" => Some(Work::Free),
+        "well" => Some(Work::IsWell),
+        "same" => Some(Work::Same),
+        "substitute" => Some(Work::Substitute),
+        _ => None,
     }
-    Some(count)
+}
+
+// x0 and x1 change places.
+fn swap(alloc: Global) -> Option<Vec<(Name, Formula)>> {
+    let mut pairs = Vec::new(alloc);
+    let first = Formula::Free(name_of(alloc, 1).ok()?, Ty::Int);
+    pairs.push((name_of(alloc, 0).ok()?, first)).ok()?;
+    let second = Formula::Free(name_of(alloc, 0).ok()?, Ty::Int);
+    pairs.push((name_of(alloc, 1).ok()?, second)).ok()?;
+    Some(pairs)
+}
+
+fn nodes_after_swap(alloc: Global, f: &Formula) -> Option<u64> {
+    let pairs = swap(alloc)?;
+    Some(f.substitute_any(alloc, &pairs).ok()?.node_count())
+}
+
+// How many free identifiers or nodes there are, or 1 for yes and 0 for no.
+fn done(alloc: Global, work: Work, f: &Formula, g: &Formula) -> Option<u64> {
+    match work {
+        Work::Make => Some(1),
+        Work::Free => u64::try_from(f.free(alloc).ok()?.len()).ok(),
+        Work::IsWell => Some(u64::from(f.is_well())),
+        Work::Same => Some(u64::from(f.same(g))),
+        Work::Substitute => nodes_after_swap(alloc, f),
+    }
+}
+
+fn done_on(alloc: Global, work: Work, items: &[Formula]) -> Option<u64> {
+    match items {
+        [f, g] => done(alloc, work, f, g),
+        _ => None,
+    }
 }
 
 // The formula of the greatest height, and that of the greatest size. None where memory ran out.
@@ -86,15 +132,17 @@ fn greatest(alloc: Global) -> Option<Vec<Formula>> {
     Some(made)
 }
 
+// Two formulas of the same names.
 fn of_names(alloc: Global, names: u32) -> Option<Vec<Formula>> {
     let mut made = Vec::new(alloc);
+    add_names(alloc, names, &mut made)?;
     add_names(alloc, names, &mut made)?;
     Some(made)
 }
 
-fn number_in(words: &[String]) -> Option<u32> {
+fn asked(words: &[String]) -> Option<(Work, u32)> {
     match words {
-        [word] => word.parse().ok(),
+        [work, number] => Some((work_of(work.as_str())?, number.parse().ok()?)),
         _ => None,
     }
 }
@@ -105,10 +153,10 @@ fn main(rt: HostRuntime) -> io::Result<ExitCode> {
     for word in env::args(&rt)?.skip(1) {
         words.push(word)?;
     }
-    if let Some(names) = number_in(&words) {
+    if let Some((work, names)) = asked(&words) {
         let made = of_names(alloc, names);
-        let count = made.and_then(|items| free_count(alloc, &items));
-        println!(rt; "free identifiers: {}", count.unwrap_or(0))?;
+        let answer = made.and_then(|items| done_on(alloc, work, &items));
+        println!(rt; "{}", answer.unwrap_or(0))?;
         return Ok(ExitCode::SUCCESS);
     }
     let Some(made) = greatest(alloc) else {
