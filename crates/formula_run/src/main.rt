@@ -13,6 +13,8 @@ const GREATEST_HEIGHT: u32 = 4_096;
 
 const GREATEST_SIZE: u32 = 65_536;
 
+const ROUNDS: u32 = 20;
+
 // Puts ¬ before the last formula of a list.
 fn negate(alloc: Global, out: &mut Vec<Formula>) -> Result<(), OutOfMemory> {
     let mut parts = Vec::new(alloc);
@@ -117,11 +119,16 @@ fn done(alloc: Global, work: Work, f: &Formula, g: &Formula) -> Option<u64> {
     }
 }
 
+// The answer of the last of several rounds, so that the time is more than that of making the formulas.
 fn done_on(alloc: Global, work: Work, items: &[Formula]) -> Option<u64> {
-    match items {
-        [f, g] => done(alloc, work, f, g),
-        _ => None,
+    let [f, g] = items else {
+        return None;
+    };
+    let mut answer = None;
+    for _ in 0..ROUNDS {
+        answer = Some(done(alloc, work, f, g)?);
     }
+    answer
 }
 
 // The formula of the greatest height, and that of the greatest size. None where memory ran out.
