@@ -1,4 +1,4 @@
--- Each sentence is read.
+-- Each sentence is read up to its end.
 use Rattle.std.proofs.Common.{◌≡◌, ℕ, List, [], ◌∷◌, ◌++◌, Bool, true, false, ◌&&◌, cond, Option, Some, None, refl, ap, ◌∙◌, subst, arith, length}
 use Rattle.std.specs.Prelude.{nat_le}
 use Rattle.std.proofs.lemmas.Bool.{leb-true}
@@ -29,7 +29,8 @@ use Rattle.math_grammar.specs.Tokens.{Item}
 use Rattle.math_grammar.specs.Grammar.{item, place_of, bound, between, Ends, Reads, a_name, a_number, a_truth, a_constant, prefixed, two_sides, in_parentheses, called, applied, converted, set_by_members, by_names, by_shape, lambda, Parts, last_one, next_one, TypeOf, last_side, first_side, Bound, bare, of_type, Declares, last_name, next_name, Body, a_predicate, a_value, LastPart, up_to_brace, reaching, Pattern, last_atom, next_atom, Atom, bare_atom, typed_atom, grouped_atom}
 use Rattle.math_parse.specs.declared.frames.Frame.{Frame}
 use Rattle.math_parse.specs.declared.frames.Frame.TheVariants as frame
-use Rattle.math_parse.specs.Machine.{hole_of, place, State, want, have, calling, shape_want, shape_have, bound_of, bounds_of, body_of, opened, begin, extend, finished, after_names, after_shape, closed, attach, Outcome, run}
+use Rattle.math_parse.specs.Machine.{hole_of, place, State, want, have, calling, shape_want, shape_have, bound_of, bounds_of, body_of, opened, begin, extend, finished, after_names, after_shape, closed, attach}
+use Rattle.math_parse.proofs.Reach.{Stop, reach}
 use Rattle.math_parse.proofs.Basics.{name_of-name, typed_name_of-between, bound_of-name, bound_of-between, bounds_of-more, both, fits_reaches, reached, reached_least, reaches_left, fits_expression, declaration_rank, Opens, group_opens, infix_goes, infix_extends, suffix_goes, suffix_extends, prefix_begins, binding_begins}
 
 suffix_ready : (h : Hole) (g : Grade) → suffixes hole.Operand g ≡ true → reaches h grade.Suffixed ≡ true → suffixes h g ≡ true
@@ -103,32 +104,32 @@ module _ (limit : Option ℕ) where
   -- a form that ends with its last part is complete where nothing goes on with that
   pub ends_finished : (goal : Hole) (f : Frame) (fs : List Frame) (g h : Grade) (t u : Raw) (rest : List Item) →
       fits (hole_of f) g ≡ true → Ends (hole_of f) g rest → finished f t ≡ Some (h, u) →
-      run limit goal (have (f ∷ fs) g t) rest ≡ run limit goal (have fs h u) rest
+      reach limit goal (have (f ∷ fs) g t) rest ≡ reach limit goal (have fs h u) rest
   ends_finished goal f fs g h t u [] fit e d = rw (fit, d)
   ends_finished goal f fs g h t u (x ∷ rest) fit e d = rw (e, fit, d)
 
   -- a form takes a sign
   pub takes_sign : (goal : Hole) (f : Frame) (fs : List Frame) (g : Grade) (t : Raw) (x : Symbol) (p : ℕ) (w : List ℕ) (st : State) (rest : List Item) →
       fits (hole_of f) g ≡ true → goes_on (hole_of f) g x ≡ false → finished f t ≡ None → closed limit fs f g t x ≡ Some st →
-      run limit goal (have (f ∷ fs) g t) (item x p w ∷ rest) ≡ run limit goal st rest
+      reach limit goal (have (f ∷ fs) g t) (item x p w ∷ rest) ≡ reach limit goal st rest
   takes_sign goal f fs g t x p w st rest fit off e c = rw (off, fit, e, c)
 
   -- the first token
   pub begins : (goal : Hole) (fs : List Frame) (x : Symbol) (p : ℕ) (w : List ℕ) (st : State) (rest : List Item) →
-      begin (place goal fs) fs p w x ≡ Some st → run limit goal (want fs) (item x p w ∷ rest) ≡ run limit goal st rest
+      begin (place goal fs) fs p w x ≡ Some st → reach limit goal (want fs) (item x p w ∷ rest) ≡ reach limit goal st rest
   begins goal fs x p w st rest e = rw e
 
   -- a token that goes on
   pub goes : (goal : Hole) (fs : List Frame) (g : Grade) (t : Raw) (x : Symbol) (p : ℕ) (w : List ℕ) (st : State) (rest : List Item) →
-      attach limit goal fs g t x ≡ Some st → run limit goal (have fs g t) (item x p w ∷ rest) ≡ run limit goal st rest
+      attach limit goal fs g t x ≡ Some st → reach limit goal (have fs g t) (item x p w ∷ rest) ≡ reach limit goal st rest
   goes goal fs g t x p w st rest e = rw e
 
   -- what nothing goes on with
   abbrev pub Stops : Symbol → Type 0
   Stops x = ((h : Hole) (g : Grade) → goes_on h g x ≡ false) × (is_typing x ≡ false)
 
-  opened_names : (goal : Hole) (fs : List Frame) (c : Binding) (p : ℕ) (s : List Item) {z : Outcome} → takes_names c ≡ true →
-      run limit goal (want (frame.Names c [] p ∷ fs)) s ≡ z → run limit goal (want (frame.Listed c true [] p ∷ fs)) s ≡ z → run limit goal (opened c fs p) s ≡ z
+  opened_names : (goal : Hole) (fs : List Frame) (c : Binding) (p : ℕ) (s : List Item) {z : Stop} → takes_names c ≡ true →
+      reach limit goal (want (frame.Names c [] p ∷ fs)) s ≡ z → reach limit goal (want (frame.Listed c true [] p ∷ fs)) s ≡ z → reach limit goal (opened c fs p) s ≡ z
   opened_names goal fs binding.Set p s takes named listed = listed
   opened_names goal fs (binding.Reaching b) p s takes named listed = listed
   opened_names goal fs (binding.Quantified b) p s takes named listed = named
@@ -137,14 +138,14 @@ module _ (limit : Option ℕ) where
   -- a name wanted by a form, and a comma or a dot behind it
   name_then : (goal : Hole) (fs : List Frame) (c : Binding) (before : List RawBound) (n : List ℕ) (p q place : ℕ) (w : List ℕ) (x : Symbol) (f : Frame) (rest : List Item) →
       is_name n ≡ true → Stops x → after_names c (before ++ bound n p None ∷ []) place x ≡ Some f →
-      run limit goal (want (frame.Names c before place ∷ fs)) (item sign.Word p n ∷ item x q w ∷ rest) ≡ run limit goal (want (f ∷ fs)) rest
+      reach limit goal (want (frame.Names c before place ∷ fs)) (item sign.Word p n ∷ item x q w ∷ rest) ≡ reach limit goal (want (f ∷ fs)) rest
   name_then goal fs c before n p q place w x f rest e off d =
       rw e (takes_sign goal (frame.Names c before place) fs grade.Name (raw.Name n p) x q w (want (f ∷ fs)) rest refl (off.0 hole.Name grade.Name) refl
       (rw (name_of-name n p, off.1, d) refl))
 
   name_typed : (goal : Hole) (fs : List Frame) (c : Binding) (before : List RawBound) (n : List ℕ) (p q place : ℕ) (w : List ℕ) (o : RawOp) (rest : List Item) →
       is_name n ≡ true →
-      run limit goal (want (frame.Names c before place ∷ fs)) (item sign.Word p n ∷ item (sign.Infix lev.Typing o) q w ∷ rest) ≡ run limit goal (want (frame.TypeAfter c before n p None place ∷ fs)) rest
+      reach limit goal (want (frame.Names c before place ∷ fs)) (item sign.Word p n ∷ item (sign.Infix lev.Typing o) q w ∷ rest) ≡ reach limit goal (want (frame.TypeAfter c before n p None place ∷ fs)) rest
   name_typed goal fs c before n p q place w o rest e =
       rw e (takes_sign goal (frame.Names c before place) fs grade.Name (raw.Name n p) (sign.Infix lev.Typing o) q w (want (frame.TypeAfter c before n p None place ∷ fs)) rest refl refl refl
       (rw (name_of-name n p) refl))
@@ -152,16 +153,16 @@ module _ (limit : Option ℕ) where
   -- a name in a list, and its type
   listed_typed : (goal : Hole) (fs : List Frame) (c : Binding) (before : List Raw) (n : List ℕ) (p q place : ℕ) (w : List ℕ) (o : RawOp) (rest : List Item) →
       is_name n ≡ true →
-      run limit goal (want (frame.Listed c true before place ∷ fs)) (item sign.Word p n ∷ item (sign.Infix lev.Typing o) q w ∷ rest)
-      ≡ run limit goal (want (frame.Between o lev.Typing grade.Declared (raw.Name n p) ∷ frame.Listed c true before place ∷ fs)) rest
+      reach limit goal (want (frame.Listed c true before place ∷ fs)) (item sign.Word p n ∷ item (sign.Infix lev.Typing o) q w ∷ rest)
+      ≡ reach limit goal (want (frame.Between o lev.Typing grade.Declared (raw.Name n p) ∷ frame.Listed c true before place ∷ fs)) rest
   listed_typed goal fs c before n p q place w o rest e = rw e refl
 
   -- a name in a list with the first side of its type
   first_side_read : (goal : Hole) (fs : List Frame) (c : Binding) (items : List Raw) (before : List RawBound) (p : ℕ) (n : List ℕ) (pn q' : ℕ) (w' : List ℕ) (o : RawOp) (s' : List Item) →
       is_name n ≡ true → (q2 : ℕ) (w2 : List ℕ) (o2 : RawOp) (m : List Item) (a : Raw) → bounds_of items ≡ Some before → (g : Grade) → fits hole.Pair g ≡ true →
-      run limit goal (want (frame.Between o lev.Typing grade.Declared (raw.Name n pn) ∷ frame.Listed c true items p ∷ fs)) s'
-      ≡ run limit goal (have (frame.Between o lev.Typing grade.Declared (raw.Name n pn) ∷ frame.Listed c true items p ∷ fs) g a) (item (sign.Infix lev.Typing o2) q2 w2 ∷ m) →
-      run limit goal (want (frame.Listed c true items p ∷ fs)) (item sign.Word pn n ∷ item (sign.Infix lev.Typing o) q' w' ∷ s') ≡ run limit goal (want (frame.TypeAfter c before n pn (Some a) p ∷ fs)) m
+      reach limit goal (want (frame.Between o lev.Typing grade.Declared (raw.Name n pn) ∷ frame.Listed c true items p ∷ fs)) s'
+      ≡ reach limit goal (have (frame.Between o lev.Typing grade.Declared (raw.Name n pn) ∷ frame.Listed c true items p ∷ fs) g a) (item (sign.Infix lev.Typing o2) q2 w2 ∷ m) →
+      reach limit goal (want (frame.Listed c true items p ∷ fs)) (item sign.Word pn n ∷ item (sign.Infix lev.Typing o) q' w' ∷ s') ≡ reach limit goal (want (frame.TypeAfter c before n pn (Some a) p ∷ fs)) m
   first_side_read goal fs c items before p n pn q' w' o s' e q2 w2 o2 m a is g fit read =
       listed_typed goal fs c items n pn q' p w' o s' e
       ∙ read
@@ -170,16 +171,16 @@ module _ (limit : Option ℕ) where
       (rw (is, typed_name_of-between o n pn a) refl)
 
   -- a comma behind a name that may be a member too
-  comma_listed : (goal : Hole) (fs : List Frame) (c : Binding) (items : List Raw) (p : ℕ) (m : List Item) {before : List RawBound} {z : Outcome} →
+  comma_listed : (goal : Hole) (fs : List Frame) (c : Binding) (items : List Raw) (p : ℕ) (m : List Item) {before : List RawBound} {z : Stop} →
       bounds_of items ≡ Some before → (q : ℕ) (w : List ℕ) (g : Grade) (t : Raw) (b : RawBound) → is_declaration g ≡ true → bound_of t ≡ Some b →
-      run limit goal (want (frame.Listed c true (items ++ t ∷ []) p ∷ fs)) m ≡ z → run limit goal (want (frame.Names c (before ++ b ∷ []) p ∷ fs)) m ≡ z →
-      run limit goal (have (frame.Listed c true items p ∷ fs) g t) (item sign.Comma q w ∷ m) ≡ z
+      reach limit goal (want (frame.Listed c true (items ++ t ∷ []) p ∷ fs)) m ≡ z → reach limit goal (want (frame.Names c (before ++ b ∷ []) p ∷ fs)) m ≡ z →
+      reach limit goal (have (frame.Listed c true items p ∷ fs) g t) (item sign.Comma q w ∷ m) ≡ z
   comma_listed goal fs c items p m {before} {z} is q w g t b d declared listed named =
       go (is_closed c) refl (bounds_of-more items t before b is declared) (fits_expression g (declaration_rank g d)) listed named
     where
       go : (v : Bool) → is_closed c ≡ v → bounds_of (items ++ t ∷ []) ≡ Some (before ++ b ∷ []) → fits hole.Expression g ≡ true →
-          run limit goal (want (frame.Listed c true (items ++ t ∷ []) p ∷ fs)) m ≡ z → run limit goal (want (frame.Names c (before ++ b ∷ []) p ∷ fs)) m ≡ z →
-          run limit goal (have (frame.Listed c true items p ∷ fs) g t) (item sign.Comma q w ∷ m) ≡ z
+          reach limit goal (want (frame.Listed c true (items ++ t ∷ []) p ∷ fs)) m ≡ z → reach limit goal (want (frame.Names c (before ++ b ∷ []) p ∷ fs)) m ≡ z →
+          reach limit goal (have (frame.Listed c true items p ∷ fs) g t) (item sign.Comma q w ∷ m) ≡ z
       go true v all fit listed named =
           takes_sign goal (frame.Listed c true items p) fs g t sign.Comma q w (want (frame.Listed c true (items ++ t ∷ []) p ∷ fs)) m fit refl refl (rw (d, v) refl) ∙ listed
       go false v all fit listed named =
@@ -188,7 +189,7 @@ module _ (limit : Option ℕ) where
   mutual
     pub complete_reads : (goal : Hole) (fs : List Frame) {g : Grade} {s rest : List Item} {t : Raw} →
         Reads limit g s t rest → reaches (place goal fs) g ≡ true →
-        run limit goal (want fs) s ≡ run limit goal (have fs g t) rest
+        reach limit goal (want fs) s ≡ reach limit goal (have fs g t) rest
     complete_reads goal fs (a_name {n} {p} {rest} e) b = begins goal fs sign.Word p n (have fs grade.Name (raw.Name n p)) rest (rw e refl)
     complete_reads goal fs (a_number {n} {p} {w} {rest}) b = begins goal fs (sign.Number n) p w (have fs grade.Primary (raw.Int n p)) rest (rw b refl)
     complete_reads goal fs (a_truth {o} {p} {w} {rest}) b = begins goal fs (sign.Truth o) p w (have fs grade.Literal (raw.Node (rawop.Plain o) [] p)) rest (rw b refl)
@@ -210,7 +211,7 @@ module _ (limit : Option ℕ) where
         ∙ takes_sign goal (frame.Group (inside (place goal fs))) fs g t (sign.Close bracket.Round) q v (have fs k t) rest o.fit refl refl (ap (λ l. Some (have fs l t)) lv)
     complete_reads goal fs (called {k} {c} {o} {p} {q} {w} {v} {s} {rest} {parts} r lv) b =
         begins goal fs (sign.Call c o) p w (calling fs c o p) (item (sign.Open bracket.Round) q v ∷ s) (let b' : reaches (place goal fs) (call_grade c) ≡ true = rw lv b in rw b' refl)
-        ∙ complete_more goal fs c o p r refl refl ∙ ap (λ l. run limit goal (have fs l (raw.Node o parts p)) rest) lv
+        ∙ complete_more goal fs c o p r refl refl ∙ ap (λ l. reach limit goal (have fs l (raw.Node o parts p)) rest) lv
     complete_reads goal fs (applied {g} {h} {b = br} {o} {x} {p} {q} {w} {v} {s} {m} {rest} {f} {a} left is ready r fit) b =
         complete_reads goal fs left (suffix_reaches (place goal fs) g ready b)
         ∙ goes goal fs g f x p w (want (frame.Suffixed br o f ∷ fs)) m (attach_suffix goal fs g f x br o is ready b)
@@ -226,13 +227,13 @@ module _ (limit : Option ℕ) where
     complete_reads goal fs (by_names {k} {c} {x} {p} {w} {s} {m} {rest} {names} {parts} is takes d r lv) b =
         begins goal fs x p w (opened c fs p) s (binding_begins (place goal fs) fs p w x c is (rw lv b))
         ∙ opened_names goal fs c p s takes (complete_names goal fs c p d) (complete_listed goal fs c [] p refl d)
-        ∙ complete_body goal fs c names p r ∙ ap (λ l. run limit goal (have fs l (raw.Bind (binder_of c) names parts p)) rest) lv
+        ∙ complete_body goal fs c names p r ∙ ap (λ l. reach limit goal (have fs l (raw.Bind (binder_of c) names parts p)) rest) lv
     complete_reads goal fs (by_shape {g} {k} {c} {x} {p} {q} {w} {v} {s} {m} {rest} {e} {t} is takes r fit last lv) b =
         begins goal fs x p w (opened c fs p) s (binding_begins (place goal fs) fs p w x c is (rw lv b))
-        ∙ ap (λ st. run limit goal st s) (opened_shape c fs p takes)
+        ∙ ap (λ st. reach limit goal st s) (opened_shape c fs p takes)
         ∙ complete_reads goal (frame.Listed c true [] p ∷ fs) r (fits_reaches hole.Expression g fit)
         ∙ takes_sign goal (frame.Listed c true [] p) fs g e sign.Bar q v (want (frame.Last c hole.Predicate (implicit_of c) [] (e ∷ []) p ∷ fs)) m fit refl refl refl
-        ∙ complete_last goal fs c hole.Predicate (implicit_of c) [] (e ∷ []) p last ∙ ap (λ l. run limit goal (have fs l (raw.Bind (implicit_of c) [] (e ∷ t ∷ []) p)) rest) lv
+        ∙ complete_last goal fs c hole.Predicate (implicit_of c) [] (e ∷ []) p last ∙ ap (λ l. reach limit goal (have fs l (raw.Bind (implicit_of c) [] (e ∷ t ∷ []) p)) rest) lv
     complete_reads goal fs (lambda {p} {q} {w} {v} {s} {m} {rest} {shape} {parts} d r) b =
         begins goal fs (sign.Binder binding.Lambda) p w (shape_want (frame.Pattern false None p ∷ fs)) s (rw b refl)
         ∙ complete_pattern goal fs false p d refl refl
@@ -241,7 +242,7 @@ module _ (limit : Option ℕ) where
     -- the parts of a word
     pub complete_more : (goal : Hole) (fs : List Frame) (c : Call) (o : RawOp) (p : ℕ) {h : Hole} {many : Option ℕ} {s rest : List Item} {before parts : List Raw} →
         Parts limit h many bracket.Round before s parts rest → h ≡ call_hole c → many ≡ call_parts limit c →
-        run limit goal (want (frame.Parts c o before p ∷ fs)) s ≡ run limit goal (have fs (call_grade c) (raw.Node o parts p)) rest
+        reach limit goal (want (frame.Parts c o before p ∷ fs)) s ≡ reach limit goal (have fs (call_grade c) (raw.Node o parts p)) rest
     complete_more goal fs c o p (last_one {h} {before = before} {g} {p = q} {w} {s} {rest} {t} r fit) hs ms =
         let fit' : fits (call_hole c) g ≡ true = subst (λ k. fits k g ≡ true) hs fit in
         complete_reads goal (frame.Parts c o before p ∷ fs) r (fits_reaches (call_hole c) g fit')
@@ -255,7 +256,7 @@ module _ (limit : Option ℕ) where
     -- the members of a set
     pub complete_members : (goal : Hole) (fs : List Frame) (names : Bool) (p : ℕ) {s rest : List Item} {before members : List Raw} →
         Parts limit hole.Expression None bracket.Brace before s members rest →
-        run limit goal (want (frame.Listed binding.Set names before p ∷ fs)) s ≡ run limit goal (have fs grade.Primary (raw.Node (rawop.Plain op.SetExtension) members p)) rest
+        reach limit goal (want (frame.Listed binding.Set names before p ∷ fs)) s ≡ reach limit goal (have fs grade.Primary (raw.Node (rawop.Plain op.SetExtension) members p)) rest
     complete_members goal fs names p (last_one {before = before} {g} {p = q} {w} {s} {rest} {t} r fit) =
         complete_reads goal (frame.Listed binding.Set names before p ∷ fs) r (fits_reaches hole.Expression g fit)
         ∙ takes_sign goal (frame.Listed binding.Set names before p) fs g t (sign.Close bracket.Brace) q w (have fs grade.Primary (raw.Node (rawop.Plain op.SetExtension) (before ++ t ∷ []) p)) rest fit refl refl refl
@@ -267,7 +268,7 @@ module _ (limit : Option ℕ) where
     -- the last part of a form
     pub complete_last : (goal : Hole) (fs : List Frame) (c : Binding) (h : Hole) (b : RawBinder) (names : List RawBound) (parts : List Raw) (p : ℕ) {s rest : List Item} {t : Raw} →
         LastPart limit c h s t rest →
-        run limit goal (want (frame.Last c h b names parts p ∷ fs)) s ≡ run limit goal (have fs (binding_grade c) (raw.Bind b names (parts ++ t ∷ []) p)) rest
+        reach limit goal (want (frame.Last c h b names parts p ∷ fs)) s ≡ reach limit goal (have fs (binding_grade c) (raw.Bind b names (parts ++ t ∷ []) p)) rest
     complete_last goal fs c h b names parts p (up_to_brace {g = g} {p = q} {w} {s} {rest} {t} ends r fit) =
         complete_reads goal (frame.Last c h b names parts p ∷ fs) r (fits_reaches h g fit)
         ∙ takes_sign goal (frame.Last c h b names parts p) fs g t (sign.Close bracket.Brace) q w (have fs (binding_grade c) (raw.Bind b names (parts ++ t ∷ []) p)) rest fit refl (rw ends refl) refl
@@ -278,7 +279,7 @@ module _ (limit : Option ℕ) where
     -- what follows the names
     pub complete_body : (goal : Hole) (fs : List Frame) (c : Binding) (names : List RawBound) (p : ℕ) {s rest : List Item} {before parts : List Raw} →
         Body limit c before s parts rest →
-        run limit goal (want (body_of c names before p ∷ fs)) s ≡ run limit goal (have fs (binding_grade c) (raw.Bind (binder_of c) names parts p)) rest
+        reach limit goal (want (body_of c names before p ∷ fs)) s ≡ reach limit goal (have fs (binding_grade c) (raw.Bind (binder_of c) names parts p)) rest
     complete_body goal fs c names p (a_predicate {before = before} is r) =
         rw is (complete_last goal fs c hole.Predicate (binder_of c) names before p r)
     complete_body goal fs c names p (a_value {before = before} {g} {p = q} {w} {s} {m} {rest} {t} {e} is r fit last) =
@@ -290,7 +291,7 @@ module _ (limit : Option ℕ) where
     -- the names of a form
     pub complete_names : (goal : Hole) (fs : List Frame) (c : Binding) (p : ℕ) {s rest : List Item} {before names : List RawBound} →
         Declares limit before s names rest →
-        run limit goal (want (frame.Names c before p ∷ fs)) s ≡ run limit goal (want (body_of c names [] p ∷ fs)) rest
+        reach limit goal (want (frame.Names c before p ∷ fs)) s ≡ reach limit goal (want (body_of c names [] p ∷ fs)) rest
     complete_names goal fs c p (last_name {before} {b} {p = q} {w} {s} {rest} r) =
         complete_bound goal fs c before p (body_of c (before ++ b ∷ []) [] p) r (λ _ _. refl, refl) refl
     complete_names goal fs c p (next_name {before} {names} {b} {p = q} {w} {s} {m} {rest} r others) =
@@ -299,7 +300,7 @@ module _ (limit : Option ℕ) where
 
     pub complete_bound : (goal : Hole) (fs : List Frame) (c : Binding) (before : List RawBound) (p : ℕ) (f : Frame) {x : Symbol} {q : ℕ} {w : List ℕ} {s rest : List Item} {b : RawBound} →
         Bound limit s b (item x q w ∷ rest) → Stops x → after_names c (before ++ b ∷ []) p x ≡ Some f →
-        run limit goal (want (frame.Names c before p ∷ fs)) s ≡ run limit goal (want (f ∷ fs)) rest
+        reach limit goal (want (frame.Names c before p ∷ fs)) s ≡ reach limit goal (want (f ∷ fs)) rest
     complete_bound goal fs c before p f {x} {q} {w} {s} {rest} (bare {n} {p = pn} e) off d = name_then goal fs c before n pn q p w x f rest e off d
     complete_bound goal fs c before p f {x} {q} {w} {s} {rest} (of_type {o} {n} {w = w'} {p = pn} {q = q'} {s = s'} {t = t} e r) off d =
         name_typed goal fs c before n pn q' p w' o s' e
@@ -307,7 +308,7 @@ module _ (limit : Option ℕ) where
 
     pub complete_type : (goal : Hole) (fs : List Frame) (c : Binding) (before : List RawBound) (n : List ℕ) (pn p : ℕ) (f : Frame) {x : Symbol} {q : ℕ} {w : List ℕ} {s rest : List Item} {side : Option Raw} {t : Raw} →
         TypeOf limit side s t (item x q w ∷ rest) → Stops x → after_names c (before ++ bound n pn (Some t) ∷ []) p x ≡ Some f →
-        run limit goal (want (frame.TypeAfter c before n pn side p ∷ fs)) s ≡ run limit goal (want (f ∷ fs)) rest
+        reach limit goal (want (frame.TypeAfter c before n pn side p ∷ fs)) s ≡ reach limit goal (want (f ∷ fs)) rest
     complete_type goal fs c before n pn p f {x} {q} {w} {s} {rest} (last_side {before = side} {g} {t = t} r fit) off d =
         complete_reads goal (frame.TypeAfter c before n pn side p ∷ fs) r (fits_reaches hole.Pair g fit)
         ∙ takes_sign goal (frame.TypeAfter c before n pn side p) fs g t x q w (want (f ∷ fs)) rest fit (off.0 hole.Pair g) refl (rw (off.1, d) refl)
@@ -319,7 +320,7 @@ module _ (limit : Option ℕ) where
     -- names that may be members too
     pub complete_listed : (goal : Hole) (fs : List Frame) (c : Binding) (items : List Raw) (p : ℕ) {s rest : List Item} {before names : List RawBound} →
         bounds_of items ≡ Some before → Declares limit before s names rest →
-        run limit goal (want (frame.Listed c true items p ∷ fs)) s ≡ run limit goal (want (body_of c names [] p ∷ fs)) rest
+        reach limit goal (want (frame.Listed c true items p ∷ fs)) s ≡ reach limit goal (want (body_of c names [] p ∷ fs)) rest
     complete_listed goal fs c items p is (last_name {before} {p = q} {w} {rest = rest} (bare {n} {p = pn} e)) =
         rw e (takes_sign goal (frame.Listed c true items p) fs grade.Name (raw.Name n pn) sign.Dot q w (want (body_of c (before ++ bound n pn None ∷ []) [] p ∷ fs)) rest refl refl refl
         (rw (bounds_of-more items (raw.Name n pn) before (bound n pn None) is (bound_of-name n pn)) refl))
@@ -353,7 +354,7 @@ module _ (limit : Option ℕ) where
     -- a pattern, up to the sign behind it
     pub complete_pattern : (goal : Hole) (fs : List Frame) (inner : Bool) (p : ℕ) {before : Option Shape} {shape : Shape} {x : Symbol} {q : ℕ} {w : List ℕ} {s rest : List Item} {st : State} →
         Pattern limit before s shape (item x q w ∷ rest) → is_typing x ≡ false → after_shape fs inner shape p x ≡ Some st →
-        run limit goal (shape_want (frame.Pattern inner before p ∷ fs)) s ≡ run limit goal st rest
+        reach limit goal (shape_want (frame.Pattern inner before p ∷ fs)) s ≡ reach limit goal st rest
     complete_pattern goal fs inner p {before} {shape} {x} {q} {w} {s} {rest} {st} (last_atom {a = a} r) off e =
         complete_atom goal (frame.Pattern inner before p ∷ fs) r off ∙ rw e
     complete_pattern goal fs inner p {before} {shape} {x} {q} {w} {s} {rest} {st} (next_atom {a = a} r others) off e =
@@ -362,7 +363,7 @@ module _ (limit : Option ℕ) where
 
     pub complete_atom : (goal : Hole) (fs : List Frame) {a : Shape} {x : Symbol} {q : ℕ} {w : List ℕ} {s rest : List Item} →
         Atom limit s a (item x q w ∷ rest) → is_typing x ≡ false →
-        run limit goal (shape_want fs) s ≡ run limit goal (shape_have fs a) (item x q w ∷ rest)
+        reach limit goal (shape_want fs) s ≡ reach limit goal (shape_have fs a) (item x q w ∷ rest)
     complete_atom goal fs {a} {x} {q} {w} {s} {rest} (bare_atom {n} {p} e) off = rw (e, off) refl
     complete_atom goal fs {a} {x} {q} {w} {s} {rest} (typed_atom {g} {o} {n} {w = w'} {p} {q = q'} {s = s'} {t = t} e r fit d) off =
         rw e (complete_reads goal (frame.PatternType n p ∷ fs) r (fits_reaches hole.Arrow g fit) ∙ rw (d, fit) refl)

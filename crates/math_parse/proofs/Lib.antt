@@ -1,5 +1,7 @@
 pub mod Basics
+pub mod Reach
 pub mod Complete
+pub mod Runs
 pub mod Sound
 pub mod Place
 pub mod Words

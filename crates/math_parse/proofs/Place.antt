@@ -37,7 +37,8 @@ use Rattle.std.proofs.Common.{length, take, drop, length-append, length-drop, ta
 use Rattle.std.proofs.Math.Seq.{take-append-add}
 use Rattle.math_parse.specs.Faults.{IsUnexpected}
 use Rattle.math_parse.proofs.Basics.{name_of-name, both, fits_reaches, rank_most, level_rank, left_most, reached, name_reaches, group_fits}
-use Rattle.math_parse.proofs.Complete.{Stops, goes, attach_infix, suffix_closes, ends_finished, takes_sign, complete_reads}
+use Rattle.math_parse.proofs.Complete.{Stops, attach_infix, suffix_closes}
+use Rattle.math_parse.proofs.Runs.{goes, ends_finished, takes_sign, complete_reads}
 use Rattle.math_parse.proofs.Sound.{NameRead, name_read, read_name, not_name, call_low, binding_low, grouped_low, prefix_low, fits_name, closed_set, ways, reads_formula, room_top, Spelled, nothing, left_side, operand, group_open, parts_so_far, suffix_open, names_so_far, type_so_far, listed_so_far, given_so_far, last_so_far, pattern_so_far, inner_so_far, pattern_type, Sound, wanting, having, word_read, pattern_wanted, pattern_named, pattern_read, sound_step, sound_run, option_ways}
 
 -- a place for predicates alone, or for expressions alone

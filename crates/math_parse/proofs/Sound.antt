@@ -27,9 +27,9 @@ use Rattle.math_grammar.specs.declared.levels.Binding.TheVariants as binding
 use Rattle.math_grammar.specs.declared.symbols.Symbol.{Symbol}
 use Rattle.math_grammar.specs.declared.symbols.Symbol.TheVariants as sign
 use Rattle.math_grammar.specs.declared.shapes.Shape.{Shape}
-use Rattle.math_grammar.specs.Levels.{rank, typed, level, prefix_of, right_of, takes_left, reaches, fits, inside, grouped, suffixes, goes_on, infix_of, suffix_of, opens, is_typing, is_declaration, prefix_grade, prefix_op, call_hole, call_grade, call_parts, has_room, binding_grade, binder_of, is_quantified, takes_names, takes_shape, is_closed}
+use Rattle.math_grammar.specs.Levels.{rank, typed, level, prefix_of, right_of, takes_left, reaches, fits, inside, grouped, suffixes, goes_on, infix_of, suffix_of, opens, is_typing, is_declaration, prefix_hole, prefix_grade, prefix_op, call_hole, call_grade, call_parts, has_room, binding_grade, binder_of, is_quantified, takes_names, takes_shape, is_closed}
 use Rattle.math_grammar.specs.Tokens.{Item}
-use Rattle.math_grammar.specs.Grammar.{item, bound, between, lone, joined, Reads, a_name, a_number, a_truth, a_constant, prefixed, two_sides, in_parentheses, called, applied, converted, set_by_members, by_names, by_shape, lambda, Parts, last_one, next_one, TypeOf, last_side, first_side, Bound, bare, of_type, Declares, last_name, next_name, Body, a_predicate, a_value, LastPart, up_to_brace, reaching, Pattern, last_atom, next_atom, Atom, bare_atom, typed_atom, grouped_atom, Spells}
+use Rattle.math_grammar.specs.Grammar.{item, bound, between, lone, joined, Ends, Reads, a_name, a_number, a_truth, a_constant, prefixed, two_sides, in_parentheses, called, applied, converted, set_by_members, by_names, by_shape, lambda, Parts, last_one, next_one, TypeOf, last_side, first_side, Bound, bare, of_type, Declares, last_name, next_name, Body, a_predicate, a_value, LastPart, up_to_brace, reaching, Pattern, last_atom, next_atom, Atom, bare_atom, typed_atom, grouped_atom, Spells}
 use Rattle.math_parse.specs.declared.frames.Frame.{Frame}
 use Rattle.math_parse.specs.declared.frames.Frame.TheVariants as frame
 use Rattle.math_parse.specs.Machine.{hole_of, place, State, want, have, calling, shape_want, shape_name, shape_have, only_if, name_of, typed_name_of, bound_of, bounds_of, body_of, begin, extend, finished, after_name, after_type, type_next, shape_next, after_member, after_shape, shape_step, closed, after_form, attach, begin_shape, call_word, step, complete, ended, found, run}
@@ -630,39 +630,50 @@ module _ (limit : Option ℕ) where
   sound_step goal st x new (pattern_named {fs} {inner} {outer} {n} {p} {q} sp named) e = sound_named goal inner outer q fs n p x.from x.text x.symbol new sp named e
   sound_step goal st x new (pattern_read {fs} {inner} {outer} {a} {q} sp r) e = sound_shape goal inner outer q fs a x.symbol new sp r e
 
-  pub sound_complete : (goal : Hole) {s0 m : List Item} (fs : List Frame) (g : Grade) (t u : Raw) →
-      Spelled goal s0 fs m → Reads limit g m t [] → complete goal fs g t ≡ Some u → Spells limit goal s0 u
-  sound_complete goal {s0} fs g t u nothing r e =
-      elim (chosen (fits goal g) e) [ inl y ↦ (let e' : t ≡ u = cc in subst (λ v. Spells limit goal s0 v) e' (record { g = g; reads = r; fit = y.0 })) | inr n ↦ cc ]
-  sound_complete goal (f ∷ fs) g t u (left_side {k = k} {o = o} {a = a} sp room left is takes lv) r e =
-      let w = complete_ways goal f fs g t u e in sound_complete goal fs k (between o a t) u sp (two_sides left is takes r w.0 tt lv) w.1
-  sound_complete goal (f ∷ fs) g t u (operand {q = o} {p = p} sp room is) r e =
-      let w = complete_ways goal f fs g t u e in sound_complete goal fs (prefix_grade o) (raw.Node (prefix_op o) (t ∷ []) p) u sp (prefixed is r w.0 tt refl) w.1
-  sound_complete goal (f ∷ fs) g t u (last_so_far {c = c} {b = b} {names = names} {parts = parts} {p = p} sp room sort k) r e =
+  -- the formula is complete before the tokens that are left
+  pub record IsComplete (goal : Hole) (s0 : List Item) (u : Raw) (rest : List Item) : Type 0 where
+    pub g : Grade
+    pub reads : Reads limit g s0 u rest
+    pub fit : fits goal g ≡ true
+
+  -- where nothing goes on
+  sound_complete : (goal : Hole) {s0 m rest : List Item} (fs : List Frame) (g : Grade) (t u : Raw) → ((h : Hole) (k : Grade) → Ends h k rest) →
+      Spelled goal s0 fs m → Reads limit g m t rest → complete goal fs g t ≡ Some u → IsComplete goal s0 u rest
+  sound_complete goal {s0} {rest = rest} fs g t u off nothing r e =
+      elim (chosen (fits goal g) e) [ inl y ↦ (let e' : t ≡ u = cc in subst (λ v. IsComplete goal s0 v rest) e' (record { g = g; reads = r; fit = y.0 })) | inr n ↦ cc ]
+  sound_complete goal (f ∷ fs) g t u off (left_side {k = k} {l = l} {o = o} {a = a} sp room left is takes lv) r e =
+      let w = complete_ways goal f fs g t u e in sound_complete goal fs k (between o a t) u off sp (two_sides left is takes r w.0 (off (right_of l) g) lv) w.1
+  sound_complete goal (f ∷ fs) g t u off (operand {q = o} {p = p} sp room is) r e =
+      let w = complete_ways goal f fs g t u e in sound_complete goal fs (prefix_grade o) (raw.Node (prefix_op o) (t ∷ []) p) u off sp (prefixed is r w.0 (off (prefix_hole o) g) refl) w.1
+  sound_complete goal (f ∷ fs) g t u off (last_so_far {c = c} {h = h} {b = b} {names = names} {parts = parts} {p = p} sp room sort k) r e =
       elim (ways (is_closed c)) [
         | inl yes' ↦ unfinished goal f fs g t u (rw yes' refl) e
         | inr no' ↦ (
             let w = complete_ways goal f fs g t u e in
-            sound_complete goal fs (binding_grade c) (raw.Bind b names (parts ++ t ∷ []) p) u sp (k t _ (reaching no' r w.0 tt)) (rw no' at w.1))
+            sound_complete goal fs (binding_grade c) (raw.Bind b names (parts ++ t ∷ []) p) u off sp (k t _ (reaching no' r w.0 (off h g))) (rw no' at w.1))
       ]
-  sound_complete goal (f ∷ fs) g t u (group_open sp room i) r e = unfinished goal f fs g t u refl e
-  sound_complete goal (f ∷ fs) g t u (parts_so_far sp room k) r e = unfinished goal f fs g t u refl e
-  sound_complete goal (f ∷ fs) g t u (suffix_open sp room left is ready) r e = unfinished goal f fs g t u refl e
-  sound_complete goal (f ∷ fs) g t u (names_so_far sp room is takes k) r e = unfinished goal f fs g t u refl e
-  sound_complete goal (f ∷ fs) g t u (type_so_far sp room is takes k kt) r e = unfinished goal f fs g t u refl e
-  sound_complete goal (f ∷ fs) g t u (listed_so_far sp room is takes kp kn first none) r e = unfinished goal f fs g t u refl e
-  sound_complete goal (f ∷ fs) g t u (given_so_far sp room is k) r e = unfinished goal f fs g t u refl e
-  sound_complete goal (f ∷ fs) g t u (pattern_so_far sp room k) r e = unfinished goal f fs g t u refl e
-  sound_complete goal (f ∷ fs) g t u (inner_so_far sp k) r e = unfinished goal f fs g t u refl e
-  sound_complete goal (f ∷ fs) g t u (pattern_type sp named) r e = unfinished goal f fs g t u refl e
+  sound_complete goal (f ∷ fs) g t u off (group_open sp room i) r e = unfinished goal f fs g t u refl e
+  sound_complete goal (f ∷ fs) g t u off (parts_so_far sp room k) r e = unfinished goal f fs g t u refl e
+  sound_complete goal (f ∷ fs) g t u off (suffix_open sp room left is ready) r e = unfinished goal f fs g t u refl e
+  sound_complete goal (f ∷ fs) g t u off (names_so_far sp room is takes k) r e = unfinished goal f fs g t u refl e
+  sound_complete goal (f ∷ fs) g t u off (type_so_far sp room is takes k kt) r e = unfinished goal f fs g t u refl e
+  sound_complete goal (f ∷ fs) g t u off (listed_so_far sp room is takes kp kn first none) r e = unfinished goal f fs g t u refl e
+  sound_complete goal (f ∷ fs) g t u off (given_so_far sp room is k) r e = unfinished goal f fs g t u refl e
+  sound_complete goal (f ∷ fs) g t u off (pattern_so_far sp room k) r e = unfinished goal f fs g t u refl e
+  sound_complete goal (f ∷ fs) g t u off (inner_so_far sp k) r e = unfinished goal f fs g t u refl e
+  sound_complete goal (f ∷ fs) g t u off (pattern_type sp named) r e = unfinished goal f fs g t u refl e
+
+  pub sound_stop : (goal : Hole) {s0 rest : List Item} (st : State) (u : Raw) → ((h : Hole) (k : Grade) → Ends h k rest) →
+      Sound goal s0 st rest → ended goal st ≡ Some u → IsComplete goal s0 u rest
+  sound_stop goal st u off (having {fs} {g} {t} top sp room r) e = sound_complete goal fs g t u off sp r e
+  sound_stop goal st u off (wanting top sp) e = cc
+  sound_stop goal st u off (word_read sp room) e = cc
+  sound_stop goal st u off (pattern_wanted sp) e = cc
+  sound_stop goal st u off (pattern_named sp named) e = cc
+  sound_stop goal st u off (pattern_read sp r) e = cc
 
   pub sound_end : (goal : Hole) {s0 : List Item} (st : State) (u : Raw) → Sound goal s0 st [] → ended goal st ≡ Some u → Spells limit goal s0 u
-  sound_end goal st u (having {fs} {g} {t} top sp room r) e = sound_complete goal fs g t u sp r e
-  sound_end goal st u (wanting top sp) e = cc
-  sound_end goal st u (word_read sp room) e = cc
-  sound_end goal st u (pattern_wanted sp) e = cc
-  sound_end goal st u (pattern_named sp named) e = cc
-  sound_end goal st u (pattern_read sp r) e = cc
+  sound_end goal st u ok e = let w = sound_stop goal st u (λ _ _. tt) ok e in record { g = w.g; reads = w.reads; fit = w.fit }
 
   pub sound_run : (goal : Hole) {s0 : List Item} (st : State) (rest : List Item) (u : Raw) →
       Sound goal s0 st rest → run limit goal st rest ≡ found u → Spells limit goal s0 u

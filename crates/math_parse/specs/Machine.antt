@@ -1,5 +1,6 @@
 -- The parser, as a function on the tokens: a stack of unfinished forms, and what it wants or holds.
-use Rattle.std.specs.Prelude.{ℕ, List, [], ◌∷◌, ◌++◌, Bool, true, false, ◌&&◌, cond, Option, Some, None, option_and_then, fold, length}
+use Rattle.std.specs.Prelude.{ℕ, List, [], ◌∷◌, ◌++◌, Bool, true, false, not, ◌&&◌, cond, Option, Some, None, option_and_then, fold, length}
+use Rattle.std.specs.List.{list_all}
 use Rattle.std.specs.Option.{option_map_or}
 use Rattle.formula_core.specs.Names.{is_name}
 use Rattle.formula_core.specs.declared.op.Op.TheVariants as op
@@ -278,6 +279,18 @@ complete goal (f ∷ fs) g t =
 abbrev pub ended : Hole → State → Option Raw
 ended goal (have fs g t) = complete goal fs g t
 ended goal _ = None
+
+-- the form ends with its last part, without a sign
+abbrev pub is_open_ended : Frame → Bool
+is_open_ended (Between o l k a) = true
+is_open_ended (Prefixed q p) = true
+is_open_ended (Last c h b names parts p) = not (is_closed c)
+is_open_ended _ = false
+
+-- a formula is held, and no unfinished form waits for a sign
+abbrev pub is_ready : State → Bool
+is_ready (have fs g t) = list_all is_open_ended fs
+is_ready _ = false
 
 -- what comes of a list of tokens: the tree, or the tokens from the first one on that isn't taken
 pub data Outcome : Type 0 where

@@ -18,7 +18,7 @@ use std::alloc::Global;
 
 /// The name that the bytes are.
 #[tactic(auto, using(crate::proofs::Words::no_name))]
-fn read_name(alloc: Global, word: &[u8]) -> Result<Option<Name>, OutOfMemory>
+pub fn read_name(alloc: Global, word: &[u8]) -> Result<Option<Name>, OutOfMemory>
     ensures { IfOk result (λ read. IsRead read word.now) }
 {
     let Ok(text) = std::str::from_utf8(word) else {

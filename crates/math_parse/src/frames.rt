@@ -1,8 +1,8 @@
 //! The forms that aren't complete.
 
 ghost use Rattle.std.specs.Prelude.{◌≡◌, ◌∷◌, [], Some, OnOk, IfSome, IfNone};
-ghost use Rattle.math_parse.specs.Machine.{hole_of, place, want, have, only_if};
-ghost use Rattle.math_parse.specs.View.{forms, Steps};
+ghost use Rattle.math_parse.specs.Machine.{hole_of, place, want, have, only_if, is_open_ended, is_ready};
+ghost use Rattle.math_parse.specs.View.{forms, state_of, Steps};
 
 use crate::fault::StepFault;
 use formula_core::{List, Name, Raw, RawBinder, RawBound, RawOp};
@@ -85,6 +85,27 @@ pub fn place(goal: Hole, stack: &Vec<Frame>) -> Hole
     match stack.last() {
         None => goal,
         Some(frame) => hole_of(frame),
+    }
+}
+
+/// Whether the form ends with its last part, without a sign.
+fn is_open_ended(frame: &Frame) -> bool
+    ensures { result ≡ is_open_ended frame.now }
+{
+    match frame {
+        Frame::Between(_, _, _, _) | Frame::Prefixed(_, _) => true,
+        Frame::Last(binding, _, _, _, _, _) => !binding.is_closed(),
+        _ => false,
+    }
+}
+
+/// Whether a formula is held, and no unfinished form waits for a sign.
+pub fn is_ready(phase: &Phase) -> bool
+    ensures { result ≡ is_ready (state_of phase.now) }
+{
+    match phase {
+        Phase::Have(stack, _, _) => stack.iter().rev().all(is_open_ended),
+        _ => false,
     }
 }
 

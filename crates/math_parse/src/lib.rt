@@ -13,6 +13,9 @@ mod parse;
 #[cfg(test)]
 mod tests;
 
-pub use fault::ParseFault;
+pub use begin::read_name;
+pub use fault::{ParseFault, StepFault};
+pub use frames::{Frame, Phase, is_ready};
 pub use laws::{formula_or_fault, one_fault, one_formula};
-pub use parse::{expression, predicate};
+pub use machine::{end, step};
+pub use parse::{bytes_of, expression, is_full, open_after, passes, predicate};

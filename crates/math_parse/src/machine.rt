@@ -163,7 +163,7 @@ pub fn step(
     }
 }
 
-/// The formula at the end of the tokens.
+/// The formula, if it completes each form on the stack.
 fn complete(
     alloc: Global,
     goal: Hole,
@@ -194,6 +194,7 @@ fn complete(
     }
 }
 
+/// The formula at the end of the tokens.
 pub fn end(alloc: Global, goal: Hole, phase: Phase) -> Result<Raw, StepFault>
     ensures { Completes result (ended goal (state_of phase)) }
 {

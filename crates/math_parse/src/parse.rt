@@ -28,7 +28,7 @@ const MOST_PARTS: usize = 25;
 
 /// The bytes of a token.
 #[tactic(auto, using(crate::proofs::Slices::part_within))]
-fn bytes_of<'a>(text: &'a str, token: &Token) -> &'a [u8]
+pub fn bytes_of<'a>(text: &'a str, token: &Token) -> &'a [u8]
     ensures { result.now ≡ bytes_of text.now token.now }
 {
     let bytes = text.as_bytes();
@@ -38,13 +38,14 @@ fn bytes_of<'a>(text: &'a str, token: &Token) -> &'a [u8]
 }
 
 /// Whether the token passes the limit of tokens or of open brackets.
-fn passes(index: usize, depth: usize, symbol: Symbol) -> bool
+pub fn passes(index: usize, depth: usize, symbol: Symbol) -> bool
     ensures { result ≡ passes index depth symbol }
 {
     MOST_TOKENS <= index || (matches!(symbol, Symbol::Open(_)) && MOST_OPEN <= depth)
 }
 
-fn open_after(depth: usize, symbol: Symbol) -> usize
+/// How many brackets are open behind the token.
+pub fn open_after(depth: usize, symbol: Symbol) -> usize
     requires { depth < 2 ^ 32 }
     ensures { result ≡ open_after depth symbol }
 {
@@ -56,7 +57,7 @@ fn open_after(depth: usize, symbol: Symbol) -> usize
 }
 
 /// Whether a part of a partition is wanted behind the last one allowed.
-fn is_full(phase: &Phase) -> bool
+pub fn is_full(phase: &Phase) -> bool
     ensures { result ≡ is_full (state_of phase.now) }
 {
     let Phase::Want(stack) = phase else {

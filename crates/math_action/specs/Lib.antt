@@ -1,0 +1,5 @@
+pub mod Machine
+pub mod Faults
+pub mod Limits
+pub mod Reading
+pub mod View
