@@ -1,12 +1,13 @@
 -- What becomes of a formula at a sign that goes on with nothing.
-use Rattle.std.proofs.Common.{◌≡◌, ℕ, List, [], ◌∷◌, ◌++◌, Bool, true, false, not, ◌&&◌, cond, Option, Some, None, refl, sym, ◌∙◌}
+use Rattle.std.proofs.Common.{◌≡◌, ℕ, List, [], ◌∷◌, ◌++◌, Bool, true, false, not, ◌&&◌, cond, Option, Some, None, inl, inr, refl, ap, sym, ◌∙◌}
 use Rattle.std.specs.Prelude.{option_and_then}
 use Rattle.std.specs.List.{list_all}
 use Rattle.formula_core.specs.declared.raw.Raw.{Raw}
+use Rattle.formula_core.specs.declared.raw.Raw.TheVariants as raw
 use Rattle.math_grammar.specs.declared.holes.Grade.{Grade}
 use Rattle.math_grammar.specs.declared.holes.Hole.{Hole}
 use Rattle.math_grammar.specs.declared.symbols.Symbol.{Symbol}
-use Rattle.math_grammar.specs.Levels.{reaches, fits, goes_on, is_closed}
+use Rattle.math_grammar.specs.Levels.{reaches, fits, goes_on, binding_grade, is_closed}
 use Rattle.math_grammar.specs.Tokens.{Item}
 use Rattle.math_grammar.specs.Grammar.{item, Reads, Spells}
 use Rattle.math_parse.specs.declared.frames.Frame.{Frame}
@@ -29,7 +30,7 @@ either_way false x = refl
 open_finished : (f : Frame) (t : Raw) → is_open_ended f ≡ true → (done : Grade × Raw) × (finished f t ≡ Some done)
 open_finished (frame.Between o l k a) t e = (_, refl)
 open_finished (frame.Prefixed q p) t e = (_, refl)
-open_finished (frame.Last c h b names parts p) t e = elim (ways (is_closed c)) [ inl closes ↦ (let e' = rw closes at e in cc) | inr on ↦ (_, rw on refl) ]
+open_finished (frame.Last c h b names parts p) t e = elim (ways (is_closed c)) [ inl closes ↦ (let e' = rw closes at e in cc) | inr on ↦ ((binding_grade c, raw.Bind b names (parts ++ t ∷ []) p), rw on refl) ]
 open_finished _ t e = cc
 
 -- what needs a sign

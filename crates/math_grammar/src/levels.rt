@@ -7,7 +7,7 @@ use crate::holes::{Grade, Hole};
 use formula_core::{Binder, Op, RawBinder, RawOp};
 
 /// The levels of the operators between two operands, loosest first.
-#[derive(Clone, Copy)]
+#[derive(Clone, Copy, Debug)]
 pub enum Level {
     Implication,
     Conjunction,
@@ -24,13 +24,13 @@ pub enum Level {
 }
 
 /// The operators before one operand.
-#[derive(Clone, Copy)]
+#[derive(Clone, Copy, Debug)]
 pub enum Prefix {
     Not,
     Minus,
 }
 
-#[derive(Clone, Copy)]
+#[derive(Clone, Copy, Debug)]
 pub enum Bracket {
     Round,
     Square,
@@ -38,7 +38,7 @@ pub enum Bracket {
 }
 
 /// The words that take their parts in parentheses.
-#[derive(Clone, Copy)]
+#[derive(Clone, Copy, Debug)]
 pub enum Call {
     Finite,
     Partition,
@@ -47,7 +47,7 @@ pub enum Call {
 }
 
 /// The forms that bind names.
-#[derive(Clone, Copy)]
+#[derive(Clone, Copy, Debug)]
 pub enum Binding {
     /// In braces.
     Set,

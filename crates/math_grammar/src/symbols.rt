@@ -8,7 +8,7 @@ use crate::levels::{Binding, Bracket, Call, Level, Prefix};
 use formula_core::{Binder, Op, RawOp};
 
 /// What a token is to the grammar.
-#[derive(Clone, Copy)]
+#[derive(Clone, Copy, Debug)]
 pub enum Symbol {
     /// A word without a meaning of its own: a name, unless it is reserved.
     Word,

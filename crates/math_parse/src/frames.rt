@@ -1,6 +1,7 @@
 //! The forms that aren't complete.
 
 ghost use Rattle.std.specs.Prelude.{◌≡◌, ◌∷◌, [], Some, OnOk, IfSome, IfNone};
+ghost use Rattle.std.specs.List.{list_all};
 ghost use Rattle.math_parse.specs.Machine.{hole_of, place, want, have, only_if, is_open_ended, is_ready};
 ghost use Rattle.math_parse.specs.View.{forms, state_of, Steps};
 
@@ -99,12 +100,18 @@ fn is_open_ended(frame: &Frame) -> bool
     }
 }
 
+fn all_open_ended(stack: &Vec<Frame>) -> bool
+    ensures { result ≡ list_all is_open_ended (forms stack.now.items) }
+{
+    stack.iter().rev().all(|frame| is_open_ended(frame))
+}
+
 /// Whether a formula is held, and no unfinished form waits for a sign.
 pub fn is_ready(phase: &Phase) -> bool
     ensures { result ≡ is_ready (state_of phase.now) }
 {
     match phase {
-        Phase::Have(stack, _, _) => stack.iter().rev().all(is_open_ended),
+        Phase::Have(stack, _, _) => all_open_ended(stack),
         _ => false,
     }
 }

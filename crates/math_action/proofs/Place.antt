@@ -1,0 +1,179 @@
+-- The place of the fault: what was read goes on to an action, and the next token doesn't.
+use Rattle.std.proofs.Common.{◌≡◌, ℕ, zero, suc, ◌+◌, ◌-◌, ◌<◌, ◌≤◌, List, [], ◌∷◌, ◌++◌, Bool, true, false, cond, Option, Some, None, inl, inr, refl, ap, sym, ◌∙◌, subst, arith, length, take, drop, length-append, length-drop, take_at, append_assoc, append-nil, nat_lt}
+use Rattle.std.specs.Prelude.{nat_eq}
+use Rattle.std.proofs.lemmas.Bool.Decides.{nat_tests}
+use Rattle.std.proofs.Math.Seq.{take-append-add}
+use Rattle.formula_core.specs.declared.op.Op.TheVariants as op
+use Rattle.formula_core.specs.declared.raw.Raw.{Raw}
+use Rattle.formula_core.specs.declared.raw.Raw.TheVariants as raw
+use Rattle.formula_core.specs.declared.raw.Ref.{Ref}
+use Rattle.formula_core.specs.declared.raw.RawAction.{RawAction}
+use Rattle.formula_core.specs.declared.raw.RawAction.TheVariants as action
+use Rattle.math_grammar.specs.declared.holes.Hole.{Hole}
+use Rattle.math_grammar.specs.declared.holes.Hole.TheVariants as hole
+use Rattle.math_grammar.specs.declared.levels.Bracket.TheVariants as bracket
+use Rattle.math_grammar.specs.declared.symbols.Symbol.TheVariants as sign
+use Rattle.math_grammar.specs.Tokens.{Item}
+use Rattle.math_grammar.specs.Grammar.{item}
+use Rattle.math_grammar.specs.Actions.{SpellsAction, BeginsAction}
+use Rattle.math_parse.specs.Machine.{State, want}
+use Rattle.math_parse.specs.Machine as formulas
+use Rattle.math_parse.proofs.Reach.{Stop, stop, reach, outcome, run_reaches}
+use Rattle.math_parse.proofs.Place as places
+use Rattle.math_parse.proofs.Sound as sounds
+use Rattle.math_action.specs.Faults.{IsUnexpectedInAction}
+use Rattle.math_action.specs.declared.stages.Head.{Head}
+use Rattle.math_action.specs.declared.stages.Head.TheVariants as head
+use Rattle.math_action.specs.Machine.{ActionState, target, named, formula, applied, goal_of, action_step, action_ended, found, refused, action_run}
+use Rattle.math_action.proofs.Formulas.{stops_before}
+use Rattle.math_action.proofs.Complete.{after_stop, formula_run, complete_action}
+use Rattle.math_action.proofs.Sound.{Headed, assigning, opening, applying, choosing_in, choosing_such, Sound, wanting, holding, reading, argued, sound_step, sound_run, sound_start}
+
+-- the name a
+abbrev a_word : List ℕ
+a_word = 97 ∷ []
+
+abbrev a_name : Item
+a_name = item sign.Word 0 a_word
+
+abbrev a_truth : Item
+a_truth = item (sign.Truth op.Top) 0 []
+
+outcome_found : (z : Stop) (t : Raw) → outcome z ≡ formulas.found t → z ≡ stop (Some t) []
+outcome_found (stop None []) t e = cc
+outcome_found (stop (Some u) []) t e = let same : u ≡ t = cc in ap (λ v. stop (Some v) []) same
+outcome_found (stop o (x ∷ rest)) t e = cc
+
+-- a comma and a name for each expression that is owed
+abbrev owed : ℕ → List Item
+owed zero = []
+owed (suc k) = item sign.Comma 0 [] ∷ a_name ∷ owed k
+
+module _ (limit : Option ℕ) where
+  abbrev pub Leads : ActionState → Type 0
+  Leads st = (more : List Item) × (a : RawAction) × (action_run limit st more ≡ found a)
+
+  -- a formula that can be completed
+  record IsCompletable (goal : Hole) (st : State) : Type 0 where
+    more : List Item
+    tree : Raw
+    stops : reach limit goal st more ≡ stop (Some tree) []
+
+  completable : (goal : Hole) {s0 rest : List Item} (st : State) → sounds.Sound limit goal s0 st rest → IsCompletable goal st
+  completable goal st ok =
+      let a : places.Leads limit goal st = places.alive limit goal ok in
+      record { more = a.0; tree = a.1; stops = outcome_found (reach limit goal st a.0) a.1 (sym (run_reaches limit goal st a.0) ∙ a.2) }
+
+  name_stops : reach limit hole.Expression (want []) (a_name ∷ []) ≡ stop (Some (raw.Name a_word 0)) []
+  name_stops = refl
+
+  -- the expressions that are owed
+  pays : (targets : List Ref) (k : ℕ) (before : List Raw) (st : State) (s : List Item) (t : Raw) → reach limit hole.Expression st s ≡ stop (Some t) [] →
+      length before + suc k ≡ length targets → (a : RawAction) × (action_run limit (formula (head.Assign targets before) st) (s ++ owed k) ≡ found a)
+  pays targets zero before st s t e size =
+      let full : nat_eq (length targets) (length (before ++ t ∷ [])) ≡ true = (let l = length-append before (t ∷ []) in grind (arith, nat_tests)) in (
+        action.Assign targets (before ++ t ∷ []),
+        ap (action_run limit (formula (head.Assign targets before) st)) (append-nil s)
+            ∙ formula_run limit (head.Assign targets before) st s ∙ ap (after_stop limit (head.Assign targets before)) e ∙ rw full refl,
+      )
+  pays targets (suc k) before st s t e size =
+      let l : length (before ++ t ∷ []) ≡ suc (length before) = omega (arith, length-append before (t ∷ [])) in
+      let more : nat_lt (length (before ++ t ∷ [])) (length targets) ≡ true = grind (arith, nat_tests) in
+      let others = pays targets k (before ++ t ∷ []) (want []) (a_name ∷ []) (raw.Name a_word 0) name_stops (omega (arith, l)) in (
+        others.0,
+        formula_run limit (head.Assign targets before) st (s ++ owed (suc k))
+            ∙ ap (after_stop limit (head.Assign targets before)) (stops_before limit hole.Expression st s t (item sign.Comma 0 []) (a_name ∷ owed k) (λ _ _. refl) e)
+            ∙ rw more others.1,
+      )
+
+  alive_formula : {s0 m : List Item} (h : Head) (st : State) → Headed limit s0 h m → IsCompletable (goal_of h) st → Leads (formula h st)
+  alive_formula (head.Assign targets before) st (assigning less k) c =
+      let p = pays targets (length targets - suc (length before)) before st c.more c.tree c.stops (omega (arith, less)) in
+      (c.more ++ owed (length targets - suc (length before)), p.0, p.1)
+  alive_formula (head.Argument r) st hd c = (
+    c.more ++ item (sign.Close bracket.Round) 0 [] ∷ item sign.Becomes 0 [] ∷ a_name ∷ [],
+    action.Apply r c.tree (raw.Name a_word 0),
+    formula_run limit (head.Argument r) st (c.more ++ item (sign.Close bracket.Round) 0 [] ∷ item sign.Becomes 0 [] ∷ a_name ∷ [])
+        ∙ ap (after_stop limit (head.Argument r)) (stops_before limit hole.Expression st c.more c.tree (item (sign.Close bracket.Round) 0 []) (item sign.Becomes 0 [] ∷ a_name ∷ []) (λ _ _. refl) c.stops),
+  )
+  alive_formula (head.Apply r a) st hd c =
+      (c.more, action.Apply r a c.tree, formula_run limit (head.Apply r a) st c.more ∙ ap (after_stop limit (head.Apply r a)) c.stops)
+  alive_formula (head.ChooseIn r) st hd c =
+      (c.more, action.ChooseIn r c.tree, formula_run limit (head.ChooseIn r) st c.more ∙ ap (after_stop limit (head.ChooseIn r)) c.stops)
+  alive_formula (head.ChooseSuch targets) st hd c =
+      (c.more, action.ChooseSuch targets c.tree, formula_run limit (head.ChooseSuch targets) st c.more ∙ ap (after_stop limit (head.ChooseSuch targets)) c.stops)
+
+  -- from each state that is met an action can be reached
+  pub alive : {s0 rest : List Item} {st : ActionState} → Sound limit s0 st rest → Leads st
+  alive (wanting {before} k first) = (a_name ∷ item sign.BecomesSuch 0 [] ∷ a_truth ∷ [], _, refl)
+  alive (holding {before} {n} {p} is k first) = (item sign.BecomesSuch 0 [] ∷ a_truth ∷ [], _, refl)
+  alive (reading {h} {st} hd ok) = alive_formula h st hd (completable (goal_of h) st ok)
+  alive (argued {n} {p = p} {a = a} is whole_is reads fit) = (item sign.Becomes 0 [] ∷ a_name ∷ [], _, refl)
+
+  -- where the run stops: what it read leads to a state that refuses the next token, whatever follows it
+  pub record Halts (s0 : List Item) (start : ActionState) (s rest : List Item) : Type 0 where
+    pub read : List Item
+    pub whole : s ≡ read ++ rest
+    pub st : ActionState
+    pub sound : Sound limit s0 st rest
+    pub same : (more : List Item) → action_run limit start (read ++ more) ≡ action_run limit st more
+    pub refuses : (a : RawAction) (more : List Item) → action_run limit st (take 1 rest ++ more) ≡ found a → 0 < length rest → ⊥
+
+  pub halts : {s0 : List Item} (start : ActionState) (s rest : List Item) → Sound limit s0 start s → action_run limit start s ≡ refused rest → Halts s0 start s rest
+  halts {s0} start [] rest ok e =
+      let none : [] ≡ rest = elim (sounds.option_ways (action_ended start) e) [ inl w ↦ cc | inr n ↦ cc ] in
+      record { read = []; whole = none; st = start; sound = subst (λ r. Sound limit s0 start r) none ok; same = λ more. refl; refuses = λ a more _ b. absurd (omega (arith, ap length none)) }
+  halts {s0} start (x ∷ s) rest ok e =
+      elim (sounds.option_ways (action_step limit start x) e) [
+        | inl w ↦ (
+            let next : Halts s0 w.0 s rest = halts w.0 s rest (sound_step limit start x w.0 ok w.1) w.2 in
+            record {
+              read = x ∷ next.read;
+              whole = ap (λ r. x ∷ r) next.whole;
+              st = next.st;
+              sound = next.sound;
+              same = λ more. rw w.1 (next.same more);
+              refuses = next.refuses;
+            })
+        | inr n ↦ (
+            let here : x ∷ s ≡ rest = cc in
+            record {
+              read = [];
+              whole = here;
+              st = start;
+              sound = subst (λ r. Sound limit s0 start r) here ok;
+              same = λ more. refl;
+              refuses = λ a more f b. (let f' : action_run limit start (x ∷ more) ≡ found a = rw (← here) at f in let n' : action_step limit start x ≡ None = n.0 in elim (sounds.option_ways (action_step limit start x) f') [ inl v ↦ cc | inr v ↦ cc ]);
+            })
+      ]
+
+  -- an action is found
+  pub found_action : (s : List Item) (a : RawAction) → SpellsAction limit s a → action_run limit (target []) s ≡ found a
+  found_action s a r = complete_action limit r
+
+  -- what is found is an action
+  pub action_found : (s : List Item) (a : RawAction) → action_run limit (target []) s ≡ found a → SpellsAction limit s a
+  action_found s a e = sound_run limit (target []) s a (sound_start limit s) e
+
+  pub unexpected : (s : List Item) (i : ℕ) → i ≤ length s → action_run limit (target []) s ≡ refused (drop i s) → IsUnexpectedInAction limit s i
+  unexpected s i short e =
+      let stop : Halts s (target []) s (drop i s) = halts (target []) s (drop i s) (sound_start limit s) e in
+      let a : Leads stop.st = alive stop.sound in
+      let rest : length (drop i s) ≡ length s - i = length-drop i s in
+      let size : length stop.read ≡ i = omega (arith, rest, length-append stop.read (drop i s), ap length stop.whole) in
+      let front : take i s ≡ stop.read = ap (λ l. take i l) stop.whole ∙ take_at stop.read (drop i s) i size in
+      let longer : take (i + 1) s ≡ stop.read ++ take 1 (drop i s) =
+      ap (λ l. take (i + 1) l) stop.whole ∙ ap (λ n. take (n + 1) (stop.read ++ drop i s)) (sym size) ∙ take-append-add stop.read (drop i s) 1 in
+      record {
+        before = (a.0, a.1, action_found (take i s ++ a.0) a.1 (rw front (stop.same a.0 ∙ a.2)));
+        there = λ inside c. (
+            let f : action_run limit (target []) (take (i + 1) s ++ c.0) ≡ found c.1 = found_action (take (i + 1) s ++ c.0) c.1 c.2 in
+            let same : action_run limit (target []) ((stop.read ++ take 1 (drop i s)) ++ c.0) ≡ action_run limit stop.st (take 1 (drop i s) ++ c.0) =
+            ap (λ l. action_run limit (target []) l) (append_assoc stop.read (take 1 (drop i s)) c.0) ∙ stop.same (take 1 (drop i s) ++ c.0) in
+            stop.refuses c.1 c.0 (sym same ∙ ap (λ l. action_run limit (target []) (l ++ c.0)) (sym longer) ∙ f) (omega (arith, rest)));
+        at_end = λ at a sp. (let f : action_run limit (target []) s ≡ found a = found_action s a sp in cc);
+      }
+
+  -- tokens spell one action
+  pub one_tree : (s : List Item) (a b : RawAction) → SpellsAction limit s a → SpellsAction limit s b → a ≡ b
+  one_tree s a b p q = let x = found_action s a p in let y = found_action s b q in cc

@@ -1,0 +1,5 @@
+use Rattle.math_action.proofs.Decided.{decided}
+use Rattle.math_action.proofs.laws.action_or_fault.Goals as goal
+
+pub returns : goal.returns
+returns c = decided
