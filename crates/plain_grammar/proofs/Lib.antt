@@ -1,0 +1,5 @@
+pub mod Included
+pub mod Tightness
+pub mod Paths
+pub mod Accepted
+pub mod OpenTypes

@@ -1,0 +1,41 @@
+-- A form whose pattern has a type that is open at its right end.
+use Rattle.std.specs.Prelude.{List, [], ◌∷◌}
+use Rattle.formula_core.specs.declared.op.Op.TheVariants as op
+use Rattle.formula_core.specs.declared.raw.RawOp.TheVariants as rawop
+use Rattle.math_grammar.specs.declared.levels.Level.TheVariants as lev
+use Rattle.math_grammar.specs.declared.levels.Binding.TheVariants as binding
+use Rattle.math_grammar.specs.declared.symbols.Symbol.{Symbol}
+use Rattle.math_grammar.specs.declared.symbols.Symbol.TheVariants as sym
+use Rattle.math_grammar.specs.Tokens.{Item}
+use Rattle.math_grammar.specs.Grammar.{item}
+
+abbrev pub sign : Symbol → Item
+sign x = item x 0 []
+
+abbrev pub lambda : Item
+lambda = sign (sym.Binder binding.Lambda)
+
+abbrev pub a : Item
+a = item sym.Word 0 (97 ∷ [])
+
+abbrev pub typed : Item
+typed = sign (sym.Infix lev.Typing rawop.OfType)
+
+abbrev pub maplet : Item
+maplet = sign (sym.Infix lev.Maplet (rawop.Plain op.Maplet))
+
+abbrev pub dot : Item
+dot = sign sym.Dot
+
+abbrev pub top : Item
+top = sign (sym.Truth op.Top)
+
+abbrev pub bar : Item
+bar = sign sym.Bar
+
+-- λ a ⦂ λ a · ⊤ ∣ a ⦂ a ↦ a ⦂ a · ⊤ ∣ a
+abbrev pub open_type : List Item
+open_type =
+    lambda ∷ a ∷ typed ∷ lambda ∷ a ∷ dot ∷ top ∷ bar ∷ a ∷ typed ∷ a
+    ∷ maplet ∷ a ∷ typed ∷ a
+    ∷ dot ∷ top ∷ bar ∷ a ∷ []
