@@ -8,3 +8,4 @@ pub mod PartitionParts
 pub mod InARow
 pub mod Places
 pub mod Sound
+pub mod WellTyped

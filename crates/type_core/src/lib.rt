@@ -8,14 +8,17 @@ mod forms;
 mod free;
 mod partition;
 mod predicate;
-mod read;
+mod reading;
 mod rows;
 mod scope;
 mod terms;
 mod tree;
 mod unknown;
 
-pub use predicate::{TypeFault, type_expression, type_predicate};
+pub use predicate::{TypeFault, type_expression, type_predicate, type_tree};
+pub use reading::read;
+pub use tree::{BoundNames, Tree, Trees, before, form, pair};
+pub use unknown::{keep_earlier, keep_unknown};
 
 #[cfg(test)]
 mod tests;

@@ -1,8 +1,9 @@
 //! The one typing of a written formula.
-ghost use Rattle.std.specs.Prelude.{◌≡◌, ℕ, suc, ◌+◌, ◌<◌, ◌^◌, length, List, [], IfOk, OnOk, IsOk, IsErrOf, None, Some};
+ghost use Rattle.std.specs.Prelude.{◌≡◌, ℕ, suc, ◌+◌, ◌<◌, ◌^◌, length, List, [], IfOk, OnOk, IsOk, IsErrOf, IsTrue, None, Some};
 ghost use Rattle.formula_core.specs.Env.{type_in};
 ghost use Rattle.formula_core.specs.Formulas.{free_of};
-ghost use Rattle.type_core.specs.Answers.{with_name, extended, IsTheTyping, HasNoTyping, HasTwoTypings, IsTheFormula, HasNoFormula, HasTwoFormulas};
+ghost use Rattle.formula_core.specs.Wellness.{is_well, type_of};
+ghost use Rattle.type_core.specs.Answers.{with_name, extended, IsExpected, IsTheTyping, HasNoTyping, HasTwoTypings, IsTheFormula, HasNoFormula, HasTwoFormulas};
 ghost use Rattle.type_core.specs.CoreForms.{core_form};
 ghost use Rattle.type_core.specs.Unknowns.{unknowns, first_by_place, unknown_in};
 ghost use Rattle.type_core.specs.Views.{bare_of, free_scope, expected_term};
@@ -13,7 +14,7 @@ ghost use Rattle.std.specs.Option.{option_copied};
 
 use crate::build::{BuildFault, build};
 use crate::collect::collect;
-use crate::read::read;
+use crate::reading::read;
 use crate::tree::Tree;
 use crate::unknown::search;
 use formula_core::{Env, EnvFault, Formula, Name, OutOfMemory, Raw, Ty};
@@ -59,6 +60,8 @@ pub fn type_predicate(
 ) -> Result<(Formula, Env), TypeFault>
     // The typing, where there is exactly one.
     ensures typed { IfOk result (λ r. IsTheTyping env.now wanted.now raw.now r.0 r.1) }
+    ensures well { IfOk result (λ r. IsTrue (is_well r.0)) }
+    ensures is_predicate { IfOk result (λ r. type_of r.0 ≡ Ty.Truth) }
     ensures clash { IsErrOf result TypeFault.Clash → HasNoTyping env.now wanted.now raw.now }
     ensures untyped { IsErrOf result TypeFault.Untyped → HasTwoTypings env.now wanted.now raw.now }
 
@@ -83,6 +86,8 @@ pub fn type_expression(
 ) -> Result<Formula, TypeFault>
     // The typing, where there is exactly one.
     ensures typed { IfOk result (λ f. IsTheFormula env.now [] (core_form raw.now) (option_copied expected.entry) f) }
+    ensures well { IfOk result (λ f. IsTrue (is_well f)) }
+    ensures is_of_type { IfOk result (λ f. IsExpected (option_copied expected.entry) (type_of f)) }
     ensures clash { IsErrOf result TypeFault.Clash → HasNoFormula env.now [] (core_form raw.now) (option_copied expected.entry) }
     ensures untyped { IsErrOf result TypeFault.Untyped → HasTwoFormulas env.now [] (core_form raw.now) (option_copied expected.entry) }
 
@@ -104,6 +109,8 @@ fn type_formula(
     expected: Option<&Ty>,
 ) -> Result<Formula, TypeFault>
     ensures typed { IfOk result (λ f. IsTheFormula env.now wanted.now (core_form raw.now) (option_copied expected.entry) f) }
+    ensures well { IfOk result (λ f. IsTrue (is_well f)) }
+    ensures is_of_type { IfOk result (λ f. IsExpected (option_copied expected.entry) (type_of f)) }
     ensures clash { IsErrOf result TypeFault.Clash → HasNoFormula env.now wanted.now (core_form raw.now) (option_copied expected.entry) }
     ensures untyped { IsErrOf result TypeFault.Untyped → HasTwoFormulas env.now wanted.now (core_form raw.now) (option_copied expected.entry) }
     ensures unknown { (name : List ℕ) (place : ℕ) → IsErrOf result (TypeFault.Unknown name place) → unknown_in env.now wanted.now raw.now ≡ Some (name, place) }
@@ -114,7 +121,7 @@ fn type_formula(
     let tree = read(alloc, raw)?;
     match find_unknown(alloc, env, wanted, &tree)? {
         Some((name, place)) => Err(TypeFault::Unknown(name, place)),
-        None => type_known(alloc, env, wanted, &tree, expected),
+        None => type_tree(alloc, env, wanted, &tree, expected),
     }
 }
 
@@ -133,8 +140,8 @@ fn find_unknown(
     Ok(found)
 }
 
-/// Types a formula all whose names are known.
-fn type_known(
+/// Types a formula in core form. A name that is unknown has no type.
+pub fn type_tree(
     alloc: Global,
     env: &Env,
     wanted: &[Name],
@@ -142,6 +149,8 @@ fn type_known(
     expected: Option<&Ty>,
 ) -> Result<Formula, TypeFault>
     ensures typed { IfOk result (λ f. IsTheFormula env.now wanted.now (bare_of tree.now) (option_copied expected.entry) f) }
+    ensures well { IfOk result (λ f. IsTrue (is_well f)) }
+    ensures is_of_type { IfOk result (λ f. IsExpected (option_copied expected.entry) (type_of f)) }
     ensures clash { IsErrOf result TypeFault.Clash → HasNoFormula env.now wanted.now (bare_of tree.now) (option_copied expected.entry) }
     ensures untyped { IsErrOf result TypeFault.Untyped → HasTwoFormulas env.now wanted.now (bare_of tree.now) (option_copied expected.entry) }
     ensures unknown { (name : List ℕ) (place : ℕ) → IsErrOf result (TypeFault.Unknown name place) → ⊥ }

@@ -10,7 +10,7 @@ use std::alloc::Global;
 /// A formula in core form, without types.
 #[cycle(tree)]
 #[derive(Drop)]
-pub(crate) enum Tree {
+pub enum Tree {
     Number(i128),
     Identifier(Name, u32),
     Form(Op, Box<Trees>),
@@ -23,7 +23,7 @@ pub(crate) enum Tree {
 /// Formulas in a row.
 #[cycle(tree)]
 #[derive(Drop)]
-pub(crate) enum Trees {
+pub enum Trees {
     End,
     More(Box<Tree>, Box<Trees>),
 }
@@ -31,19 +31,19 @@ pub(crate) enum Trees {
 /// The names of a binder, some of them with their types.
 #[cycle(tree)]
 #[derive(Drop)]
-pub(crate) enum BoundNames {
+pub enum BoundNames {
     End,
     Plain(Name, Box<BoundNames>),
     Typed(Name, Box<Tree>, Box<BoundNames>),
 }
 
-pub(crate) fn form(alloc: Global, op: Op, parts: Trees) -> Result<Tree, OutOfMemory>
+pub fn form(alloc: Global, op: Op, parts: Trees) -> Result<Tree, OutOfMemory>
     ensures { IfOk result (λ t. bare_of t ≡ Form op (bares_of parts)) }
 {
     Ok(Tree::Form(op, Box::new(alloc, parts)?))
 }
 
-pub(crate) fn before(alloc: Global, first: Tree, rest: Trees) -> Result<Trees, OutOfMemory>
+pub fn before(alloc: Global, first: Tree, rest: Trees) -> Result<Trees, OutOfMemory>
     ensures { IfOk result (λ ts. bares_of ts ≡ more (bare_of first) (bares_of rest)) }
 {
     let first = Box::new(alloc, first)?;
@@ -69,7 +69,7 @@ pub(crate) fn partition(alloc: Global, parts: Trees) -> Result<Tree, OutOfMemory
     Ok(Tree::Partition(Box::new(alloc, parts)?))
 }
 
-pub(crate) fn pair(alloc: Global, left: Tree, right: Tree) -> Result<Trees, OutOfMemory>
+pub fn pair(alloc: Global, left: Tree, right: Tree) -> Result<Trees, OutOfMemory>
     ensures { IfOk result (λ ts. bares_of ts ≡ two (bare_of left) (bare_of right)) }
 {
     let last = before(alloc, right, Trees::End)?;

@@ -1,5 +1,5 @@
 //! The first name that is unknown.
-ghost use Rattle.std.specs.Prelude.{◌≡◌, ◌++◌, fold, OnOk, ℕ};
+ghost use Rattle.std.specs.Prelude.{◌≡◌, ◌++◌, [], fold, OnOk, ℕ};
 ghost use Rattle.type_core.specs.Unknowns.{is_known, unknowns, all_unknowns, type_unknowns, names_in, earlier, unknown_in};
 ghost use Rattle.type_core.specs.CoreForms.{core_form};
 ghost use Rattle.type_core.specs.Views.{bare_of, bares_of, bounds_of};
@@ -16,7 +16,7 @@ fn is_known(env: &Env, wanted: &[Name], bound: &[Name], name: &Name) -> bool
 }
 
 /// Keeps the earlier of the name that was found and one at a place.
-fn keep_earlier(
+pub fn keep_earlier(
     alloc: Global,
     found: &mut Option<(Name, u32)>,
     name: &Name,
@@ -32,6 +32,19 @@ fn keep_earlier(
         *found = Some((name.copy(alloc)?, place));
     }
     Ok(())
+}
+
+/// Keeps the earlier of the name that was found and the first unknown one of a formula, where no name is wanted.
+pub fn keep_unknown(
+    alloc: Global,
+    env: &Env,
+    tree: &Tree,
+    found: &mut Option<(Name, u32)>,
+) -> Result<(), OutOfMemory>
+    ensures { OnOk result (found.new ≡ fold earlier found.old (unknowns env.now [] [] (bare_of tree.now))) }
+{
+    let mut bound = Vec::new(alloc);
+    search(alloc, env, &[], &mut bound, tree, found)
 }
 
 /// Looks for unknown names, and keeps the one at the lowest place.

@@ -15,7 +15,7 @@ use std::alloc::Global;
 /// The core form of a written formula.
 #[cycle(read)]
 #[tactic(auto, using(crate::proofs::CoreEquations::core_equations))]
-pub(crate) fn read(alloc: Global, raw: &Raw) -> Result<Tree, OutOfMemory>
+pub fn read(alloc: Global, raw: &Raw) -> Result<Tree, OutOfMemory>
     ensures { IfOk result (λ t. bare_of t ≡ core_form raw.now) }
 {
     match raw {

@@ -3,7 +3,7 @@ use Rattle.type_core.specs.Bare.{Broken, Binding}
 use Rattle.type_core.specs.CoreForms.{core_form, core_of_unnamed, turned, bounds, bound_part, with_core}
 use Rattle.type_core.specs.Views.{bare_of, bounds_of, in_a_row}
 use Rattle.type_core.proofs.CoreEquations.{read_node, read_plain, read_lambda, read_named, read_unnamed, unnamed_broken, unnamed_two}
-use Rattle.type_core.proofs.read.+read.Goals as goal
+use Rattle.type_core.proofs.reading.+read.Goals as goal
 
 pub read-returns-in_ok-read_all-in-Node : goal.read-returns-in_ok-read_all-in-Node
 read-returns-in_ok-read_all-in-Node t c =
