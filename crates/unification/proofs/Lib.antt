@@ -1,5 +1,12 @@
-pub mod Bindings
+pub mod Forms
 pub mod KnownTypes
+pub mod Meetings
+pub mod Merges
+pub mod Places
+pub mod Solved
+pub mod Sorts
 pub mod Steps
 pub mod Terms
 pub mod Unify
+pub mod Walks
+pub mod Writes

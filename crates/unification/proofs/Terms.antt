@@ -4,12 +4,12 @@ use Rattle.formula_core.specs.declared.ty.Ty.{Ty, out-Ty}
 use Rattle.formula_core.specs.declared.ty.Ty.TheOpen.{Ty-F, Int as IntF, Bool as BoolF, Given as GivenF, Pow as PowF, Pair as PairF, Truth as TruthF}
 use Rattle.formula_core.specs.declared.ty.Ty.TheVariants as ty
 use Rattle.formula_core.specs.declared.ty.Ty.TheViews.{rolls-Int, rolls-Bool, rolls-Given, rolls-Pow, rolls-Pair, rolls-Truth, outs-Int, outs-Bool, outs-Given, outs-Pow, outs-Pair, outs-Truth}
-use Rattle.formula_core.specs.declared.ty.Ty.TheFolds.{fold-Ty}
 use Rattle.formula_core.specs.Types.{is_value_step, is_value_type}
 use Rattle.formula_core.specs.Schemes as scheme
 use Rattle.formula_core.specs.Schemes.{Scheme, type_at}
 use Rattle.formula_core.proofs.Equations.{type_fold}
 use Rattle.formula_core.proofs.Types.{type_induction}
+use Rattle.unification.specs.Order.{depth_step, depth}
 use Rattle.unification.specs.Terms.{Open, integers, booleans, predicates, carrier, variable, powerset, product, value, open_of_step, open_of, instance, letters_at}
 
 pub value-Int : is_value_type ty.Int ≡ true
@@ -29,15 +29,6 @@ value-Pow t = type_fold is_value_step (PowF t) _ (rolls-Pow t)
 
 pub value-Pair : (t u : Ty) → is_value_type (ty.Pair t u) ≡ (is_value_type t && is_value_type u)
 value-Pair t u = type_fold is_value_step (PairF t u) _ (rolls-Pair t u)
-
--- how deep a type is
-abbrev depth_step : Ty-F ℕ → ℕ
-depth_step (PowF a) = suc a
-depth_step (PairF a b) = suc (max a b)
-depth_step _ = 0
-
-abbrev pub depth : Ty → ℕ
-depth = fold-Ty ℕ depth_step
 
 pub depth-Pow : (t : Ty) → depth (ty.Pow t) ≡ suc (depth t)
 depth-Pow t = type_fold depth_step (PowF t) _ (rolls-Pow t)

@@ -1,8 +1,8 @@
 -- What is known of the variables' types.
-use Rattle.std.specs.Prelude.{◌≡◌, ◌≢◌, ℕ, zero, suc, ◌==◌, if◌then◌else◌, List, [], ◌∷◌, Option, Some, None}
+use Rattle.std.specs.Prelude.{◌≡◌, ◌≢◌, ℕ, zero, suc, List, [], ◌∷◌, Option, Some, None}
 use Rattle.formula_core.specs.declared.ty.Ty.{Ty}
 use Rattle.formula_core.specs.declared.ty.Ty.TheVariants as ty
-use Rattle.unification.specs.Terms.{Open, integers, booleans, predicates, carrier, variable, powerset, product, value}
+use Rattle.unification.specs.Terms.{Open, integers, booleans, predicates, carrier, variable, powerset, product}
 use Rattle.unification.specs.Solutions.{Equality, IsAssignment, Solves}
 
 -- a variable's type, where it is in the list
@@ -43,20 +43,3 @@ closed ts (carrier name) = Some (ty.Given name)
 closed ts (variable i) = type_at ts i
 closed ts (powerset a) = powerset_of (closed ts a)
 closed ts (product a b) = product_of (closed ts a) (closed ts b)
-
-abbrev pub assigned_one : Open → Ty → (ℕ → Ty) → ℕ → Ty
-assigned_one (variable i) t v j = if j == i then t else v j
-assigned_one _ t v j = v j
-
--- the types that bindings give, where a variable that isn't bound has this one
-abbrev pub assigned : Ty → List Equality → ℕ → Ty
-assigned d [] = λ j. d
-assigned d (b ∷ bs) = assigned_one b.0 (value (assigned d bs) b.1) (assigned d bs)
-
--- a type that all solutions give to a variable, or none where two of them differ
-abbrev pub IsDetermined : List Equality → ℕ → Option Ty → Type 0
-IsDetermined bs i (Some t) = (v : ℕ → Ty) → IsAssignment v → Solves v bs → v i ≡ t
-IsDetermined bs i None = assigned ty.Int bs i ≢ assigned ty.Bool bs i
-
-abbrev pub IsKnown : List Equality → List (Option Ty) → Type 0
-IsKnown bs ts = (i : ℕ) → IsDetermined bs i (type_at ts i)

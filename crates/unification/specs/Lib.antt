@@ -1,4 +1,5 @@
-pub mod Found
+pub mod Graph
 pub mod Known
+pub mod Order
 pub mod Solutions
 pub mod Terms

@@ -1,10 +1,10 @@
-ghost use Rattle.std.specs.Prelude.{◌≡◌, ℕ, ◌<◌, ◌==◌, if◌then◌else◌, IfOk, OnOk, Some, vec_len};
+ghost use Rattle.std.specs.Prelude.{◌≡◌, ℕ, ◌<◌, ◌==◌, if◌then◌else◌, IfOk, OnOk, Some, length, vec_len};
 ghost use Rattle.std.specs.Option.{option_copied};
 ghost use Rattle.unification.specs.Terms.{term_of};
-ghost use Rattle.unification.specs.Solutions.{bindings_of};
-ghost use Rattle.unification.specs.Known.{type_at, closed, IsKnown};
+ghost use Rattle.unification.specs.Known.{type_at, closed};
+ghost use Rattle.unification.specs.Order.{closed_form, IsOrder, TypeFits};
 
-use crate::equations::Binding;
+use crate::graph::Node;
 use crate::term::Term;
 use formula_core::{Boxed, OutOfMemory, Ty};
 use std::alloc::Global;
@@ -53,45 +53,86 @@ fn pair_type(alloc: Global, left: Ty, right: Ty) -> Result<Option<Ty>, OutOfMemo
     Ok(Some(Ty::Pair(left, Boxed::new(alloc, right)?)))
 }
 
-/// Room for the variable `i`, of which nothing is known.
-fn grow(types: &mut Vec<Option<Ty>>, i: u32) -> Result<(), OutOfMemory>
+/// Room for the place `i`, of which nothing is known.
+fn grow(types: &mut Vec<Option<Ty>>, i: usize) -> Result<(), OutOfMemory>
     ensures known { OnOk result ((j : ℕ) → type_at types.new.items j ≡ type_at types.old.items j) }
     ensures room { OnOk result (i < vec_len types.new) }
 {
-    while types.len() <= i as usize {
+    while types.len() <= i {
         types.push(None)?;
     }
     Ok(())
 }
 
-fn put(types: &mut Vec<Option<Ty>>, i: u32, ty: Option<Ty>) -> Result<(), OutOfMemory>
+fn put(types: &mut Vec<Option<Ty>>, i: usize, ty: Option<Ty>) -> Result<(), OutOfMemory>
     ensures { OnOk result ((j : ℕ) → type_at types.new.items j ≡ (if j == i then ty else type_at types.old.items j)) }
 {
     grow(types, i)?;
-    types[i as usize] = ty;
+    types[i] = ty;
     Ok(())
 }
 
-fn close_one(
-    alloc: Global,
-    types: &mut Vec<Option<Ty>>,
-    binding: &Binding,
-) -> Result<(), OutOfMemory>
-    ensures { OnOk result ((j : ℕ) → type_at types.new.items j ≡ (if j == binding.now.variable then closed types.old.items (term_of binding.now.term) else type_at types.old.items j)) }
+/// The type of a form, where all its parts have one.
+fn close_node(alloc: Global, types: &[Option<Ty>], node: &Node) -> Result<Option<Ty>, OutOfMemory>
+    ensures { IfOk result (λ t. t ≡ closed_form types.now node.now) }
 {
-    let ty = close(alloc, types, &binding.term)?;
-    put(types, binding.variable, ty)
+    match node {
+        Node::Free => Ok(None),
+        Node::Int => Ok(Some(Ty::Int)),
+        Node::Bool => Ok(Some(Ty::Bool)),
+        Node::Truth => Ok(Some(Ty::Truth)),
+        Node::Given(name) => Ok(Some(Ty::Given(name.copy(alloc)?))),
+        Node::Pow(part) => match copy_at(alloc, types, *part)? {
+            Some(part) => Ok(Some(Ty::Pow(Boxed::new(alloc, part)?))),
+            None => Ok(None),
+        },
+        Node::Pair(left, right) => match copy_at(alloc, types, *left)? {
+            Some(left) => match copy_at(alloc, types, *right)? {
+                Some(right) => pair_type(alloc, left, right),
+                None => Ok(None),
+            },
+            None => Ok(None),
+        },
+        Node::Same(place) => copy_at(alloc, types, *place),
+    }
 }
 
-/// The type of each variable that has one in all solutions.
-pub(crate) fn close_all(alloc: Global, bindings: &[Binding]) -> Result<Vec<Option<Ty>>, OutOfMemory>
-    ensures { IfOk result (λ types. IsKnown (bindings_of bindings.now) types.items) }
+fn copy_at(alloc: Global, types: &[Option<Ty>], place: usize) -> Result<Option<Ty>, OutOfMemory>
+    ensures { IfOk result (λ t. t ≡ type_at types.now place) }
+{
+    match types.get(place) {
+        Some(found) => match found {
+            Some(ty) => Ok(Some(ty.copy(alloc)?)),
+            None => Ok(None),
+        },
+        None => Ok(None),
+    }
+}
+
+fn write_one(
+    alloc: Global,
+    types: &mut Vec<Option<Ty>>,
+    at: usize,
+    node: &Node,
+) -> Result<(), OutOfMemory>
+    ensures { OnOk result ((j : ℕ) → type_at types.new.items j ≡ (if j == at then closed_form types.old.items node.now else type_at types.old.items j)) }
+{
+    let ty = close_node(alloc, types, node)?;
+    put(types, at, ty)
+}
+
+/// The type of each place that has one in all solutions.
+pub(crate) fn write_types(
+    alloc: Global,
+    nodes: &[Node],
+    order: &[usize],
+) -> Result<Vec<Option<Ty>>, OutOfMemory>
+    requires { IsOrder nodes.now order.now }
+    ensures { IfOk result (λ types. (k : ℕ) → k < length nodes.now → TypeFits nodes.now k (type_at types.items k)) }
 {
     let mut types = Vec::new(alloc);
-    let mut left = bindings;
-    while let Some((binding, rest)) = left.split_last() {
-        close_one(alloc, &mut types, binding)?;
-        left = rest;
+    for at in order {
+        write_one(alloc, &mut types, *at, &nodes[*at])?;
     }
     Ok(types)
 }

@@ -1,5 +1,6 @@
-ghost use Rattle.std.specs.Prelude.{◌≡◌, ◌+◌, ◌<◌, ◌^◌, OnOk, IfOk};
-ghost use Rattle.unification.specs.Terms.{term_of, replace, is_bindable, is_variable, split_of, parts_of, bound_of, open_of, instance, variable, carrier, powerset, product};
+ghost use Rattle.std.specs.Prelude.{◌≡◌, ◌+◌, ◌<◌, ◌^◌, IfOk};
+ghost use Rattle.unification.specs.Terms.{term_of, open_of, instance, variable, powerset, product};
+ghost use Rattle.unification.specs.Graph.{variables_of};
 ghost use Rattle.formula_core.specs.SchemeView.{scheme_of, letter_of};
 
 use formula_core::{Letter, Name, OutOfMemory, Scheme, Ty};
@@ -75,50 +76,18 @@ impl Term {
         }
     }
 
-    /// Puts `by` in the place of the variable `i`.
-    pub fn replace(&mut self, alloc: Global, i: u32, by: &Term) -> Result<(), OutOfMemory>
-        ensures { OnOk result (term_of self.new ≡ replace i (term_of by.now) (term_of self.old)) }
+    /// How many variables there are up to its greatest one.
+    pub(crate) fn variables(&self) -> usize
+        ensures { result ≡ variables_of (term_of self.now) }
     {
         match self {
-            Term::Int => Ok(()),
-            Term::Bool => Ok(()),
-            Term::Truth => Ok(()),
-            Term::Given(_) => Ok(()),
-            Term::Var(j) => {
-                if *j == i {
-                    *self = by.copy(alloc)?;
-                }
-                Ok(())
-            }
-            Term::Pow(part) => part.replace(alloc, i, by),
-            Term::Pair(left, right) => {
-                left.replace(alloc, i, by)?;
-                right.replace(alloc, i, by)
-            }
-        }
-    }
-
-    fn is_variable(&self, i: u32) -> bool
-        ensures { result ≡ is_variable i (term_of self.now) }
-    {
-        match self {
-            Term::Var(j) => *j == i,
-            _ => false,
-        }
-    }
-
-    /// Whether a variable `i` may stand for it: it isn't in it, and `Truth` is no part of it.
-    fn is_bindable(&self, i: u32) -> bool
-        ensures { result ≡ is_bindable i (term_of self.now) }
-    {
-        match self {
-            Term::Int => true,
-            Term::Bool => true,
-            Term::Truth => false,
-            Term::Given(_) => true,
-            Term::Var(j) => *j != i,
-            Term::Pow(part) => part.is_bindable(i),
-            Term::Pair(left, right) => left.is_bindable(i) && right.is_bindable(i),
+            Term::Int => 0,
+            Term::Bool => 0,
+            Term::Truth => 0,
+            Term::Given(_) => 0,
+            Term::Var(i) => *i as usize + 1,
+            Term::Pow(part) => part.variables(),
+            Term::Pair(left, right) => left.variables().max(right.variables()),
         }
     }
 }
@@ -145,77 +114,5 @@ fn letter_variable(letter: Letter, first: u32) -> u32
         Letter::Beta => first + 1,
         Letter::Gamma => first + 2,
         Letter::Delta => first + 3,
-    }
-}
-
-/// What an equation between two terms comes to.
-#[derive(Drop)]
-pub(crate) enum Split {
-    Same,
-    Never,
-    One(Term, Term),
-    Two(Term, Term, Term, Term),
-    Bind(u32, Term),
-}
-
-/// Takes off the outermost form of both sides.
-pub(crate) fn take_apart(left: Term, right: Term) -> Split
-    ensures { parts_of result ≡ split_of (term_of left) (term_of right) }
-{
-    match left {
-        Term::Var(i) => bind(i, right),
-        Term::Int => match right {
-            Term::Var(i) => bind(i, Term::Int),
-            Term::Int => Split::Same,
-            _ => Split::Never,
-        },
-        Term::Bool => match right {
-            Term::Var(i) => bind(i, Term::Bool),
-            Term::Bool => Split::Same,
-            _ => Split::Never,
-        },
-        Term::Truth => match right {
-            Term::Var(i) => bind(i, Term::Truth),
-            Term::Truth => Split::Same,
-            _ => Split::Never,
-        },
-        Term::Given(a) => match right {
-            Term::Var(i) => bind(i, Term::Given(a)),
-            Term::Given(b) => same_carrier(&a, &b),
-            _ => Split::Never,
-        },
-        Term::Pow(a) => match right {
-            Term::Var(i) => bind(i, Term::Pow(a)),
-            Term::Pow(b) => Split::One(Box::into_inner(a), Box::into_inner(b)),
-            _ => Split::Never,
-        },
-        Term::Pair(a, b) => match right {
-            Term::Var(i) => bind(i, Term::Pair(a, b)),
-            Term::Pair(c, d) => Split::Two(
-                Box::into_inner(a),
-                Box::into_inner(c),
-                Box::into_inner(b),
-                Box::into_inner(d),
-            ),
-            _ => Split::Never,
-        },
-    }
-}
-
-fn same_carrier(a: &Name, b: &Name) -> Split
-    ensures { parts_of result ≡ split_of (carrier a.now) (carrier b.now) }
-{
-    if a.same(b) { Split::Same } else { Split::Never }
-}
-
-fn bind(i: u32, term: Term) -> Split
-    ensures { parts_of result ≡ bound_of i (term_of term) }
-{
-    if term.is_variable(i) {
-        Split::Same
-    } else if term.is_bindable(i) {
-        Split::Bind(i, term)
-    } else {
-        Split::Never
     }
 }
