@@ -1,0 +1,4 @@
+pub mod Equations
+pub mod NumberedNames
+pub mod Pieces
+pub mod TypeTexts

@@ -1,0 +1,139 @@
+-- How tightly printed forms hold together, and which operands are in parentheses.
+use Rattle.std.specs.Prelude.{ℕ, Bool, true, false, ◌==◌, ◌&&◌, ◌||◌, not, nat_lt, nat_le, nat_eq}
+use Rattle.formula_core.specs.declared.op.Op.{Op}
+use Rattle.formula_core.specs.declared.op.Op.TheVariants as op
+use Rattle.formula_core.specs.declared.op.Binder.{Binder}
+use Rattle.formula_core.specs.declared.op.Binder.TheVariants as binder
+use Rattle.formula_core.specs.declared.formula.Formula.{Formula, out-Formula}
+use Rattle.formula_core.specs.declared.formula.Formula.TheOpen.{Formula-F, Int, Free, Bound, Node, Bind}
+use Rattle.math_print.specs.declared.levels.Level.{Level}
+use Rattle.math_print.specs.declared.levels.Level.TheVariants as lev
+use Rattle.math_print.specs.declared.levels.Side.{Side}
+use Rattle.math_print.specs.declared.levels.Side.TheVariants as side
+
+-- loosest first
+abbrev pub rank : Level → ℕ
+rank lev.Quantified = 0
+rank lev.Implication = 1
+rank lev.Junction = 2
+rank lev.Relation = 3
+rank lev.Reaching = 4
+rank lev.Maplet = 5
+rank lev.Arrow = 6
+rank lev.SetOperator = 7
+rank lev.Interval = 8
+rank lev.Additive = 9
+rank lev.Multiplicative = 10
+rank lev.Power = 11
+rank lev.Postfix = 12
+rank lev.Closed = 13
+
+abbrev pub level_of : Op → Level
+level_of op.Implies = lev.Implication
+level_of op.Equivalent = lev.Implication
+level_of op.And = lev.Junction
+level_of op.Or = lev.Junction
+level_of op.Not = lev.Relation
+level_of op.Equal = lev.Relation
+level_of op.Member = lev.Relation
+level_of op.ProperSubset = lev.Relation
+level_of op.Subset = lev.Relation
+level_of op.Less = lev.Relation
+level_of op.LessOrEqual = lev.Relation
+level_of op.Maplet = lev.Maplet
+level_of op.Relations = lev.Arrow
+level_of op.TotalRelations = lev.Arrow
+level_of op.SurjectiveRelations = lev.Arrow
+level_of op.TotalSurjectiveRelations = lev.Arrow
+level_of op.PartialFunctions = lev.Arrow
+level_of op.TotalFunctions = lev.Arrow
+level_of op.PartialInjections = lev.Arrow
+level_of op.TotalInjections = lev.Arrow
+level_of op.PartialSurjections = lev.Arrow
+level_of op.TotalSurjections = lev.Arrow
+level_of op.Bijections = lev.Arrow
+level_of op.Union = lev.SetOperator
+level_of op.Intersection = lev.SetOperator
+level_of op.Difference = lev.SetOperator
+level_of op.Product = lev.SetOperator
+level_of op.DomainRestriction = lev.SetOperator
+level_of op.DomainSubtraction = lev.SetOperator
+level_of op.RangeRestriction = lev.SetOperator
+level_of op.RangeSubtraction = lev.SetOperator
+level_of op.Overriding = lev.SetOperator
+level_of op.Composition = lev.SetOperator
+level_of op.ParallelProduct = lev.SetOperator
+level_of op.DirectProduct = lev.SetOperator
+level_of op.Interval = lev.Interval
+level_of op.Plus = lev.Additive
+level_of op.Minus = lev.Additive
+level_of op.Negate = lev.Additive
+level_of op.Times = lev.Multiplicative
+level_of op.Divide = lev.Multiplicative
+level_of op.Modulo = lev.Multiplicative
+level_of op.Power = lev.Power
+level_of op.Converse = lev.Postfix
+level_of op.Apply = lev.Postfix
+level_of op.Image = lev.Postfix
+level_of _ = lev.Closed
+
+abbrev pub binder_level_of : Binder → Level
+binder_level_of binder.ForAll = lev.Quantified
+binder_level_of binder.Exists = lev.Quantified
+binder_level_of binder.Comprehension = lev.Closed
+binder_level_of binder.QuantifiedUnion = lev.Reaching
+binder_level_of binder.QuantifiedIntersection = lev.Reaching
+
+abbrev pub formula_level_at : Formula-F Formula → Level
+formula_level_at (Int n) = lev.Closed
+formula_level_at (Free name t) = lev.Closed
+formula_level_at (Bound at t) = lev.Closed
+formula_level_at (Node o parts t) = level_of o
+formula_level_at (Bind b types parts t) = binder_level_of b
+
+-- the level of a formula
+abbrev pub formula_level : Formula → Level
+formula_level f = formula_level_at (out-Formula f)
+
+-- At these levels an operator goes on with the operator on its left.
+abbrev pub is_chained : Level → Bool
+is_chained lev.Maplet = true
+is_chained lev.SetOperator = true
+is_chained lev.Additive = true
+is_chained lev.Multiplicative = true
+is_chained _ = false
+
+-- ∧ goes on with ∧, and ∨ with ∨
+abbrev pub is_same_connective : Op → Op → Bool
+is_same_connective op.And op.And = true
+is_same_connective op.Or op.Or = true
+is_same_connective _ _ = false
+
+abbrev pub is_negative : Op → Bool
+is_negative op.Negate = true
+is_negative _ = false
+
+-- The first operator goes on with the second, of its own level, on its left. Unary − is no such one.
+abbrev pub goes_on_with : Op → Op → Bool
+goes_on_with o left = is_same_connective o left || (is_chained (level_of o) && not (is_negative left))
+
+abbrev pub goes_on_at : Op → Formula-F Formula → Bool
+goes_on_at o (Node left parts t) = goes_on_with o left
+goes_on_at o _ = false
+
+-- the operator goes on with a formula of its own level on this side
+abbrev pub goes_on : Op → Side → Formula → Bool
+goes_on o side.Left f = goes_on_at o (out-Formula f)
+goes_on o side.Right f = false
+
+abbrev pub is_relation : Level → Bool
+is_relation lev.Relation = true
+is_relation _ = false
+
+-- the operand of this rank is in parentheses, where the operator goes on with it or not
+abbrev pub is_enclosed : Level → Level → Bool → Bool
+is_enclosed own operand goes_on = nat_lt (rank operand) (rank own) || ((rank operand == rank own) && not goes_on)
+
+-- Whether an operand is in parentheses: unless it is tighter than its operator, or the operator goes on with it. Those of relations have none.
+abbrev pub needs_parentheses : Op → Side → Formula → Bool
+needs_parentheses o s f = not (is_relation (level_of o)) && is_enclosed (level_of o) (formula_level f) (goes_on o s f)
