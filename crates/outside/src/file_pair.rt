@@ -1,5 +1,6 @@
 // Two files of the working directory as a disk.
-ghost use Rattle.std.specs.Prelude.{◌≡◌, ◌≤◌, [], length, IfOk, Ok};
+ghost use Rattle.std.specs.Prelude.{◌≡◌, ◌+◌, ◌<◌, ◌≤◌, ◌^◌, [], length, IfOk, Ok};
+ghost use Rattle.std.specs.Io.{ReadsAtMost};
 ghost use Rattle.outside.specs.Cause.{CountsFault, HasCause};
 
 use crate::faults::Faults;
@@ -158,7 +159,12 @@ impl<'a, R: Files> Disk for FilePair<'a, R> {
         self.faults.count()
     }
 
-    fn len(&mut self, side: Side) -> Result<u64, Failed> {
+    fn len(&mut self, side: Side) -> Result<u64, Failed>
+        ensures cause { let faults = ⟦<FilePair<'a, R> as Disk>⟧.faults in
+            HasCause (faults self.old) (faults self.new) result }
+        ensures counted { let faults = ⟦<FilePair<'a, R> as Disk>⟧.faults in
+            CountsFault (faults self.old) (faults self.new) result }
+    {
         let answer = match side {
             Side::Left => length_of(&self.left),
             Side::Right => length_of(&self.right),
@@ -166,14 +172,26 @@ impl<'a, R: Files> Disk for FilePair<'a, R> {
         counted(&mut self.faults, answer)
     }
 
-    fn read_at(&mut self, side: Side, at: u64, into: &mut [u8]) -> Result<usize, Failed> {
+    fn read_at(&mut self, side: Side, at: u64, into: &mut [u8]) -> Result<usize, Failed>
+        ensures bound { ReadsAtMost result into.new }
+        ensures cause { let faults = ⟦<FilePair<'a, R> as Disk>⟧.faults in
+            HasCause (faults self.old) (faults self.new) result }
+        ensures counted { let faults = ⟦<FilePair<'a, R> as Disk>⟧.faults in
+            CountsFault (faults self.old) (faults self.new) result }
+    {
         match side {
             Side::Left => counted(&mut self.faults, read_side(&mut self.left, at, into)),
             Side::Right => counted(&mut self.faults, read_side(&mut self.right, at, into)),
         }
     }
 
-    fn write_at(&mut self, side: Side, at: u64, bytes: &[u8]) -> Result<(), Failed> {
+    fn write_at(&mut self, side: Side, at: u64, bytes: &[u8]) -> Result<(), Failed>
+        requires fits { at + length bytes.now < 2 ^ 64 }
+        ensures cause { let faults = ⟦<FilePair<'a, R> as Disk>⟧.faults in
+            HasCause (faults self.old) (faults self.new) result }
+        ensures counted { let faults = ⟦<FilePair<'a, R> as Disk>⟧.faults in
+            CountsFault (faults self.old) (faults self.new) result }
+    {
         let answer = match side {
             Side::Left => write_side(self.rt, path_of(side), &mut self.left, at, bytes),
             Side::Right => write_side(self.rt, path_of(side), &mut self.right, at, bytes),
@@ -181,7 +199,12 @@ impl<'a, R: Files> Disk for FilePair<'a, R> {
         counted(&mut self.faults, answer)
     }
 
-    fn cut(&mut self, side: Side, len: u64) -> Result<(), Failed> {
+    fn cut(&mut self, side: Side, len: u64) -> Result<(), Failed>
+        ensures cause { let faults = ⟦<FilePair<'a, R> as Disk>⟧.faults in
+            HasCause (faults self.old) (faults self.new) result }
+        ensures counted { let faults = ⟦<FilePair<'a, R> as Disk>⟧.faults in
+            CountsFault (faults self.old) (faults self.new) result }
+    {
         let answer = match side {
             Side::Left => cut_side(&self.left, len),
             Side::Right => cut_side(&self.right, len),
@@ -189,7 +212,12 @@ impl<'a, R: Files> Disk for FilePair<'a, R> {
         counted(&mut self.faults, answer)
     }
 
-    fn sync(&mut self, side: Side) -> Result<(), Failed> {
+    fn sync(&mut self, side: Side) -> Result<(), Failed>
+        ensures cause { let faults = ⟦<FilePair<'a, R> as Disk>⟧.faults in
+            HasCause (faults self.old) (faults self.new) result }
+        ensures counted { let faults = ⟦<FilePair<'a, R> as Disk>⟧.faults in
+            CountsFault (faults self.old) (faults self.new) result }
+    {
         let answer = match side {
             Side::Left => sync_side(&self.left),
             Side::Right => sync_side(&self.right),
