@@ -10,7 +10,7 @@ use Rattle.outside.specs.declared.side.Side.{Side}
 use Rattle.outside.proofs.Kept.{elapses, elapses_same}
 use Rattle.outside.specs.declared.side.Side.TheVariants.{Left, Right}
 
-torn_done : (at : ℕ) (bytes old : List ℕ) → at ≤ length old → Torn at (length bytes) old (overwritten at bytes old)
+pub torn_done : (at : ℕ) (bytes old : List ℕ) → at ≤ length old → Torn at (length bytes) old (overwritten at bytes old)
 torn_done at bytes old inside = record {
   before = take_at (take at old) (bytes ++ drop (at + length bytes) old) at short;
   after =
@@ -26,13 +26,13 @@ torn_done at bytes old inside = record {
     size : length (overwritten at bytes old) ≡ at + (length bytes + (length old - (at + length bytes)))
     size = omega (arith, short, length-append (take at old) (bytes ++ drop (at + length bytes) old), length-append bytes (drop (at + length bytes) old), length-drop (at + length bytes) old)
 
-torn_same : (at n : ℕ) (old : List ℕ) → Torn at n old old
+pub torn_same : (at n : ℕ) (old : List ℕ) → Torn at n old old
 torn_same at n old = record { before = refl; after = refl; no_shorter = omega arith; no_longer = omega arith }
 
-cut_done : (n : ℕ) (old : List ℕ) → TornCut n old (take n old)
+pub cut_done : (n : ℕ) (old : List ℕ) → TornCut n old (take n old)
 cut_done n old = record { before = take-take n n old (omega arith); no_shorter = omega (arith, length-take n old); no_longer = omega (arith, length-take n old) }
 
-cut_same : (n : ℕ) (old : List ℕ) → TornCut n old old
+pub cut_same : (n : ℕ) (old : List ℕ) → TornCut n old old
 cut_same n old = record { before = refl; no_shorter = omega arith; no_longer = omega arith }
 
 on_side : (side : Side) (f : List ℕ → List ℕ) (step : List ℕ → List ℕ → Type 0) (sides : Sides) → step (sides side) (f (sides side)) → OnSide side step sides (changed side f sides)
@@ -42,7 +42,7 @@ on_side Right f step sides done = record { steps = done; stays = elim [ Left ↦
 unmoved : (side : Side) (step : List ℕ → List ℕ → Type 0) (sides : Sides) → step (sides side) (sides side) → OnSide side step sides sides
 unmoved side step sides same = record { steps = same; stays = λ rest no. refl }
 
-both_true : (m n : ℕ) (b : Bool) → IsTrue (nat_le m n && b) → (m ≤ n) × IsTrue b
+pub both_true : (m n : ℕ) (b : Bool) → IsTrue (nat_le m n && b) → (m ≤ n) × IsTrue b
 both_true m n b is = grind (arith, rules)
 
 pub and_true : (m n : ℕ) (b : Bool) → m ≤ n → IsTrue b → IsTrue (nat_le m n && b)

@@ -5,4 +5,5 @@ pub mod DiskKept
 pub mod DiskLaws
 pub mod DiskLog
 pub mod DiskMemory
+pub mod DiskStop
 pub mod Memory

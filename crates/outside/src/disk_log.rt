@@ -2,7 +2,8 @@
 ghost use Rattle.std.specs.Prelude.{◌≡◌, ◌+◌, ◌≤◌, ◌<◌, ◌∷◌, [], ◌↔◌, length, vec_len, IfOk, true};
 ghost use Rattle.outside.specs.declared.side.Side.{Side};
 ghost use Rattle.outside.specs.DiskCalls.{IsInside, wrote, noted, seen};
-ghost use Rattle.outside.specs.DiskLog.{calls_of};
+ghost use Rattle.outside.specs.DiskLog.{calls_of, first_calls};
+ghost use Rattle.outside.specs.DiskStop.{begun};
 
 use crate::Side;
 use crate::disk_entry::Log;
@@ -72,5 +73,21 @@ impl Log {
             from,
             count: bytes.len(),
         });
+    }
+
+    // How many calls may have done something by a stop inside the one of this number. A sync has done nothing until it ends.
+    pub(crate) fn begun(&self, call: u64) -> usize
+        ensures inside { result ≤ vec_len self.now.entries }
+        ensures calls { first_calls result self.now ≡ begun call (calls_of self.now) }
+    {
+        let kept = self.entries.len();
+        if call > kept as u64 {
+            return kept;
+        }
+        let count = call as usize;
+        if count > 0 && matches!(self.entries[count - 1], Entry::Synced { .. }) {
+            return count - 1;
+        }
+        count
     }
 }

@@ -28,6 +28,47 @@ fn a_memory_disk_fails_where_listed_and_past_its_room_and_its_calls(
     Ok(())
 }
 
+// The calls of numbers 1 to 7: a write, a sync, a write that grows the side, a cut, a read, a write that fails, a sync.
+fn act(disk: &mut MemoryDisk) -> bool {
+    let mut into = [0; 1];
+    disk.write_at(Side::Left, 0, b"abcd").is_ok()
+        && disk.sync(Side::Left).is_ok()
+        && disk.write_at(Side::Left, 3, b"xyz").is_ok()
+        && disk.cut(Side::Left, 2).is_ok()
+        && disk.read_at(Side::Left, 0, &mut into).is_ok()
+        && disk.write_at(Side::Right, 1, b"R").is_err()
+        && disk.sync(Side::Left).is_ok()
+}
+
+#[test]
+fn a_stop_inside_a_call_leaves_these_bytes(rt: HostRuntime) -> Result<(), Fail> {
+    let alloc = rt.alloc();
+    let right = b"rr".to_vec(alloc)?;
+    let mut disk = MemoryDisk::new(alloc, Vec::new(alloc), right, 20, 7, [6].to_vec(alloc)?)?;
+    assert!(rt; act(&mut disk));
+    // The call, and what a stop inside it leaves on both sides, with the least lengths and the greatest.
+    let rows: [(u64, &[u8], &[u8], &[u8], &[u8]); 9] = [
+        (0, b"", b"rr", b"", b"rr"),
+        (1, b"", b"rr", b"????", b"rr"),
+        (2, b"", b"rr", b"????", b"rr"),
+        (3, b"abc?", b"rr", b"abc???", b"rr"),
+        (4, b"ab", b"rr", b"ab????", b"rr"),
+        (5, b"ab", b"rr", b"ab????", b"rr"),
+        (6, b"ab", b"r?", b"ab????", b"r?"),
+        (7, b"ab", b"r?", b"ab????", b"r?"),
+        (8, b"ab", b"r?", b"ab", b"r?"),
+    ];
+    for (call, left, right, long_left, long_right) in rows {
+        let (got_left, got_right) = disk.image(alloc, call, b'?', false)?;
+        assert_eq!(rt; got_left.as_slice(), left, "call {call}");
+        assert_eq!(rt; got_right.as_slice(), right, "call {call}");
+        let (got_left, got_right) = disk.image(alloc, call, b'?', true)?;
+        assert_eq!(rt; got_left.as_slice(), long_left, "call {call}");
+        assert_eq!(rt; got_right.as_slice(), long_right, "call {call}");
+    }
+    Ok(())
+}
+
 #[test]
 fn a_sure_disk_keeps_what_lies_below_its_first_lengths(rt: HostRuntime) -> Result<(), Fail> {
     let alloc = rt.alloc();

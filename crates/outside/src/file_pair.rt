@@ -1,7 +1,8 @@
 // Two files of the working directory as a disk.
-ghost use Rattle.std.specs.Prelude.{◌≡◌, ◌+◌, ◌<◌, ◌≤◌, ◌^◌, [], length, IfOk, Ok};
+ghost use Rattle.std.specs.Prelude.{◌≡◌, ◌+◌, ◌<◌, ◌≤◌, ◌^◌, [], length, take, IfOk, Ok};
 ghost use Rattle.std.specs.Io.{ReadsAtMost};
 ghost use Rattle.outside.specs.Cause.{CountsFault, HasCause};
+ghost use Rattle.outside.specs.Disk.{overwritten, Torn, TornCut, OnSide, Reads, Leaves, SameImages, Syncs, Elapses, ReadsAt};
 
 use crate::faults::Faults;
 use crate::{Disk, Failed, Side};
@@ -160,6 +161,9 @@ impl<'a, R: Files> Disk for FilePair<'a, R> {
     }
 
     fn len(&mut self, side: Side) -> Result<u64, Failed>
+        ensures len { ⊥ → IfOk result (λ n. n ≡ 0) }
+        ensures images { ⊥ → SameImages (λ _. ⊥) (λ _. ⊥) }
+        ensures time { ⊥ → Elapses 0 0 (λ _ _. ⊥) (λ _ _. ⊥) (λ _. ⊥) }
         ensures cause { let faults = ⟦<FilePair<'a, R> as Disk>⟧.faults in
             HasCause (faults self.old) (faults self.new) result }
         ensures counted { let faults = ⟦<FilePair<'a, R> as Disk>⟧.faults in
@@ -174,6 +178,9 @@ impl<'a, R: Files> Disk for FilePair<'a, R> {
 
     fn read_at(&mut self, side: Side, at: u64, into: &mut [u8]) -> Result<usize, Failed>
         ensures bound { ReadsAtMost result into.new }
+        ensures read { ⊥ → IfOk result (λ n. ReadsAt [] at n into.old into.new) }
+        ensures images { ⊥ → SameImages (λ _. ⊥) (λ _. ⊥) }
+        ensures time { ⊥ → Elapses 0 0 (λ _ _. ⊥) (λ _ _. ⊥) (λ _. ⊥) }
         ensures cause { let faults = ⟦<FilePair<'a, R> as Disk>⟧.faults in
             HasCause (faults self.old) (faults self.new) result }
         ensures counted { let faults = ⟦<FilePair<'a, R> as Disk>⟧.faults in
@@ -187,6 +194,9 @@ impl<'a, R: Files> Disk for FilePair<'a, R> {
 
     fn write_at(&mut self, side: Side, at: u64, bytes: &[u8]) -> Result<(), Failed>
         requires fits { at + length bytes.now < 2 ^ 64 }
+        ensures bytes { ⊥ → Reads side (overwritten at bytes.now []) result (λ _. []) (λ _. []) }
+        ensures images { ⊥ → Leaves (OnSide side (Torn at (length bytes.now))) result (λ _. ⊥) (λ _. ⊥) }
+        ensures time { ⊥ → Elapses 0 0 (λ _ _. ⊥) (λ _ _. ⊥) (λ _. ⊥) }
         ensures cause { let faults = ⟦<FilePair<'a, R> as Disk>⟧.faults in
             HasCause (faults self.old) (faults self.new) result }
         ensures counted { let faults = ⟦<FilePair<'a, R> as Disk>⟧.faults in
@@ -200,6 +210,9 @@ impl<'a, R: Files> Disk for FilePair<'a, R> {
     }
 
     fn cut(&mut self, side: Side, len: u64) -> Result<(), Failed>
+        ensures bytes { ⊥ → Reads side (take «len» []) result (λ _. []) (λ _. []) }
+        ensures images { ⊥ → Leaves (OnSide side (TornCut «len»)) result (λ _. ⊥) (λ _. ⊥) }
+        ensures time { ⊥ → Elapses 0 0 (λ _ _. ⊥) (λ _ _. ⊥) (λ _. ⊥) }
         ensures cause { let faults = ⟦<FilePair<'a, R> as Disk>⟧.faults in
             HasCause (faults self.old) (faults self.new) result }
         ensures counted { let faults = ⟦<FilePair<'a, R> as Disk>⟧.faults in
@@ -213,6 +226,8 @@ impl<'a, R: Files> Disk for FilePair<'a, R> {
     }
 
     fn sync(&mut self, side: Side) -> Result<(), Failed>
+        ensures images { ⊥ → Syncs side [] result (λ _. ⊥) (λ _. ⊥) }
+        ensures time { ⊥ → Elapses 0 0 (λ _ _. ⊥) (λ _ _. ⊥) (λ _. ⊥) }
         ensures cause { let faults = ⟦<FilePair<'a, R> as Disk>⟧.faults in
             HasCause (faults self.old) (faults self.new) result }
         ensures counted { let faults = ⟦<FilePair<'a, R> as Disk>⟧.faults in

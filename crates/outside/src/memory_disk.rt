@@ -46,7 +46,11 @@ impl Model for MemoryDisk {
 }
 
 impl MemoryDisk {
-    ghost use Rattle.outside.specs.DiskMemory.{DiskInMemory};
+    ghost use Rattle.std.specs.Prelude.{ℕ};
+    ghost use Rattle.outside.specs.DiskCalls.{by_side};
+    ghost use Rattle.outside.specs.DiskMemory.{DiskInMemory, first_of};
+    ghost use Rattle.outside.specs.DiskStop.{begun, left_after};
+    ghost use Rattle.outside.specs.declared.side.Side.TheVariants.{Left, Right};
 
     /// A disk whose sides have these bytes. All its writes together may have `room` bytes, it serves `calls` calls, and the
     /// calls of the numbers in `fails` fail, the first being 1. It takes all its memory here, so that no later call can
@@ -81,6 +85,31 @@ impl MemoryDisk {
         ensures { result ≡ self.now.calls }
     {
         self.calls.made()
+    }
+
+    /// What a stop in the middle of the call of this number would have left, the first call being 1: the bytes of the left
+    /// and of the right side. Each byte that may be any byte is `fill`, and each length that may vary is the greatest if
+    /// `long`, and else the least.
+    ///
+    /// A number past those of the calls made stands for a stop after them, and 0 for one before the first.
+    pub fn image(
+        &self,
+        alloc: Global,
+        call: u64,
+        fill: u8,
+        long: bool,
+    ) -> Result<(Vec<u8>, Vec<u8>), AllocError>
+        ensures left { IfOk result (λ sides. sides.0.items ≡ left_after fill long (first_of self.now) (begun call self.now.kept) Left) }
+        ensures right { IfOk result (λ sides. sides.1.items ≡ left_after fill long (first_of self.now) (begun call self.now.kept) Right) }
+
+        // It is an image of the disk once that call has begun, and so one of those of all moments since any earlier call.
+        ensures image { IfOk result (λ sides. Images (first_of self.now) (begun call self.now.kept) (by_side sides.0.items sides.1.items)) }
+        ensures moment { (t : ℕ) → t < call → IfOk result (λ sides. Since (first_of self.now) self.now.kept t (by_side sides.0.items sides.1.items)) }
+    {
+        let count = self.disk.log.begun(call);
+        let left = self.disk.left_on(alloc, Side::Left, count, fill, long)?;
+        let right = self.disk.left_on(alloc, Side::Right, count, fill, long)?;
+        Ok((left, right))
     }
 }
 
