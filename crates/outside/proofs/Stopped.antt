@@ -1,17 +1,17 @@
 -- What is left by a stop inside a call is an image.
-use Rattle.std.proofs.Common.{◌≡◌, ◌⊎◌, inl, inr, zero, suc, ℕ, ◌+◌, ◌-◌, ◌<◌, ◌≤◌, List, [], ◌∷◌, ◌++◌, length, take, drop, refl, sym, ◌∙◌, ap, subst, arith, rules, IsTrue}
-use Rattle.std.specs.Prelude.{replicate, nat_le, nat_lt, Bool, true, false}
+use Rattle.std.proofs.Common.{◌≡◌, ◌⊎◌, inl, inr, zero, suc, ℕ, ◌+◌, ◌-◌, ◌<◌, ◌≤◌, List, [], ◌∷◌, length, take, drop, refl, sym, subst, arith, rules, IsTrue}
+use Rattle.std.specs.Prelude.{replicate, nat_le, Bool, true, false}
 use Rattle.std.specs.Bool.{if◌then◌else◌}
 use Rattle.std.proofs.lemmas.Bool.{cases_order}
-use Rattle.std.proofs.lemmas.List.{places, same_lists, get_or-replicate, length-replicate, take-take, length-take, take_at, length-take-le}
+use Rattle.std.proofs.lemmas.List.{places, same_lists, get_or-replicate, length-replicate}
 use Rattle.outside.specs.declared.side.Side.{Side}
 use Rattle.outside.specs.declared.side.Side.TheVariants.{Left, Right}
 use Rattle.outside.specs.Disk.{Sides, overwritten, Torn, TornCut, OnSide}
 use Rattle.outside.specs.DiskCalls.{Call, nothing, wrote, tore, was_cut, tore_cut, synced, Images, Since, by_side, contents, changed, are_possible}
-use Rattle.outside.specs.DiskStop.{torn, torn_cut, left_after, begun, unsynced}
+use Rattle.outside.proofs.Extremes.{extreme, filled_everywhere}
+use Rattle.outside.specs.DiskStop.{IsExtreme, IsFilled, torn, torn_cut, left_after, begun, unsynced}
 use Rattle.outside.specs.DiskLaws.{counts_now}
 use Rattle.outside.proofs.Reading.{torn_done, torn_same, cut_done, cut_same, both_true}
-use Rattle.outside.proofs.Stops.{chosen, refused}
 
 -- some sides as one has them, and the others as another has them
 abbrev mixed : (Side → Bool) → Sides → Sides → Sides
@@ -184,3 +184,9 @@ module _ (fill : ℕ) (long : Bool) (first : Sides) (calls : List Call) (number 
 
   pub moment_of : (t : ℕ) → t < number → Since first calls t (by_side left right)
   moment_of t before = since_begun first number calls t (by_side left right) before image_of
+
+  pub extreme_of : IsExtreme long (Images first (begun number calls)) (by_side left right)
+  extreme_of = subst (λ (c : Sides). IsExtreme long (Images first (begun number calls)) c) (by_sides (left_after fill long first (begun number calls)) left right is_left is_right) (extreme fill long first (begun number calls))
+
+  pub filled_of : IsFilled fill (Images first (begun number calls)) (by_side left right)
+  filled_of = subst (λ (c : Sides). IsFilled fill (Images first (begun number calls)) c) (by_sides (left_after fill long first (begun number calls)) left right is_left is_right) (filled_everywhere fill long first (begun number calls))

@@ -1,11 +1,11 @@
 -- The calls that a disk in memory kept, made again: what a stop leaves.
-use Rattle.std.proofs.Common.{◌≡◌, inl, inr, ℕ, ◌+◌, ◌-◌, ◌<◌, ◌≤◌, List, [], ◌∷◌, ◌++◌, length, take, drop, refl, sym, ◌∙◌, ap, subst, arith, rules, min, map, reverse, get_or, length-drop, length-append, append_assoc}
+use Rattle.std.proofs.Common.{◌≡◌, ℕ, ◌+◌, ◌-◌, ◌<◌, ◌≤◌, List, [], ◌∷◌, ◌++◌, length, take, drop, refl, sym, ◌∙◌, ap, subst, arith, rules, min, map, reverse, get_or, length-drop}
 use Rattle.std.specs.Prelude.{nat_le, replicate, max, Bool, true, false, Result, OnOk, is_ok}
 use Rattle.std.specs.Bool.{if◌then◌else◌}
 use Rattle.std.specs.declared.result.Result.TheVariants.{Ok, Err}
 use Rattle.std.proofs.lemmas.List.{places, same_lists, get_or-replicate, length-replicate, length-take, take_at, take_more, take-append-drop, drop_at, map-append, reverse-append, length-reverse, length-map}
 use borrow.Rule.Slice.PartMut.{put_mid}
-use Rattle.outside.specs.Disk.{Sides, overwritten}
+use Rattle.outside.specs.Disk.{overwritten}
 use Rattle.outside.specs.DiskCalls.{Call, seen}
 use Rattle.outside.specs.declared.side.Side.{Side}
 use Rattle.outside.specs.declared.entry.Entry.{Entry}

@@ -1,6 +1,6 @@
 -- What a stop inside a call on a disk in memory leaves, where each byte that may be any is one and the same, and each length that may vary is
 -- the greatest or the least.
-use Rattle.std.specs.Prelude.{◌≡◌, ◌⊎◌, ◌<◌, ◌≤◌, get_or, ℕ, ◌+◌, ◌-◌, List, [], ◌∷◌, ◌++◌, length, take, drop, replicate, Bool, true, false, nat_le}
+use Rattle.std.specs.Prelude.{◌≡◌, ◌⊎◌, ◌<◌, ◌≤◌, get_or, ℕ, ◌-◌, List, [], ◌∷◌, ◌++◌, length, take, drop, replicate, Bool, true, false, nat_le}
 use Rattle.std.specs.Bool.{if◌then◌else◌}
 use Rattle.outside.specs.Disk.{Sides, overwritten}
 use Rattle.outside.specs.declared.side.Side.{Side}

@@ -49,7 +49,7 @@ impl MemoryDisk {
     ghost use Rattle.std.specs.Prelude.{ℕ};
     ghost use Rattle.outside.specs.DiskCalls.{by_side};
     ghost use Rattle.outside.specs.DiskMemory.{DiskInMemory, first_of};
-    ghost use Rattle.outside.specs.DiskStop.{begun, left_after};
+    ghost use Rattle.outside.specs.DiskStop.{begun, left_after, IsExtreme, IsFilled};
     ghost use Rattle.outside.specs.declared.side.Side.TheVariants.{Left, Right};
 
     /// A disk whose sides have these bytes. All its writes together may have `room` bytes, it serves `calls` calls, and the
@@ -102,8 +102,13 @@ impl MemoryDisk {
         ensures left { IfOk result (λ sides. sides.0.items ≡ left_after fill long (first_of self.now) (begun call self.now.kept) Left) }
         ensures right { IfOk result (λ sides. sides.1.items ≡ left_after fill long (first_of self.now) (begun call self.now.kept) Right) }
 
-        // It is an image of the disk once that call has begun, and so one of those of all moments since any earlier call.
+        // It is an image of the disk once that call has begun, the longest or the shortest of them, and each of its bytes is
+        // `fill` or what all of them have there.
         ensures image { IfOk result (λ sides. Images (first_of self.now) (begun call self.now.kept) (by_side sides.0.items sides.1.items)) }
+        ensures extreme { IfOk result (λ sides. IsExtreme long (Images (first_of self.now) (begun call self.now.kept)) (by_side sides.0.items sides.1.items)) }
+        ensures filled { IfOk result (λ sides. IsFilled fill (Images (first_of self.now) (begun call self.now.kept)) (by_side sides.0.items sides.1.items)) }
+
+        // So it is one of the images of all moments since any earlier call.
         ensures moment { (t : ℕ) → t < call → IfOk result (λ sides. Since (first_of self.now) self.now.kept t (by_side sides.0.items sides.1.items)) }
     {
         let count = self.disk.log.begun(call);
