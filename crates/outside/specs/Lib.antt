@@ -6,4 +6,5 @@ pub mod DiskLaws
 pub mod DiskLog
 pub mod DiskMemory
 pub mod DiskStop
+pub mod Files
 pub mod Memory

@@ -1,13 +1,15 @@
 // Two files of the working directory as a disk.
-ghost use Rattle.std.specs.Prelude.{◌≡◌, ◌+◌, ◌<◌, ◌≤◌, ◌^◌, [], length, take, IfOk, Ok};
+ghost use Rattle.std.specs.Prelude.{◌≡◌, ◌+◌, ◌<◌, ◌≤◌, ◌^◌, [], length, take, IfOk, IsOk, OnOk, Ok, is_some, true, false};
 ghost use Rattle.std.specs.Io.{ReadsAtMost};
 ghost use Rattle.outside.specs.Cause.{CountsFault, HasCause};
+ghost use Rattle.outside.specs.Files.{is_there, SameFiles, KeepsFiles};
 ghost use Rattle.outside.specs.Disk.{overwritten, Torn, TornCut, OnSide, Reads, Leaves, SameImages, Syncs, Elapses, ReadsAt};
 
 use crate::faults::Faults;
 use crate::{Disk, Failed, Side};
 use std::fs::{OpenFile, OpenOptions};
 use std::io::{self, Read, Seek, SeekFrom, Write};
+use std::marker::Model;
 use std::rt::Files;
 
 /// The files `rodin.left` and `rodin.right` of the working directory as a disk, which tells no content. Each error of a
@@ -20,6 +22,15 @@ pub struct FilePair<'a, R: Files> {
     left: Option<R::File>,
     right: Option<R::File>,
     faults: Faults,
+}
+
+impl<'a, R: Files> Model for FilePair<'a, R> {
+    ghost use Rattle.std.specs.Prelude.{is_some};
+    ghost use Rattle.outside.specs.Files.{FilesOfDisk};
+
+    ghost Value = { FilesOfDisk };
+
+    ghost view = { λ d. record { left = is_some d.left; right = is_some d.right; faults = d.faults } };
 }
 
 fn open<R: Files>(rt: &R, path: &str) -> io::Result<Option<R::File>> {
@@ -68,7 +79,7 @@ fn path_of(side: Side) -> &'static str {
 impl<'a, R: Files> FilePair<'a, R> {
     /// The two files, each opened for reading and writing where it is there.
     pub fn new(rt: &'a R) -> io::Result<FilePair<'a, R>>
-        ensures { IfOk result (λ disk. ⟦<FilePair<'a, R> as Disk>⟧.faults disk ≡ 0) }
+        ensures { IfOk result (λ disk. disk.faults ≡ 0) }
     {
         let left = open(rt, "rodin.left")?;
         let right = open(rt, "rodin.right")?;
@@ -86,6 +97,9 @@ fn counted<T>(faults: &mut Faults, answer: io::Result<T>) -> Result<T, Failed>
     ensures cause { HasCause faults.old faults.new result }
     ensures counted { CountsFault faults.old faults.new result }
     ensures value { IfOk result (λ value. answer ≡ Ok value) }
+    ensures ok { (value : T) → answer ≡ Ok value → result ≡ Ok value }
+    ensures sure { IsOk answer → IsOk result }
+    ensures same { (value : T) → answer ≡ Ok value → faults.new ≡ faults.old }
 {
     match answer {
         Ok(value) => Ok(value),
@@ -93,7 +107,9 @@ fn counted<T>(faults: &mut Faults, answer: io::Result<T>) -> Result<T, Failed>
     }
 }
 
-fn length_of<F: OpenFile>(file: &Option<F>) -> io::Result<u64> {
+fn length_of<F: OpenFile>(file: &Option<F>) -> io::Result<u64>
+    ensures { is_some file.now ≡ false → result ≡ Ok 0 }
+{
     match file {
         None => Ok(0),
         Some(file) => Ok(file.metadata()?.len()),
@@ -101,7 +117,9 @@ fn length_of<F: OpenFile>(file: &Option<F>) -> io::Result<u64> {
 }
 
 fn read_side<F: Read + Seek>(file: &mut Option<F>, at: u64, into: &mut [u8]) -> io::Result<usize>
-    ensures { IfOk result (λ n. n ≤ length into.new) }
+    ensures bound { IfOk result (λ n. n ≤ length into.new) }
+    ensures absent { is_some file.old ≡ false → result ≡ Ok 0 }
+    ensures same { is_some file.new ≡ is_some file.old }
 {
     match file {
         None => Ok(0),
@@ -115,7 +133,10 @@ fn write_side<R: Files>(
     file: &mut Option<R::File>,
     at: u64,
     bytes: &[u8],
-) -> io::Result<()> {
+) -> io::Result<()>
+    ensures made { OnOk result (is_some file.new ≡ true) }
+    ensures kept { is_some file.old ≡ true → is_some file.new ≡ true }
+{
     if file.is_none() {
         *file = Some(make(rt, path)?);
     }
@@ -125,14 +146,18 @@ fn write_side<R: Files>(
     }
 }
 
-fn cut_side<F: OpenFile>(file: &Option<F>, len: u64) -> io::Result<()> {
+fn cut_side<F: OpenFile>(file: &Option<F>, len: u64) -> io::Result<()>
+    ensures { is_some file.now ≡ false → IsOk result }
+{
     match file {
         None => Ok(()),
         Some(file) => file.set_len(len),
     }
 }
 
-fn sync_side<F: OpenFile>(file: &Option<F>) -> io::Result<()> {
+fn sync_side<F: OpenFile>(file: &Option<F>) -> io::Result<()>
+    ensures { is_some file.now ≡ false → IsOk result }
+{
     match file {
         None => Ok(()),
         Some(file) => file.sync_all(),
@@ -140,6 +165,7 @@ fn sync_side<F: OpenFile>(file: &Option<F>) -> io::Result<()> {
 }
 
 impl<'a, R: Files> Disk for FilePair<'a, R> {
+    // It reports nothing, so what the trait says of a content says nothing here.
     ghost told = { ⊥ };
 
     ghost bytes_of = { λ _ _. [] };
@@ -164,10 +190,12 @@ impl<'a, R: Files> Disk for FilePair<'a, R> {
         ensures len { ⊥ → IfOk result (λ n. n ≡ 0) }
         ensures images { ⊥ → SameImages (λ _. ⊥) (λ _. ⊥) }
         ensures time { ⊥ → Elapses 0 0 (λ _ _. ⊥) (λ _ _. ⊥) (λ _. ⊥) }
-        ensures cause { let faults = ⟦<FilePair<'a, R> as Disk>⟧.faults in
-            HasCause (faults self.old) (faults self.new) result }
-        ensures counted { let faults = ⟦<FilePair<'a, R> as Disk>⟧.faults in
-            CountsFault (faults self.old) (faults self.new) result }
+        ensures cause { HasCause self.old.faults self.new.faults result }
+        ensures counted { CountsFault self.old.faults self.new.faults result }
+
+        // A file that isn't there has length 0.
+        ensures absent { is_there self.old side ≡ false → result ≡ Ok 0 }
+        ensures files { SameFiles self.old self.new }
     {
         let answer = match side {
             Side::Left => length_of(&self.left),
@@ -181,10 +209,12 @@ impl<'a, R: Files> Disk for FilePair<'a, R> {
         ensures read { ⊥ → IfOk result (λ n. ReadsAt [] at n into.old into.new) }
         ensures images { ⊥ → SameImages (λ _. ⊥) (λ _. ⊥) }
         ensures time { ⊥ → Elapses 0 0 (λ _ _. ⊥) (λ _ _. ⊥) (λ _. ⊥) }
-        ensures cause { let faults = ⟦<FilePair<'a, R> as Disk>⟧.faults in
-            HasCause (faults self.old) (faults self.new) result }
-        ensures counted { let faults = ⟦<FilePair<'a, R> as Disk>⟧.faults in
-            CountsFault (faults self.old) (faults self.new) result }
+        ensures cause { HasCause self.old.faults self.new.faults result }
+        ensures counted { CountsFault self.old.faults self.new.faults result }
+
+        // A file that isn't there has length 0.
+        ensures absent { is_there self.old side ≡ false → result ≡ Ok 0 }
+        ensures files { SameFiles self.old self.new }
     {
         match side {
             Side::Left => counted(&mut self.faults, read_side(&mut self.left, at, into)),
@@ -197,10 +227,12 @@ impl<'a, R: Files> Disk for FilePair<'a, R> {
         ensures bytes { ⊥ → Reads side (overwritten at bytes.now []) result (λ _. []) (λ _. []) }
         ensures images { ⊥ → Leaves (OnSide side (Torn at (length bytes.now))) result (λ _. ⊥) (λ _. ⊥) }
         ensures time { ⊥ → Elapses 0 0 (λ _ _. ⊥) (λ _ _. ⊥) (λ _. ⊥) }
-        ensures cause { let faults = ⟦<FilePair<'a, R> as Disk>⟧.faults in
-            HasCause (faults self.old) (faults self.new) result }
-        ensures counted { let faults = ⟦<FilePair<'a, R> as Disk>⟧.faults in
-            CountsFault (faults self.old) (faults self.new) result }
+        ensures cause { HasCause self.old.faults self.new.faults result }
+        ensures counted { CountsFault self.old.faults self.new.faults result }
+
+        // A write makes a file that isn't there.
+        ensures made { OnOk result (is_there self.new side ≡ true) }
+        ensures files { KeepsFiles self.old self.new }
     {
         let answer = match side {
             Side::Left => write_side(self.rt, path_of(side), &mut self.left, at, bytes),
@@ -213,10 +245,12 @@ impl<'a, R: Files> Disk for FilePair<'a, R> {
         ensures bytes { ⊥ → Reads side (take «len» []) result (λ _. []) (λ _. []) }
         ensures images { ⊥ → Leaves (OnSide side (TornCut «len»)) result (λ _. ⊥) (λ _. ⊥) }
         ensures time { ⊥ → Elapses 0 0 (λ _ _. ⊥) (λ _ _. ⊥) (λ _. ⊥) }
-        ensures cause { let faults = ⟦<FilePair<'a, R> as Disk>⟧.faults in
-            HasCause (faults self.old) (faults self.new) result }
-        ensures counted { let faults = ⟦<FilePair<'a, R> as Disk>⟧.faults in
-            CountsFault (faults self.old) (faults self.new) result }
+        ensures cause { HasCause self.old.faults self.new.faults result }
+        ensures counted { CountsFault self.old.faults self.new.faults result }
+
+        // Without a file this does nothing.
+        ensures absent { is_there self.old side ≡ false → IsOk result }
+        ensures files { SameFiles self.old self.new }
     {
         let answer = match side {
             Side::Left => cut_side(&self.left, len),
@@ -228,10 +262,12 @@ impl<'a, R: Files> Disk for FilePair<'a, R> {
     fn sync(&mut self, side: Side) -> Result<(), Failed>
         ensures images { ⊥ → Syncs side [] result (λ _. ⊥) (λ _. ⊥) }
         ensures time { ⊥ → Elapses 0 0 (λ _ _. ⊥) (λ _ _. ⊥) (λ _. ⊥) }
-        ensures cause { let faults = ⟦<FilePair<'a, R> as Disk>⟧.faults in
-            HasCause (faults self.old) (faults self.new) result }
-        ensures counted { let faults = ⟦<FilePair<'a, R> as Disk>⟧.faults in
-            CountsFault (faults self.old) (faults self.new) result }
+        ensures cause { HasCause self.old.faults self.new.faults result }
+        ensures counted { CountsFault self.old.faults self.new.faults result }
+
+        // Without a file this does nothing.
+        ensures absent { is_there self.old side ≡ false → IsOk result }
+        ensures files { SameFiles self.old self.new }
     {
         let answer = match side {
             Side::Left => sync_side(&self.left),
