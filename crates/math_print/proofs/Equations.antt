@@ -1,5 +1,5 @@
 -- The equations of the printed text and of the depth of a formula, one for each variant.
-use Rattle.std.proofs.Common.{◌≡◌, ◌∙◌, sym, ap, ℕ, ℤ, ◌+◌, ◌-◌, Bool, List, length, map}
+use Rattle.std.proofs.Common.{◌≡◌, ap, ℕ, ℤ, ◌+◌, ◌-◌, Bool, List, length, map}
 use Rattle.std.specs.Fmt.{signed_decimal}
 use Rattle.formula_core.specs.declared.op.Op.{Op}
 use Rattle.formula_core.specs.declared.op.Binder.{Binder}

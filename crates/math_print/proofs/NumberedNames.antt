@@ -19,7 +19,7 @@ use Rattle.std.specs.BTreeMap.{is_at}
 use Rattle.std.specs.Ordering.{nat_cmp}
 use Rattle.std.specs.Cmp.Lexicographic.{slice_cmp}
 use Rattle.formula_core.specs.declared.ty.Ty.{Ty}
-use Rattle.math_print.specs.Names.{numbered, numbered_names, first_allowed}
+use Rattle.math_print.specs.Names.{numbered, numbered_names}
 
 pub both_true : (a b : Bool) → (a && b) ≡ true → (a ≡ true) × (b ≡ true)
 both_true true b h = (refl, h)

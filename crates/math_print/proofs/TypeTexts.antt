@@ -4,7 +4,7 @@ use Rattle.formula_core.specs.declared.ty.Ty.{Ty}
 use Rattle.formula_core.specs.declared.ty.Ty.TheOpen.{Ty-F, Int as IntF, Bool as BoolF, Given as GivenF, Pow as PowF, Pair as PairF, Truth as TruthF}
 use Rattle.formula_core.specs.declared.ty.Ty.TheVariants.{Int, Bool, Given, Pow, Pair, Truth}
 use Rattle.formula_core.specs.declared.ty.Ty.TheViews.{roll-Ty, rolls-Int, rolls-Bool, rolls-Given, rolls-Pow, rolls-Pair, rolls-Truth}
-use Rattle.formula_core.specs.declared.ty.Ty.TheFolds.{map-Ty, para-Ty, para-roll-Ty}
+use Rattle.formula_core.specs.declared.ty.Ty.TheFolds.{map-Ty, para-roll-Ty}
 use Rattle.std.proofs.Common.{◌∙◌, sym, ap, append_assoc}
 use Rattle.std.proofs.lemmas.List.{append-nil}
 use Rattle.math_print.specs.Characters.{bytes}

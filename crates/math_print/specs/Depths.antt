@@ -1,5 +1,5 @@
 -- How many identifiers are bound around a place.
-use Rattle.std.specs.Prelude.{ℕ, ◌+◌, List, length}
+use Rattle.std.specs.Prelude.{ℕ, ◌+◌, length}
 use Rattle.formula_core.specs.declared.formula.Formula.{Formula}
 use Rattle.formula_core.specs.declared.formula.Formula.TheOpen.{Formula-F, Int, Free, Bound, Node, Bind}
 use Rattle.formula_core.specs.declared.formula.Formula.TheFolds.{fold-Formula}

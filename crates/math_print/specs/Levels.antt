@@ -1,5 +1,5 @@
 -- How tightly printed forms hold together, and which operands are in parentheses.
-use Rattle.std.specs.Prelude.{ℕ, Bool, true, false, ◌==◌, ◌&&◌, ◌||◌, not, nat_lt, nat_le, nat_eq}
+use Rattle.std.specs.Prelude.{ℕ, Bool, true, false, ◌==◌, ◌&&◌, ◌||◌, not, nat_lt}
 use Rattle.formula_core.specs.declared.op.Op.{Op}
 use Rattle.formula_core.specs.declared.op.Op.TheVariants as op
 use Rattle.formula_core.specs.declared.op.Binder.{Binder}

@@ -1,5 +1,5 @@
 -- The sign with which each operator is printed.
-use Rattle.std.specs.Prelude.{ℕ, List, [], ◌++◌}
+use Rattle.std.specs.Prelude.{ℕ, List, []}
 use Rattle.formula_core.specs.declared.op.Op.{Op}
 use Rattle.formula_core.specs.declared.op.Op.TheVariants as op
 use Rattle.math_print.specs.Characters.{bytes}

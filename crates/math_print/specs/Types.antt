@@ -1,5 +1,5 @@
 -- How types are printed.
-use Rattle.std.specs.Prelude.{ℕ, List, [], ◌++◌, Bool, is_some, if◌then◌else◌}
+use Rattle.std.specs.Prelude.{ℕ, List, [], ◌++◌, is_some, if◌then◌else◌}
 use Rattle.formula_core.specs.declared.ty.Ty.{Ty}
 use Rattle.formula_core.specs.declared.ty.Ty.TheOpen.{Ty-F, Int as Integer, Bool as Boolean, Given, Pow, Pair, Truth}
 use Rattle.formula_core.specs.declared.ty.Ty.TheFolds.{para-Ty}

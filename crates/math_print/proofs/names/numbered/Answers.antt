@@ -1,4 +1,4 @@
-use Rattle.std.proofs.Common.{rules, arith, ◌≡◌, ap, ◌∙◌, sym, Err, true, false}
+use Rattle.std.proofs.Common.{rules, arith, ◌≡◌, ap, Err, true, false}
 use Rattle.formula_core.specs.Names.{is_name}
 use Rattle.math_print.specs.Names.{numbered}
 use Rattle.math_print.proofs.NumberedNames.{numbered-is_name}

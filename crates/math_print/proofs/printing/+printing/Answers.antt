@@ -1,4 +1,4 @@
-use Rattle.std.proofs.Common.{rules, arith, ◌≡◌, ◌∙◌, ap, sym, refl, ◌+◌, ◌-◌, ◌≤◌, ◌++◌, ◌∷◌, [], Bool, true, false, List, ℕ, map, length, string_bytes}
+use Rattle.std.proofs.Common.{rules, arith, ◌≡◌, ◌∙◌, ap, sym, ◌-◌, ◌++◌, ◌∷◌, [], false, map, string_bytes}
 use Rattle.math_print.specs.Characters.{bytes, comma_after, separated}
 use Rattle.math_print.specs.Printing.{printed, with_texts, bind_text, name_at, body_text, operand, operator_text}
 use Rattle.math_print.specs.declared.levels.Side.TheVariants as side
