@@ -1,5 +1,5 @@
 use super::*;
-use formula_core::{Env, List, Name, NameFault, Op, Raw, RawOp, Ty};
+use formula_core::{Env, List, Name, NameFault, OPERATORS, Op, Raw, RawOp, Ty};
 use std::alloc::{AllocError, Global};
 use std::test::Fail;
 
@@ -135,6 +135,33 @@ fn an_expression_is_typed_by_itself(rt: HostRuntime) -> Result<(), Fail> {
     match type_expression(alloc, &Env::new(alloc), None, &raw) {
         Ok(formula) => assert!(rt; formula.type_of(&Ty::Int).is_integer()),
         Err(_) => assert!(rt; false),
+    }
+    Ok(())
+}
+
+fn is_connective(op: Op) -> bool {
+    matches!(op, Op::And | Op::Or | Op::Implies | Op::Equivalent)
+}
+
+#[test]
+fn predicates_are_operands_of_connectives_alone(rt: HostRuntime) -> Result<(), Fail> {
+    let alloc = rt.alloc();
+    for op in OPERATORS {
+        let left = nullary(alloc, Op::Top);
+        let raw = binary(alloc, RawOp::Plain(op), left, nullary(alloc, Op::Top))?;
+        let wanted = if is_connective(op) { "ok" } else { "clash" };
+        assert_eq!(rt; answer(alloc, &[], &raw), wanted);
+    }
+    Ok(())
+}
+
+#[test]
+fn expressions_are_no_operands_of_connectives(rt: HostRuntime) -> Result<(), Fail> {
+    let alloc = rt.alloc();
+    for op in OPERATORS {
+        let left = Raw::Int(1, 0);
+        let raw = binary(alloc, RawOp::Plain(op), left, nullary(alloc, Op::Top))?;
+        assert_eq!(rt; answer(alloc, &[], &raw), "clash");
     }
     Ok(())
 }

@@ -1,0 +1,4 @@
+pub mod Answers
+pub mod CoreActions
+pub mod Results
+pub mod Typings
