@@ -10,12 +10,11 @@ use Rattle.formula_core.specs.declared.raw.Action.{Action}
 use Rattle.formula_core.specs.declared.raw.Action.TheVariants as action
 use Rattle.formula_core.specs.Env.{type_in}
 use Rattle.formula_core.specs.Names.{is_identifier}
-use Rattle.formula_core.specs.Wellness.{type_of, is_well}
 use Rattle.type_core.specs.Bare.{Bare}
 use Rattle.type_core.specs.Answers.{HasTwoFormulas}
 use Rattle.type_core.proofs.WellTyped.{formula_well}
 use Rattle.type_action.specs.CoreActions.{CoreAction, Assign, ChooseIn, ChooseSuch, target_type, with_target, typed_targets, unknown_targets, primed_targets, agree, env_after}
-use Rattle.type_action.specs.Typings.{IsFormulaOf, IsNewValue, AreNewValues, IsChoiceSuch, IsActionOf, IsWellAs, IsWellAction}
+use Rattle.type_action.specs.Typings.{IsFormulaOf, IsNewValue, AreNewValues, IsActionOf, IsWellAs, IsWellAction}
 use Rattle.type_core.specs.declared.predicate.TypeFault.{TypeFault}
 use Rattle.type_action.specs.Results.{IsOnly, HasNone, HasTwo, IsAdded}
 use Rattle.type_action.specs.Answers.{TellsFault}

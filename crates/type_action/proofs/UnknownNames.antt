@@ -1,5 +1,5 @@
 -- The unknown names of an action, one after another.
-use Rattle.std.proofs.Common.{◌≡◌, ◌∙◌, sym, ap, refl, ℕ, Bool, true, false, cond, List, [], ◌∷◌, ◌++◌, fold, map, Option, Some, None}
+use Rattle.std.proofs.Common.{◌≡◌, ◌∙◌, sym, ap, refl, ℕ, Bool, true, false, cond, List, [], ◌∷◌, ◌++◌, fold, Option, Some, None}
 use Rattle.std.specs.Prelude.{nat_lt, is_some}
 use Rattle.formula_core.specs.declared.ty.Ty.{Ty}
 use Rattle.formula_core.specs.declared.raw.Ref.{Ref}

@@ -1,5 +1,5 @@
 -- What is typed is well, and has its type.
-use Rattle.std.proofs.Common.{◌≡◌, ◌∙◌, sym, ap, subst, refl, ℕ, zero, suc, ◌-◌, Bool, true, false, cond, ◌&&◌, List, [], ◌∷◌, ◌++◌, append_assoc, length, map, replicate, reverse, slice_get, Option, Some, None, bytes_eq, IsTrue, arith}
+use Rattle.std.proofs.Common.{◌≡◌, ◌∙◌, sym, ap, subst, refl, ℕ, zero, suc, ◌-◌, Bool, true, false, cond, List, [], ◌∷◌, ◌++◌, append_assoc, length, map, replicate, reverse, slice_get, Option, Some, None, bytes_eq, IsTrue}
 use Rattle.std.specs.List.{AllByRecursion, list_all}
 use Rattle.std.specs.Option.{option_map_or}
 use Rattle.std.proofs.lemmas.Grind.{reverse_onto}
@@ -13,8 +13,8 @@ use Rattle.formula_core.specs.declared.formula.Formula.TheViews.{outs-Int, outs-
 use Rattle.formula_core.specs.Types.{same_type, is_value_type}
 use Rattle.formula_core.specs.Rows.{row_of}
 use Rattle.formula_core.specs.TypeTable.{fits, binder_fits}
-use Rattle.formula_core.specs.Schemes.{alpha, power, truth, Letters, AreValues, type_at, operand_schemes, result_scheme, part_schemes, binder_scheme, IsInstance}
-use Rattle.formula_core.specs.Wellness.{type_of_step, type_of, is_natural, may_be_bound, is_well_in, is_well}
+use Rattle.formula_core.specs.Schemes.{alpha, power, Letters, AreValues, type_at, operand_schemes, result_scheme, IsInstance}
+use Rattle.formula_core.specs.Wellness.{type_of_step, type_of, may_be_bound, is_well_in, is_well}
 use Rattle.formula_core.proofs.Schemes.{fits_exactly, binder_fits_exactly}
 use Rattle.formula_core.proofs.Weakening.{both_true}
 use Rattle.formula_core.proofs.Wellness.{well-Int, well-Free, well-Bound, well-Node, well-Bind}

@@ -1,5 +1,4 @@
 use Rattle.std.proofs.Common.{◌≡◌, ◌∙◌, sym, ap, subst, rules, true}
-use Rattle.formula_core.specs.declared.formula.Formula.{Formula}
 use Rattle.formula_core.specs.declared.raw.Action.{Action}
 use Rattle.formula_core.specs.declared.raw.Action.TheVariants as action
 use Rattle.formula_core.specs.declared.ty.Ty.TheVariants as ty

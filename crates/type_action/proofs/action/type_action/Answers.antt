@@ -1,4 +1,3 @@
-use Rattle.std.proofs.Common.{◌≡◌, IfOk}
 use Rattle.type_core.specs.Unknowns.{first_by_place}
 use Rattle.type_action.specs.CoreActions.{core_action, unknowns_of}
 use Rattle.type_action.specs.Results.{IsOnly}
