@@ -11,7 +11,7 @@ use std::alloc::Global;
 
 /// How many places the variables of the equations take.
 pub(crate) fn count_variables(equations: &[Equation]) -> usize
-    ensures { variables_in (equations_of equations.now) ≤ result }
+    ensures { result ≡ variables_in (equations_of equations.now) }
 {
     let mut count = 0;
     for equation in equations {

@@ -46,7 +46,7 @@ pub struct Equation {
     pub right: Term,
 }
 
-/// The types that all solutions of the equations give to the variables, each at its number. A variable has no type there, or is past the end, where two solutions give it different types. What is found of a type is kept once, whatever leads to it, and types are written out only where there is a solution.
+/// The types that all solutions of the equations give to the variables, each at its number. A variable has no type there, or is past the end, where two solutions give it different types. What is found of a type is kept once, whatever leads to it, and types are written out only where there is a solution. Each number up to the greatest of a variable takes a place, so they should have no large gaps.
 pub fn solve(alloc: Global, equations: Vec<Equation>) -> Result<Vec<Option<Ty>>, SolveFault>
     ensures known { IfOk result (λ types. AreKnown (equations_of equations.items) types.items) }
     ensures no_solution { IsErrOf result SolveFault.NoSolution → HasNoSolution (equations_of equations.items) }
