@@ -22,17 +22,19 @@ use Rattle.math_grammar.specs.declared.levels.Binding.{Binding}
 use Rattle.math_grammar.specs.declared.levels.Binding.TheVariants as binding
 use Rattle.math_grammar.specs.declared.symbols.Symbol.{Symbol}
 use Rattle.math_grammar.specs.declared.symbols.Symbol.TheVariants as sign
-use Rattle.math_grammar.specs.Levels.{rank, level, right_of, takes_left, reaches, fits, inside, suffixes, goes_on, infix_of, is_declaration, prefix_hole, call_hole, call_grade, call_parts, has_room, binding_grade, binder_of, implicit_of, takes_names, takes_shape, is_closed}
+use Rattle.math_grammar.specs.declared.shapes.Shape.{Shape}
+use Rattle.math_grammar.specs.Levels.{rank, level, right_of, takes_left, reaches, fits, inside, suffixes, goes_on, infix_of, is_typing, is_declaration, prefix_hole, call_hole, call_grade, call_parts, has_room, binding_grade, binder_of, implicit_of, takes_names, takes_shape, is_closed}
 use Rattle.math_grammar.specs.Tokens.{Item}
-use Rattle.math_grammar.specs.Grammar.{item, place_of, bound, between, type_with, Ends, Spells}
+use Rattle.math_grammar.specs.Grammar as grammar
+use Rattle.math_grammar.specs.Grammar.{item, lone, joined, place_of, bound, between, type_with, Ends, Spells}
 use Rattle.math_parse.specs.declared.frames.Frame.{Frame}
 use Rattle.math_parse.specs.declared.frames.Frame.TheVariants as frame
-use Rattle.math_parse.specs.Machine.{hole_of, place, want, have, calling, shape_want, bound_of, bounds_of, body_of, opened, after_names, Outcome, run}
+use Rattle.math_parse.specs.Machine.{hole_of, place, State, want, have, calling, shape_want, shape_have, after_shape, bound_of, bounds_of, body_of, opened, after_names, Outcome, run}
 use Rattle.math_parse.proofs.Basics.{name_of-name, typed_name_of-between, bound_of-name, bound_of-between, bounds_of-more, both, fits_reaches, reached, reached_least, reaches_left, fits_expression, declaration_rank, Opens, group_opens, prefix_begins, binding_begins}
-use Rattle.math_parse.proofs.Complete.{suffix_reaches, attach_on, attach_infix, attach_suffix, suffix_closes, ends_finished, takes_sign, begins, goes, Stops, complete_pattern}
+use Rattle.math_parse.proofs.Complete.{suffix_reaches, attach_on, attach_infix, attach_suffix, suffix_closes, ends_finished, takes_sign, begins, goes, Stops, complete_atom}
 use Rattle.math_parse.proofs.Place.{sentence_found}
 use Rattle.plain_grammar.specs.Plain as plain
-use Rattle.plain_grammar.specs.Plain.{Plain, PlainParts, PlainName, PlainNames, PlainBody, PlainLast, Accepts}
+use Rattle.plain_grammar.specs.Plain.{Plain, PlainParts, PlainName, PlainNames, PlainBody, PlainLast, PlainPattern, PlainAtom, is_maplet, Accepts}
 use Rattle.plain_grammar.proofs.Tightness.{AsTight, itself, tighter, fits_tighter, takes_tighter, level_tight, left_tight, grouped_same}
 use Rattle.plain_grammar.proofs.Paths.{IsSorted, Closes, closes_between, closes_prefixed, closes_last, Path, stop, over, further, settle, whole, Turn, inside as within, outside, turn}
 
@@ -291,11 +293,12 @@ module _ (limit : Option ℕ) (goal : Hole) where
         ∙ a.same
         ∙ takes_sign limit goal (frame.Listed c true [] p) fs a.e a.t sign.Bar q v (want (frame.Last c hole.Predicate (implicit_of c) [] (a.t ∷ []) p ∷ fs)) m (fits_tighter hole.Expression g a.e a.tight fit) refl refl refl)
         (last fs c hole.Predicate (implicit_of c) [] (a.t ∷ []) p (inl (omega arith)) end))
-    reads fs (plain.lambda {p} {q} {w} {v} {s} {m} {rest} {shape} d r) b =
+    reads fs (plain.lambda {p} {q} {w} {v} {s} {m} {rest} d r) b =
+        let shape = pattern fs false p None d (λ _ _ _. refl) refl in
         earlier
-        (begins limit goal fs (sign.Binder binding.Lambda) p w (shape_want (frame.Pattern false None p ∷ fs)) s (rw b refl) ∙ complete_pattern limit goal fs false p d refl refl)
-        (body fs binding.Lambda shape.names (shape.tree ∷ []) p r)
-    reads fs (plain.lambda_by_plain free d r) b = cc
+        (begins limit goal fs (sign.Binder binding.Lambda) p w (shape_want (frame.Pattern false None p ∷ fs)) s (rw b refl)
+        ∙ shape.1 (want (frame.Given binding.Lambda shape.0.names (shape.0.tree ∷ []) p ∷ fs)) refl)
+        (body fs binding.Lambda shape.0.names (shape.0.tree ∷ []) p r)
 
     -- the parts of a word
     more : (fs : List Frame) (c : Call) (o : RawOp) (p : ℕ) (before : List Raw) {h : Hole} {many : Option ℕ} {n : ℕ} {s rest : List Item} →
@@ -427,6 +430,32 @@ module _ (limit : Option ℕ) (goal : Hole) where
               ∙ b.same
               ∙ takes_sign limit goal (frame.TypeAfter c before n pn (Some u) p) fs b.e b.t x q w (want (f ∷ fs)) rest (fits_tighter hole.Pair h b.e b.tight also) (off.0 hole.Pair b.e) refl (rw (off.1, d) refl)))
         ]
+
+    -- a pattern, up to the sign behind it
+    pattern : (fs : List Frame) (inner : Bool) (p : ℕ) (before : Option Shape) {x : Symbol} {q : ℕ} {w : List ℕ} {s rest : List Item} →
+        PlainPattern limit false s (item x q w ∷ rest) → (is_maplet x ≡ false → (h : Hole) (g : Grade) → goes_on h g x ≡ false) → is_typing x ≡ false →
+        (shape : Shape) × ((st : State) → after_shape fs inner shape p x ≡ Some st → run limit goal (shape_want (frame.Pattern inner before p ∷ fs)) s ≡ run limit goal st rest)
+    pattern fs inner p before (plain.last_atom r) still off =
+        let a = atom (frame.Pattern inner before p ∷ fs) r still off in
+        (joined before a.0, λ st e. a.1 ∙ rw e refl)
+    pattern fs inner p before (plain.next_atom r others) still off =
+        let a = atom (frame.Pattern inner before p ∷ fs) r (λ no _ _. cc) refl in
+        let shape = pattern fs inner p (Some (joined before a.0)) others still off in
+        (shape.0, λ st e. a.1 ∙ shape.1 st e)
+
+    atom : (fs : List Frame) {x : Symbol} {q : ℕ} {w : List ℕ} {s rest : List Item} →
+        PlainAtom limit false s (item x q w ∷ rest) → (is_maplet x ≡ false → (h : Hole) (g : Grade) → goes_on h g x ≡ false) → is_typing x ≡ false →
+        (a : Shape) × (run limit goal (shape_want fs) s ≡ run limit goal (shape_have fs a) (item x q w ∷ rest))
+    atom fs {x} {q} {w} {s} {rest} (plain.bare_atom {n} {p} e) still off = (lone n p None, complete_atom limit goal fs (grammar.bare_atom e) off)
+    atom fs {x} {q} {w} {s} {rest} (plain.typed_atom {g} {o} {n} {w = w'} {p} {q = q'} {s = s'} e r fit free) still off =
+        let a = settled (item x q w ∷ rest) (still free) (reads (frame.PatternType n p ∷ fs) r (fits_reaches hole.Arrow g fit)) in
+        let fit' : fits hole.Arrow a.e ≡ true = fits_tighter hole.Arrow g a.e a.tight fit in
+        let d : goes_on hole.Arrow a.e x ≡ false = still free hole.Arrow a.e in
+        (lone n p (Some a.t), rw e (a.same ∙ rw (d, fit') refl))
+    atom fs {x} {q} {w} {s} {rest} (plain.strictly_typed {n = n} {p = p} {t = t} e r fit d) still off = (lone n p (Some t), complete_atom limit goal fs (grammar.typed_atom e r fit d) off)
+    atom fs {x} {q} {w} {s} {rest} (plain.grouped_atom {p = p} r) still off =
+        let shape = pattern fs true p None r (λ _ _ _. refl) refl in
+        (shape.0, shape.1 (shape_have fs shape.0) refl)
 
 -- what is accepted is spelled
 pub accepted : (limit : Option ℕ) (h : Hole) (s : List Item) → Accepts limit false h s → (t : Raw) × Spells limit h s t

@@ -1,10 +1,9 @@
--- With a pattern read without the condition there is one form more.
+-- Where a type may end before ↦, there is one form more.
 use Rattle.std.proofs.Common.{◌≡◌, ℕ, List, [], ◌∷◌, true, Option, refl}
 use Rattle.formula_core.specs.declared.raw.Raw.{Raw}
 use Rattle.math_grammar.specs.declared.holes.Grade.TheVariants as grade
 use Rattle.math_grammar.specs.declared.holes.Hole.TheVariants as hole
 use Rattle.math_grammar.specs.Tokens.{Item}
-use Rattle.math_grammar.specs.Grammar as grammar
 use Rattle.math_grammar.specs.Grammar.{Spells}
 use Rattle.math_parse.specs.Machine.{want, found, run}
 use Rattle.math_parse.proofs.Place.{found_sentence}
@@ -16,18 +15,18 @@ module _ (limit : Option ℕ) where
   -- λ a·⊤∣a ⦂ a, before the ↦
   first_type : (rest : List Item) → Plain limit true grade.Reaching (lambda ∷ a ∷ dot ∷ top ∷ bar ∷ a ∷ typed ∷ a ∷ rest) rest
   first_type rest =
-      plain.lambda (grammar.last_atom (grammar.bare_atom refl))
+      plain.lambda (plain.last_atom (plain.bare_atom refl))
       (plain.a_value refl plain.a_truth refl (plain.reaching refl (plain.two_sides (plain.a_name refl) refl refl (plain.a_name refl) refl refl) refl))
 
   both_atoms : (rest : List Item) → PlainPattern limit true (a ∷ typed ∷ lambda ∷ a ∷ dot ∷ top ∷ bar ∷ a ∷ typed ∷ a ∷ maplet ∷ a ∷ typed ∷ a ∷ rest) rest
   both_atoms rest =
-      plain.next_atom (plain.typed_atom refl (first_type (maplet ∷ a ∷ typed ∷ a ∷ rest)) refl)
-      (plain.last_atom (plain.typed_atom refl (plain.a_name refl) refl))
+      plain.next_atom (plain.typed_atom refl (first_type (maplet ∷ a ∷ typed ∷ a ∷ rest)) refl tt)
+      (plain.last_atom (plain.typed_atom refl (plain.a_name refl) refl tt))
 
   pub open_accepted : Accepts limit true hole.Expression open_type
   open_accepted = record {
     g = grade.Reaching;
-    reads = plain.lambda_by_plain refl (both_atoms (dot ∷ top ∷ bar ∷ a ∷ [])) (plain.a_value refl plain.a_truth refl (plain.reaching refl (plain.a_name refl) refl));
+    reads = plain.lambda (both_atoms (dot ∷ top ∷ bar ∷ a ∷ [])) (plain.a_value refl plain.a_truth refl (plain.reaching refl (plain.a_name refl) refl));
     fit = refl;
   }
 

@@ -1,4 +1,4 @@
-use crate::{patterns_need_the_condition, same_sentences};
+use crate::{same_sentences, types_before_maplet_need_the_condition};
 use math_parse::{ParseFault, expression, predicate};
 use math_tokens::tokens;
 use std::alloc::Global;
@@ -34,7 +34,7 @@ fn refused_at(alloc: Global, text: &str) -> Option<u32> {
 }
 
 /// With a sign that can't stand in the form that it follows, but may behind it.
-const OPEN_PREDICATES: [&str; 8] = [
+const OPEN_PREDICATES: [&str; 9] = [
     "∀x·⊤⇒⊥⇒⊤",
     "⊤∨∀x·⊤∧⊥∨⊤",
     "⋃x∣a=b=c",
@@ -43,6 +43,7 @@ const OPEN_PREDICATES: [&str; 8] = [
     "a+λx·⊤∣x∗b=c",
     "{x∣∀y·⊤⇒⊥}=a",
     "∃x⦂⋃y·⊤∣y⦂S·⊤",
+    "λa⦂λa·⊤∣a·⊤∣a=b",
 ];
 
 #[test]
@@ -55,7 +56,7 @@ fn open_forms_end_where_nothing_goes_on_inside(rt: HostRuntime) {
 
 #[test]
 fn an_open_type_takes_the_maplet_of_its_pattern(rt: HostRuntime) {
-    patterns_need_the_condition();
+    types_before_maplet_need_the_condition();
     assert!(rt; refused_at(rt.alloc(), "λa⦂λa·⊤∣a⦂a↦a⦂a·⊤∣a") == Some(13));
     assert!(rt; reads(rt.alloc(), "λa⦂(λa·⊤∣a⦂a)↦a⦂a·⊤∣a", false));
 }

@@ -1,5 +1,5 @@
 use Rattle.plain_grammar.proofs.OpenTypes.{open_accepted, open_refused}
-use Rattle.plain_grammar.proofs.patterns_need_the_condition.Goals as goal
+use Rattle.plain_grammar.proofs.types_before_maplet_need_the_condition.Goals as goal
 
 pub returns-clause-accepted : goal.returns-clause-accepted
 returns-clause-accepted c = open_accepted
