@@ -21,7 +21,8 @@ use Rattle.math_grammar.specs.Tokens.{Item}
 use Rattle.math_grammar.specs.Grammar.{item, between, Ends}
 use Rattle.math_parse.specs.declared.frames.Frame.{Frame}
 use Rattle.math_parse.specs.declared.frames.Frame.TheVariants as frame
-use Rattle.math_parse.specs.Machine.{hole_of, want, have, finished, Outcome, run}
+use Rattle.math_parse.specs.Machine.{hole_of, want, have, finished}
+use Rattle.math_parse.proofs.Reach.{Stop, reach}
 use Rattle.math_parse.proofs.Basics.{both, level_rank, infix_goes}
 use Rattle.math_parse.proofs.Complete.{attach_infix, ends_finished, goes}
 use Rattle.plain_grammar.proofs.Tightness.{level_low}
@@ -82,25 +83,25 @@ path_low (over c fit q) b = path_low q c.low
 
 -- what holds an operator inside a form fits its place
 inside_fits : (h : Hole) (l : Level) (g : Grade) → fits h g ≡ true → takes_left l g ≡ true → reaches h (level l g) ≡ true → fits h (level l g) ≡ true
-inside_fits h l g fit takes reach =
+inside_fits h l g fit takes room =
     let top : rank g ≤ most h = leb-true (rank g) (most h) (both (reaches h g) (nat_le (rank g) (most h)) fit).1 in
     let left : left_of l ≤ rank g = leb-true (left_of l) (rank g) (both (nat_le (left_of l) (rank g)) (agrees l g) takes).0 in
     let below : rank (level l g) ≤ most h = omega (arith, level_rank l g, top, left) in
-    rw (reach, le-leb (rank (level l g)) (most h) below) refl
+    rw (room, le-leb (rank (level l g)) (most h) below) refl
 
 -- no relation stands inside a form, unless its sides do
 inside_no_relation : (h : Hole) (l : Level) (g : Grade) → IsSorted h → fits h g ≡ true → takes_left l g ≡ true → reaches h (level l g) ≡ true → l ≡ lev.Relation → ⊥
-inside_no_relation h lev.Relation g sorted fit takes reach e =
+inside_no_relation h lev.Relation g sorted fit takes room e =
     let top : rank g ≤ most h = leb-true (rank g) (most h) (both (reaches h g) (nat_le (rank g) (most h)) fit).1 in
     let four : 4 ≤ rank g = leb-true 4 (rank g) (both (nat_le 4 (rank g)) true takes).0 in
-    let three : least h ≤ 3 = leb-true (least h) 3 reach in
+    let three : least h ≤ 3 = leb-true (least h) 3 room in
     elim sorted [ inl low ↦ omega (arith, top, four, low) | inr tall ↦ omega (arith, three, tall) ]
-inside_no_relation h _ g sorted fit takes reach e = cc
+inside_no_relation h _ g sorted fit takes room e = cc
 
 module _ (limit : Option ℕ) (goal : Hole) where
   -- what goes on with nothing closes each form
   pub settle : {fs : List Frame} {e : Grade} {top : List Frame} {g : Grade} (rest : List Item) → ((h : Hole) (k : Grade) → Ends h k rest) → Path fs e top g → (t : Raw) →
-      (u : Raw) × (run limit goal (have top g t) rest ≡ run limit goal (have fs e u) rest)
+      (u : Raw) × (reach limit goal (have top g t) rest ≡ reach limit goal (have fs e u) rest)
   settle rest still stop t = (t, refl)
   settle rest still (over {f} {top} {g} {k} c fit q) t =
       let next = settle rest still q (c.tree t) in
@@ -108,23 +109,23 @@ module _ (limit : Option ℕ) (goal : Hole) where
 
   -- a formula with a bracket behind it has no open form at its end
   pub whole : {fs : List Frame} {e : Grade} {top : List Frame} {g : Grade} → Path fs e top g → 14 ≤ rank e → (t : Raw) (rest : List Item) →
-      (u : Raw) × (run limit goal (have top g t) rest ≡ run limit goal (have fs e u) rest)
+      (u : Raw) × (reach limit goal (have top g t) rest ≡ reach limit goal (have fs e u) rest)
   whole stop b t rest = (t, refl)
   whole {e = e} (over c fit q) b t rest = let low : rank e ≤ 13 = path_low q c.low in absurd (omega (arith, low, b))
 
   -- what comes of an operator: it is taken by a form that is open, or each is closed
-  pub data Turn (fs : List Frame) (e : Grade) (l : Level) (o : RawOp) (x : Symbol) (p : ℕ) (w : List ℕ) (m : List Item) (z : Outcome) : Type 0 where
-    inside : (top : List Frame) (g : Grade) (a : Raw) → z ≡ run limit goal (want (frame.Between o l (level l g) a ∷ top)) m →
+  pub data Turn (fs : List Frame) (e : Grade) (l : Level) (o : RawOp) (x : Symbol) (p : ℕ) (w : List ℕ) (m : List Item) (z : Stop) : Type 0 where
+    inside : (top : List Frame) (g : Grade) (a : Raw) → z ≡ reach limit goal (want (frame.Between o l (level l g) a ∷ top)) m →
         Path fs e top (level l g) → (l ≡ lev.Relation → ⊥) → Turn fs e l o x p w m z
-    outside : (u : Raw) → z ≡ run limit goal (have fs e u) (item x p w ∷ m) → Turn fs e l o x p w m z
+    outside : (u : Raw) → z ≡ reach limit goal (have fs e u) (item x p w ∷ m) → Turn fs e l o x p w m z
 
   pub turn : {fs : List Frame} {e : Grade} {top : List Frame} {g : Grade} → Path fs e top g → (t : Raw) (l : Level) (o : RawOp) (x : Symbol) (p : ℕ) (w : List ℕ) (m : List Item) → infix_of x ≡ Some (l, o) →
-      Turn fs e l o x p w m (run limit goal (have top g t) (item x p w ∷ m))
+      Turn fs e l o x p w m (reach limit goal (have top g t) (item x p w ∷ m))
   turn {g = g} stop t l o x p w m is = outside t refl
   turn {fs} {e} (over {f} {top} {g} {k} c fit q) t l o x p w m is = go (goes_on (hole_of f) g x) refl (turn q (c.tree t) l o x p w m is)
     where
-      go : (v : Bool) → goes_on (hole_of f) g x ≡ v → Turn fs e l o x p w m (run limit goal (have top k (c.tree t)) (item x p w ∷ m)) →
-          Turn fs e l o x p w m (run limit goal (have (f ∷ top) g t) (item x p w ∷ m))
+      go : (v : Bool) → goes_on (hole_of f) g x ≡ v → Turn fs e l o x p w m (reach limit goal (have top k (c.tree t)) (item x p w ∷ m)) →
+          Turn fs e l o x p w m (reach limit goal (have (f ∷ top) g t) (item x p w ∷ m))
       go true on next =
           let two = both (takes_left l g) (reaches (hole_of f) (level l g)) (sym (infix_goes (hole_of f) g x l o is) ∙ on) in
           inside (f ∷ top) g t
