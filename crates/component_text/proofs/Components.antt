@@ -1,0 +1,421 @@
+-- The parts of components.
+use Rattle.std.proofs.Common.{◌≡◌, ◌∙◌, ap, ℕ, zero, suc, ◌+◌, ◌<◌, ◌≤◌, List, [], ◌∷◌, ◌++◌, Bool, true, false, ◌||◌, Some, None, Ok, Err, cond, ◌==◌, inl, inr, length, map, refl, sym, subst, arith, append_assoc, append-nil}
+use Rattle.std.specs.Prelude.{Option, Result, codes}
+use Rattle.std.specs.Result.{IsErrAnd}
+use Rattle.std.proofs.lemmas.Result.{err_from_is_err_and}
+use Rattle.formula_core.specs.Names.{is_identifier}
+use Rattle.formula_core.specs.declared.raw.Raw.{Raw}
+use Rattle.formula_core.specs.declared.raw.Raw.TheVariants as raw
+use Rattle.formula_core.specs.declared.raw.RawOp.TheVariants as rawop
+use Rattle.formula_core.specs.declared.raw.Ref.{Ref}
+use Rattle.formula_core.specs.declared.op.Op.TheVariants as op
+use Rattle.math_grammar.specs.declared.holes.Grade.TheVariants as grade
+use Rattle.math_grammar.specs.declared.holes.Hole.TheVariants as hole
+use Rattle.math_grammar.specs.declared.symbols.Symbol.TheVariants as sym_
+use Rattle.math_grammar.specs.Tokens.{Item}
+use Rattle.math_grammar.specs.Grammar.{item, Spells, a_truth}
+use Rattle.math_parse.specs.Limits.{most_parts, IsSentence}
+use Rattle.model_core.specs.declared.component.RawLabelled.{RawLabelled}
+use Rattle.model_core.specs.declared.component.RawComponent.{RawComponent}
+use Rattle.component_text.specs.declared.stop.Stop.{Stop}
+use Rattle.component_text.specs.declared.stop.Stop.TheVariants as stop
+use Rattle.component_text.specs.Marks.{Mark, word, label, plain, run, behind_run, is_word, is_at}
+use Rattle.component_text.specs.Forms.{Bounds, limits, parts, none, One, Run, Nothing, Then, Choice, taken, other, Many, no_more, one_more, Of}
+use Rattle.component_text.specs.Grammar.{IsFormula, reference, is_reference, label_at, is_a_label, Names, SomeNames, labelled, Labelled, Line, begins_line, Lines, NamesBehind, SomeNamesBehind, LinesBehind, context_of, ContextBody, IsContext}
+use Rattle.component_text.specs.Reading.{end_mark, Begins, NoneHas, Refuses, Passes, Reads, Takes, ReadsOne, Lacks, ReadsFormula, AddsNames, Ends, ReadsWhole, from_token}
+use Rattle.component_text.proofs.Parts.{Good, good_one, good_run, good_nothing, good_then, good_of, good_choice, good_many}
+use Rattle.component_text.proofs.Refusing.{CanSkip, skip_begins, left_out, one_refused, one_then_refused, one_then_passes, first_refused, first_passes, both_skip, second_refused, second_passes, of_refused, of_passes, of_skip, taken_refused, taken_passes, other_refused, other_passes, other_skip, many_skip, many_here, many_here_passes, many_later, many_later_passes}
+use Rattle.component_text.proofs.Formulas.{run_refused, run_passes}
+use Rattle.component_text.proofs.Whole.{word_is, whole, body_unexpected, body_too_large, head_unexpected, head_wrong, body_wrong, after_body, after_end, end_wrong}
+use Rattle.std.proofs.lemmas.Bool.Decides.{nat_tests}
+
+-- a name, a label and a predicate
+pub some_ref : Ref
+some_ref = record { name = codes "x"; place = 0 }
+
+pub some_name : Mark
+some_name = plain (item sym_.Word 0 (codes "x"))
+
+pub some_name_is : reference some_name ≡ Some some_ref
+unfolding some_ref some_name
+some_name_is = refl
+
+some_label : Mark
+some_label = label (codes "x") 0
+
+some_label_is : label_at some_label ≡ Some (codes "x", 0)
+unfolding some_label
+some_label_is = refl
+
+top_item : Item
+top_item = item (sym_.Truth op.Top) 0 (codes "x")
+
+abbrev top : Raw
+top = raw.Node (rawop.Plain op.Top) [] 0
+
+top_spelled : Spells most_parts hole.Predicate (top_item ∷ []) top
+unfolding top_item
+top_spelled = record { g = grade.Literal; reads = a_truth; fit = refl }
+
+predicate_begins : Begins (Run (IsFormula hole.Predicate)) []
+predicate_begins = record { more = plain top_item ∷ []; value = top; goes_on = λ tail. record { spelled = top_spelled; behind = refl } }
+
+-- names
+name_takes : (b : Bounds) (s : List Mark) (x : Ref) (m : List Mark) → One reference b s x m → length m < length s
+name_takes b s x m h = omega (arith, ap length h.there)
+
+pub good_names : Good Names
+good_names = good_many is_reference (One reference) (good_one reference) refl name_takes
+
+pub names_skip : CanSkip Names
+names_skip = many_skip is_reference (One reference) (good_one reference) refl name_takes
+
+-- no name stands next
+pub lacks_name : (s : List Mark) → Lacks reference s → is_at is_reference s ≡ false
+lacks_name [] h = refl
+lacks_name (word w p ∷ s) h = refl
+lacks_name (label l p ∷ s) h = refl
+lacks_name (plain x ∷ s) h = go (is_identifier x.text) h
+  where
+    go : (b : Bool) → cond {A = Option Ref} b (Some (record { name = x.text; place = x.from })) None ≡ None → b ≡ false
+    go true e = cc
+    go false e = refl
+
+has_name : (x : Mark) (r : Ref) → reference x ≡ Some r → is_reference x ≡ true
+has_name (word w p) r e = cc
+has_name (label l p) r e = cc
+has_name (plain x) r e = go (is_identifier x.text) e
+  where
+    go : (b : Bool) → cond {A = Option Ref} b (Some (record { name = x.text; place = x.from })) None ≡ Some r → b ≡ true
+    go true e = refl
+    go false e = cc
+
+pub one_name_more : (s m : List Mark) (x : Ref) (xs : List Ref) (rest : List Mark) → One reference limits s x m → Names limits m xs rest → Names limits s (x ∷ xs) rest
+one_name_more s m x xs rest h hs = one_more (ap (is_at is_reference) h.there ∙ has_name h.mark x h.is) h hs
+
+good_some_names : Good SomeNames
+good_some_names = good_of (λ p. p.0 ∷ p.1) (Then (One reference) Names) (good_then (One reference) Names (good_one reference) good_names)
+
+pub some_names_refused : (s : List Mark) → Lacks reference s → Refuses SomeNames s s
+some_names_refused s h =
+    of_refused (λ p. p.0 ∷ p.1) (Then (One reference) Names) s s (one_refused reference Names s some_name some_ref h some_name_is (skip_begins Names names_skip))
+
+pub some_names_read : (s m rest : List Mark) (x : Ref) (all : List Ref) → One reference limits s x m → AddsNames (x ∷ []) all m rest → SomeNames limits s all rest
+some_names_read s m rest x all h k = record { from = (x, k.0); is = sym k.1; part = record { middle = m; first = h; second = k.2 } }
+
+pub names_read : (s rest : List Mark) (all : List Ref) → AddsNames [] all s rest → Names limits s all rest
+names_read s rest all k = subst (λ xs. Names limits s xs rest) (sym k.1) k.2
+
+-- labelled predicates
+loose : (f : List Item) (t : Raw) → IsFormula hole.Predicate limits f t → IsFormula hole.Predicate parts f t
+loose f t h = h.0
+
+good_labelled : (theorem : Bool) → Good (Labelled theorem)
+good_labelled theorem = good_of (labelled theorem) (Then (One label_at) (Run (IsFormula hole.Predicate)))
+    (good_then (One label_at) (Run (IsFormula hole.Predicate)) (good_one label_at) (good_run (IsFormula hole.Predicate) loose))
+
+pub labelled_refused : (theorem : Bool) (s : List Mark) → Lacks label_at s → Refuses (Labelled theorem) s s
+labelled_refused theorem s h =
+    of_refused (labelled theorem) (Then (One label_at) (Run (IsFormula hole.Predicate))) s s
+    (one_refused label_at (Run (IsFormula hole.Predicate)) s some_label (codes "x", 0) h some_label_is predicate_begins)
+
+pub labelled_read : (theorem : Bool) (s m rest : List Mark) (x : List ℕ × ℕ) (t : Raw) → One label_at limits s x m → Run (IsFormula hole.Predicate) limits m t rest → Labelled theorem limits s (labelled theorem (x, t)) rest
+labelled_read theorem s m rest x t o h = record { from = (x, t); is = refl; part = record { middle = m; first = o; second = h } }
+
+pub labelled_stops : (theorem : Bool) (s m rest : List Mark) (x : List ℕ × ℕ) (e : Stop) → One label_at limits s x m → ReadsFormula hole.Predicate m (Err e) rest → Reads (Labelled theorem) s (Err e) rest
+labelled_stops theorem s m rest x stop.Unexpected o h =
+    of_refused (labelled theorem) (Then (One label_at) (Run (IsFormula hole.Predicate))) s rest
+    (one_then_refused label_at (Run (IsFormula hole.Predicate)) s m rest x o (run_refused hole.Predicate m rest h.0 h.1 h.2 h.3))
+labelled_stops theorem s m rest x stop.TooLarge o h =
+    of_passes (labelled theorem) (Then (One label_at) (Run (IsFormula hole.Predicate))) s rest (run_passes label_at hole.Predicate s m rest x h.0 o h.1 h.2 h.3)
+labelled_stops theorem s m rest x stop.OutOfMemory o h = tt
+
+-- lines
+pub good_line : Good Line
+good_line = good_choice (is_word (codes "theorem")) (Labelled true) (Labelled false) (good_labelled true) (good_labelled false) refl
+
+behind_shorter : (s : List Mark) → length (behind_run s) ≤ length s
+behind_shorter [] = omega arith
+behind_shorter (plain x ∷ s) = omega (arith, behind_shorter s)
+behind_shorter (word w p ∷ s) = omega arith
+behind_shorter (label l p ∷ s) = omega arith
+
+labelled_takes : (theorem : Bool) (b : Bounds) (s : List Mark) (x : RawLabelled) (m : List Mark) → Labelled theorem b s x m → length m < length s
+labelled_takes theorem b s x m h =
+    omega (arith, ap length h.part.first.there, ap length h.part.second.behind, behind_shorter h.part.middle)
+
+pub line_takes : (b : Bounds) (s : List Mark) (x : RawLabelled) (m : List Mark) → Line b s x m → length m < length s
+line_takes b s x m (taken y t e is h) = omega (arith, ap length e, labelled_takes true b t x m h)
+line_takes b s x m (other e h) = labelled_takes false b s x m h
+
+label_is_no_theorem : is_word (codes "theorem") some_label ≡ false
+unfolding some_label
+label_is_no_theorem = refl
+
+line_begins : Begins Line []
+line_begins = record {
+  more = some_label ∷ (plain top_item ∷ []);
+  value = labelled false ((codes "x", 0), top);
+  goes_on = λ tail. other label_is_no_theorem (record {
+    from = ((codes "x", 0), top);
+    is = refl;
+    part = record { middle = plain top_item ∷ (end_mark ∷ tail); first = record { mark = some_label; there = refl; is = some_label_is }; second = record { spelled = top_spelled; behind = refl } };
+  });
+}
+
+pub line_reads : (s m rest : List Mark) (theorem : Bool) (r : Result RawLabelled Stop) → Takes (is_word (codes "theorem")) s theorem m → Reads (Labelled theorem) m r rest → Reads Line s r rest
+line_reads s m rest true (Ok x) k h = taken k.0 m k.1 k.2 h
+line_reads s m rest true (Err stop.Unexpected) k h = taken_refused (is_word (codes "theorem")) (Labelled true) (Labelled false) s m rest k.0 k.1 k.2 h
+line_reads s m rest true (Err stop.TooLarge) k h = taken_passes (is_word (codes "theorem")) (Labelled true) (Labelled false) s m rest k.0 k.1 k.2 h
+line_reads s m rest true (Err stop.OutOfMemory) k h = tt
+line_reads s m rest false (Ok x) k h = other k.1 (subst (λ t. Labelled false limits t x rest) k.0 h)
+line_reads s m rest false (Err stop.Unexpected) k h = other_refused (is_word (codes "theorem")) (Labelled true) (Labelled false) s rest k.1 line_begins (subst (λ t. Refuses (Labelled false) t rest) k.0 h)
+line_reads s m rest false (Err stop.TooLarge) k h = other_passes (is_word (codes "theorem")) (Labelled true) (Labelled false) s rest k.1 line_begins (subst (λ t. Passes (Labelled false) t rest) k.0 h)
+line_reads s m rest false (Err stop.OutOfMemory) k h = tt
+
+good_lines : Good Lines
+good_lines = good_many begins_line Line good_line refl line_takes
+
+pub lines_skip : CanSkip Lines
+lines_skip = many_skip begins_line Line good_line refl line_takes
+
+pub lines_here : (s rest : List Mark) → is_at begins_line s ≡ true → Refuses Line s rest → Refuses Lines s rest
+lines_here = many_here begins_line Line good_line refl line_takes
+
+pub lines_here_passes : (s rest : List Mark) → is_at begins_line s ≡ true → Passes Line s rest → Passes Lines s rest
+lines_here_passes = many_here_passes begins_line Line good_line refl line_takes
+
+pub lines_later : (s m rest : List Mark) (x : RawLabelled) → is_at begins_line s ≡ true → Line limits s x m → Refuses Lines m rest → Refuses Lines s rest
+lines_later = many_later begins_line Line good_line refl line_takes
+
+pub lines_later_passes : (s m rest : List Mark) (x : RawLabelled) → is_at begins_line s ≡ true → Line limits s x m → Passes Lines m rest → Passes Lines s rest
+lines_later_passes = many_later_passes begins_line Line good_line refl line_takes
+
+-- sections
+module _ {X : Type 0} (test : Mark → Bool) (P : Bounds → List Mark → List X → List Mark → Type 0) where
+  pub section_reads : (s m rest : List Mark) (r : Result (List X) Stop) → Takes test s true m → Reads P m r rest → Reads (Choice test P (Nothing [])) s r rest
+  section_reads s m rest (Ok x) k h = taken k.0 m k.1 k.2 h
+  section_reads s m rest (Err stop.Unexpected) k h = taken_refused test P (Nothing []) s m rest k.0 k.1 k.2 h
+  section_reads s m rest (Err stop.TooLarge) k h = taken_passes test P (Nothing []) s m rest k.0 k.1 k.2 h
+  section_reads s m rest (Err stop.OutOfMemory) k h = tt
+
+  pub section_absent : (s m : List Mark) → Takes test s false m → Choice test P (Nothing []) limits s [] m
+  section_absent s m k = other k.1 (record { is = refl; behind = k.0 })
+
+  good_section : Good P → test end_mark ≡ false → Good (Choice test P (Nothing []))
+  good_section p e = good_choice test P (Nothing []) p (good_nothing []) e
+
+  section_skip : test end_mark ≡ false → CanSkip (Choice test P (Nothing []))
+  section_skip e = other_skip test P (Nothing []) e (left_out (Nothing []) [] (λ tail. record { is = refl; behind = refl }))
+
+-- the body of a context
+abbrev Extends : Bounds → List Mark → List Ref → List Mark → Type 0
+Extends = SomeNamesBehind (codes "extends")
+
+abbrev Sets : Bounds → List Mark → List Ref → List Mark → Type 0
+Sets = NamesBehind (codes "sets")
+
+abbrev Constants : Bounds → List Mark → List Ref → List Mark → Type 0
+Constants = NamesBehind (codes "constants")
+
+abbrev Axioms : Bounds → List Mark → List RawLabelled → List Mark → Type 0
+Axioms = LinesBehind (codes "axioms")
+
+pub good_extends : Good Extends
+good_extends = good_section (is_word (codes "extends")) SomeNames good_some_names refl
+
+pub good_sets : Good Sets
+good_sets = good_section (is_word (codes "sets")) Names good_names refl
+
+pub good_constants : Good Constants
+good_constants = good_section (is_word (codes "constants")) Names good_names refl
+
+good_axioms : Good Axioms
+good_axioms = good_section (is_word (codes "axioms")) Lines good_lines refl
+
+skip_extends : CanSkip Extends
+skip_extends = section_skip (is_word (codes "extends")) SomeNames refl
+
+skip_sets : CanSkip Sets
+skip_sets = section_skip (is_word (codes "sets")) Names refl
+
+skip_constants : CanSkip Constants
+skip_constants = section_skip (is_word (codes "constants")) Names refl
+
+skip_axioms : CanSkip Axioms
+skip_axioms = section_skip (is_word (codes "axioms")) Lines refl
+
+-- from each clause on
+abbrev FromConstants : Bounds → List Mark → (List Ref × List RawLabelled) → List Mark → Type 0
+FromConstants = Then Constants Axioms
+
+abbrev FromSets : Bounds → List Mark → (List Ref × (List Ref × List RawLabelled)) → List Mark → Type 0
+FromSets = Then Sets FromConstants
+
+abbrev FromExtends : Bounds → List Mark → (List Ref × (List Ref × (List Ref × List RawLabelled))) → List Mark → Type 0
+FromExtends = Then Extends FromSets
+
+skip_from_constants : CanSkip FromConstants
+skip_from_constants = both_skip Constants Axioms skip_constants skip_axioms
+
+skip_from_sets : CanSkip FromSets
+skip_from_sets = both_skip Sets FromConstants skip_sets skip_from_constants
+
+skip_from_extends : CanSkip FromExtends
+skip_from_extends = both_skip Extends FromSets skip_extends skip_from_sets
+
+pub good_context_body : Good ContextBody
+good_context_body = good_of context_of (Then (One reference) FromExtends)
+    (good_then (One reference) FromExtends (good_one reference) (good_then Extends FromSets good_extends (good_then Sets FromConstants good_sets (good_then Constants Axioms good_constants good_axioms))))
+
+pub context_body_begins : Begins ContextBody []
+context_body_begins = record {
+  more = some_name ∷ skip_from_extends.fill;
+  value = context_of (some_ref, skip_from_extends.value);
+  goes_on = λ tail. record {
+    from = (some_ref, skip_from_extends.value);
+    is = refl;
+    part = record { middle = skip_from_extends.fill ++ end_mark ∷ tail; first = record { mark = some_name; there = refl; is = some_name_is }; second = skip_from_extends.skips tail };
+  };
+}
+
+pub no_context_name : (s : List Mark) → Lacks reference s → Refuses ContextBody s s
+no_context_name s h = of_refused context_of (Then (One reference) FromExtends) s s (one_refused reference FromExtends s some_name some_ref h some_name_is (skip_begins FromExtends skip_from_extends))
+
+module _ (s a : List Mark) (n : Ref) (name : One reference limits s n a) where
+  behind_name_refused : (rest : List Mark) → Refuses FromExtends a rest → Refuses ContextBody s rest
+  behind_name_refused rest h = of_refused context_of (Then (One reference) FromExtends) s rest (one_then_refused reference FromExtends s a rest n name h)
+
+  behind_name_passes : (rest : List Mark) → Passes FromExtends a rest → Passes ContextBody s rest
+  behind_name_passes rest h = of_passes context_of (Then (One reference) FromExtends) s rest (one_then_passes reference FromExtends s a rest n name h)
+
+  pub extends_stops : (rest : List Mark) (e : Stop) → Reads Extends a (Err e) rest → Reads ContextBody s (Err e) rest
+  extends_stops rest stop.Unexpected h = behind_name_refused rest (first_refused Extends FromSets a rest h skip_from_sets)
+  extends_stops rest stop.TooLarge h = behind_name_passes rest (first_passes Extends FromSets a rest h skip_from_sets)
+  extends_stops rest stop.OutOfMemory h = tt
+
+  module _ (b : List Mark) (es : List Ref) (extends : Extends limits a es b) where
+    behind_extends_refused : (rest : List Mark) → Refuses FromSets b rest → Refuses ContextBody s rest
+    behind_extends_refused rest h = behind_name_refused rest (second_refused Extends FromSets good_extends a b rest es extends h skip_from_sets)
+
+    behind_extends_passes : (rest : List Mark) → Passes FromSets b rest → Passes ContextBody s rest
+    behind_extends_passes rest h = behind_name_passes rest (second_passes Extends FromSets good_extends a b rest es extends h skip_from_sets)
+
+    pub sets_stop : (rest : List Mark) (e : Stop) → Reads Sets b (Err e) rest → Reads ContextBody s (Err e) rest
+    sets_stop rest stop.Unexpected h = behind_extends_refused rest (first_refused Sets FromConstants b rest h skip_from_constants)
+    sets_stop rest stop.TooLarge h = behind_extends_passes rest (first_passes Sets FromConstants b rest h skip_from_constants)
+    sets_stop rest stop.OutOfMemory h = tt
+
+    module _ (c : List Mark) (ss : List Ref) (sets : Sets limits b ss c) where
+      behind_sets_refused : (rest : List Mark) → Refuses FromConstants c rest → Refuses ContextBody s rest
+      behind_sets_refused rest h = behind_extends_refused rest (second_refused Sets FromConstants good_sets b c rest ss sets h skip_from_constants)
+
+      behind_sets_passes : (rest : List Mark) → Passes FromConstants c rest → Passes ContextBody s rest
+      behind_sets_passes rest h = behind_extends_passes rest (second_passes Sets FromConstants good_sets b c rest ss sets h skip_from_constants)
+
+      pub constants_stop : (rest : List Mark) (e : Stop) → Reads Constants c (Err e) rest → Reads ContextBody s (Err e) rest
+      constants_stop rest stop.Unexpected h = behind_sets_refused rest (first_refused Constants Axioms c rest h skip_axioms)
+      constants_stop rest stop.TooLarge h = behind_sets_passes rest (first_passes Constants Axioms c rest h skip_axioms)
+      constants_stop rest stop.OutOfMemory h = tt
+
+      module _ (d : List Mark) (cs : List Ref) (constants : Constants limits c cs d) where
+        pub axioms_stop : (rest : List Mark) (e : Stop) → Reads Axioms d (Err e) rest → Reads ContextBody s (Err e) rest
+        axioms_stop rest stop.Unexpected h = behind_sets_refused rest (second_refused Constants Axioms good_constants c d rest cs constants h skip_axioms)
+        axioms_stop rest stop.TooLarge h = behind_sets_passes rest (second_passes Constants Axioms good_constants c d rest cs constants h skip_axioms)
+        axioms_stop rest stop.OutOfMemory h = tt
+
+        pub context_body_read : (rest : List Mark) (ls : List RawLabelled) → Axioms limits d ls rest → ContextBody limits s (context_of (n, (es, (ss, (cs, ls))))) rest
+        context_body_read rest ls axioms = record {
+          from = (n, (es, (ss, (cs, ls))));
+          is = refl;
+          part = record {
+            middle = a;
+            first = name;
+            second = record { middle = b; first = extends; second = record { middle = c; first = sets; second = record { middle = d; first = constants; second = axioms } } };
+          };
+        }
+
+-- the exit of a `?`
+pub exit_with : {X : Type 0} (P : Bounds → List Mark → X → List Mark → Type 0) (old new : List Mark) (r : Result X Stop) (e : Stop) →
+    IsErrAnd r (λ d. d ≡ e) → Reads P old (Err e) new → Reads P old r new
+exit_with P old new r e h k = let p = err_from_is_err_and r h in rw (p.1, p.2) k
+
+pub labelled_none : (theorem : Bool) (s m : List Mark) → (m ≡ s) × Lacks label_at s → Refuses (Labelled theorem) s m
+labelled_none theorem s m h = subst (λ t. Refuses (Labelled theorem) s t) (sym h.0) (labelled_refused theorem s h.1)
+
+pub some_names_none : (s m : List Mark) → (m ≡ s) × Lacks reference s → Refuses SomeNames s m
+some_names_none s m h = subst (λ t. Refuses SomeNames s t) (sym h.0) (some_names_refused s h.1)
+
+pub context_name_none : (s m : List Mark) → (m ≡ s) × Lacks reference s → Refuses ContextBody s m
+context_name_none s m h = subst (λ t. Refuses ContextBody s t) (sym h.0) (no_context_name s h.1)
+
+pub ends_or_more : (s m : List Mark) (b : Bool) → Takes (is_word (codes "end")) s true m → b ≡ (length m == 0) → Ends s b m
+ends_or_more s [] true h e = let is = word_is (codes "end") h.0 h.2 in (is.0, h.1 ∙ ap (λ x. x ∷ []) is.1)
+ends_or_more s [] false h e = cc
+ends_or_more s (y ∷ m) true h e = let isnt : (suc (length m) == 0) ≡ false = grind (arith, nat_tests) in cc
+ends_or_more s (y ∷ m) false h e = let is = word_is (codes "end") h.0 h.2 in inr (is.0, y, m, h.1 ∙ ap (λ x. x ∷ (y ∷ m)) is.1, refl)
+
+-- names so far, and one more
+pub names_more : (first old : List Ref) (whole s m : List Mark) (x : Ref) → One reference limits s x m →
+    ((xs : List Ref) (rest : List Mark) → Names limits s xs rest → AddsNames first (old ++ xs) whole rest) →
+    (xs : List Ref) (rest : List Mark) → Names limits m xs rest → AddsNames first ((old ++ x ∷ []) ++ xs) whole rest
+names_more first old whole s m x h so_far xs rest k =
+    subst (λ ys. AddsNames first ys whole rest) (sym (append_assoc old (x ∷ []) xs)) (so_far (x ∷ xs) rest (one_name_more s m x xs rest h k))
+
+pub names_done : (first old : List Ref) (whole s m : List Mark) → (m ≡ s) × Lacks reference s →
+    ((xs : List Ref) (rest : List Mark) → Names limits s xs rest → AddsNames first (old ++ xs) whole rest) → AddsNames first old whole m
+names_done first old whole s m h so_far = subst (λ ys. AddsNames first ys whole m) (append-nil old) (so_far [] m (no_more (lacks_name s h.1) h.0))
+
+-- lines so far, and one more
+pub lines_more : (old : List RawLabelled) (whole s m : List Mark) (x : RawLabelled) → is_at begins_line s ≡ true → Line limits s x m →
+    ((xs : List RawLabelled) (rest : List Mark) → Lines limits s xs rest → Lines limits whole (old ++ xs) rest) →
+    (xs : List RawLabelled) (rest : List Mark) → Lines limits m xs rest → Lines limits whole ((old ++ x ∷ []) ++ xs) rest
+lines_more old whole s m x does h so_far xs rest k =
+    subst (λ ys. Lines limits whole ys rest) (sym (append_assoc old (x ∷ []) xs)) (so_far (x ∷ xs) rest (one_more does h k))
+
+pub lines_done : (old : List RawLabelled) (whole s : List Mark) → is_at begins_line s ≡ false →
+    ((xs : List RawLabelled) (rest : List Mark) → Lines limits s xs rest → Lines limits whole (old ++ xs) rest) → Lines limits whole old s
+lines_done old whole s isnt so_far = subst (λ ys. Lines limits whole ys s) (append-nil old) (so_far [] s (no_more isnt refl))
+
+-- a line that stops
+pub lines_stop : (whole s rest : List Mark) (e : Stop) → is_at begins_line s ≡ true → Reads Line s (Err e) rest →
+    ((r : List Mark) → Refuses Lines s r → Refuses Lines whole r) → ((r : List Mark) → Passes Lines s r → Passes Lines whole r) → Reads Lines whole (Err e) rest
+lines_stop whole s rest stop.Unexpected does h refused passed = refused rest (lines_here s rest does h)
+lines_stop whole s rest stop.TooLarge does h refused passed = passed rest (lines_here_passes s rest does h)
+lines_stop whole s rest stop.OutOfMemory does h refused passed = tt
+
+-- the whole context
+pub stops_in_body : (s m rest : List Mark) (p : ℕ) (e : Stop) → s ≡ word (codes "context") p ∷ m → Reads ContextBody m (Err e) rest → ReadsWhole IsContext s (Err e) rest
+stops_in_body s m rest p stop.Unexpected e h =
+    (body_unexpected (codes "context") ContextBody s m rest p e h, body_wrong (codes "context") ContextBody s m p e h.wrong)
+stops_in_body s m rest p stop.TooLarge e h =
+    (body_too_large (codes "context") ContextBody s m rest p e h, body_wrong (codes "context") ContextBody s m p e h.wrong)
+stops_in_body s m rest p stop.OutOfMemory e h = tt
+
+pub no_context : (s m : List Mark) → (m ≡ s) × (is_at (is_word (codes "context")) s ≡ false) → ReadsWhole IsContext s (Err stop.Unexpected) m
+no_context s m h = subst (λ t. ReadsWhole IsContext s (Err stop.Unexpected) t) (sym h.0)
+    (head_unexpected (codes "context") ContextBody s h.1 context_body_begins, head_wrong (codes "context") ContextBody s h.1)
+
+pub context_read : (s m k rest : List Mark) (p : ℕ) (c : RawComponent) → s ≡ word (codes "context") p ∷ m → ContextBody limits m c k → Ends k true rest → IsContext limits s c
+context_read s m k rest p c e h f = whole (codes "context") ContextBody s m k p f.0 c e h f.1
+
+pub context_unended : (s m k rest : List Mark) (p : ℕ) (c : RawComponent) → s ≡ word (codes "context") p ∷ m → ContextBody limits m c k → Ends k false rest → ReadsWhole IsContext s (Err stop.Unexpected) rest
+context_unended s m k rest p c e h (inl f) =
+    subst (λ t. ReadsWhole IsContext s (Err stop.Unexpected) t) (sym f.0) (
+      after_body (codes "context") ContextBody good_context_body s m k p c e h f.1,
+      end_wrong (codes "context") ContextBody good_context_body s m k p c e h
+          (λ q is. let does : is_at (is_word (codes "end")) k ≡ true = ap (is_at (is_word (codes "end"))) is in let contra : true ≡ false = sym does ∙ f.1 in cc),
+    )
+context_unended s m k rest p c e h (inr f) =
+    let is : k ≡ word (codes "end") f.0 ∷ (f.1 ∷ f.2) = f.3 ∙ ap (λ t. word (codes "end") f.0 ∷ t) f.4 in
+    subst (λ t. ReadsWhole IsContext s (Err stop.Unexpected) t) (sym f.4) (
+      after_end (codes "context") ContextBody good_context_body s m k p f.0 f.1 f.2 c e h is,
+      end_wrong (codes "context") ContextBody good_context_body s m k p c e h (λ q other. let clash : word (codes "end") q ∷ [] ≡ word (codes "end") f.0 ∷ (f.1 ∷ f.2) = sym other ∙ is in cc),
+    )
+
+pub whole_exit : (s rest : List Mark) (r : Result RawComponent Stop) (e : Stop) → IsErrAnd r (λ d. d ≡ e) → ReadsWhole IsContext s (Err e) rest → ReadsWhole IsContext s r rest
+whole_exit s rest r e h k = let p = err_from_is_err_and r h in rw (p.1, p.2) k
+
+-- the word that was taken
+pub word_there : (w : List ℕ) (s m : List Mark) → Takes (is_word w) s true m → (p : ℕ) × (s ≡ word w p ∷ m)
+word_there w s m k = let is = word_is w k.0 k.2 in (is.0, k.1 ∙ ap (λ x. x ∷ m) is.1)

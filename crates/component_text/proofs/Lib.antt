@@ -1,0 +1,10 @@
+pub mod Texts
+pub mod Marks
+pub mod Parts
+pub mod Refusing
+pub mod Whole
+pub mod Formulas
+pub mod Components
+pub mod Utf8
+pub mod Unique
+pub mod Texted

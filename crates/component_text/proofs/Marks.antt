@@ -1,0 +1,175 @@
+-- What a token is by its bytes, and the tokens before the next structural word or label.
+use Rattle.std.proofs.Common.{◌≡◌, ◌∙◌, ap, ℕ, zero, suc, ◌+◌, ◌-◌, ◌≤◌, List, [], ◌∷◌, ◌++◌, Bool, true, false, not, ◌||◌, ◌&&◌, bytes_eq, cond, length, take, drop, map, refl, sym, subst, arith}
+use Rattle.std.proofs.Math.Seq.{take-length}
+use Rattle.std.specs.Prelude.{Some, None, slice_get, Err}
+use Rattle.std.proofs.lemmas.List.{take_rest}
+use Rattle.formula_core.specs.declared.raw.Raw.{Raw}
+use Rattle.math_grammar.specs.declared.holes.Hole.{Hole}
+use Rattle.math_parse.specs.declared.fault.ParseFault.TheVariants as fault
+use Rattle.math_parse.specs.Limits.{IsFault, IsSentence}
+use Rattle.component_text.specs.declared.stop.Stop.TheVariants as stop
+use Rattle.component_text.specs.Forms.{limits, Run}
+use Rattle.component_text.specs.Grammar.{IsFormula}
+use Rattle.formula_core.specs.Texts.{begins_with}
+use Rattle.math_tokens.specs.declared.cutting.Token.{Token}
+use Rattle.math_grammar.specs.Tokens.{Item, bytes_of, item_of, items_of}
+use Rattle.component_tokens.specs.Pieces.{at_sign}
+use Rattle.component_text.specs.Marks.{Mark, word, label, plain, is_structural, mark_by, mark_of, marks_of, run, behind_run, is_word, is_at}
+use Rattle.component_text.specs.Reading.{from_token, ReadsFormula}
+use Rattle.component_text.specs.Texts.{is_plain_text, plain_length}
+
+-- it ends a formula
+abbrev Ends : Mark → Type 0
+Ends (word w p) = Unit {0}
+Ends (label l p) = Unit {0}
+Ends (plain x) = ⊥
+
+abbrev PlainBy : Bool → Mark → Item → Type 0
+PlainBy true m x = m ≡ plain x
+PlainBy false m x = Ends m
+
+module _ (bytes : List ℕ) (from : ℕ) (item : Item) where
+  pub by_word : begins_with at_sign bytes ≡ false → is_structural bytes ≡ true → mark_by bytes from item ≡ word bytes from
+  by_word e f = ap (λ b. cond b (label (drop 1 bytes) from) (cond (is_structural bytes) (word bytes from) (plain item))) e ∙ ap (λ b. cond b (word bytes from) (plain item)) f
+
+  pub by_label : begins_with at_sign bytes ≡ true → mark_by bytes from item ≡ label (drop 1 bytes) from
+  by_label e = ap (λ b. cond b (label (drop 1 bytes) from) (cond (is_structural bytes) (word bytes from) (plain item))) e
+
+  pub by_plain : begins_with at_sign bytes ≡ false → is_structural bytes ≡ false → mark_by bytes from item ≡ plain item
+  by_plain e f = ap (λ b. cond b (label (drop 1 bytes) from) (cond (is_structural bytes) (word bytes from) (plain item))) e ∙ ap (λ b. cond b (word bytes from) (plain item)) f
+
+-- what stands behind one that passes a test
+pub at_one : (test : Mark → Bool) (s : List Mark) → is_at test s ≡ true → (x : Mark) × (s ≡ x ∷ drop 1 s) × (test x ≡ true)
+at_one test [] e = cc
+at_one test (x ∷ s) e = (x, refl, e)
+
+pub marks_behind : (text : List ℕ) (tokens : List Token) (n : ℕ) → marks_of text (drop n tokens) ≡ drop n (marks_of text tokens)
+marks_behind text [] zero = refl
+marks_behind text [] (suc n) = refl
+marks_behind text (t ∷ tokens) zero = refl
+marks_behind text (t ∷ tokens) (suc n) = marks_behind text tokens n
+
+-- the tokens of a formula, by their number
+plain_is : (text : List ℕ) (t : Token) (b : Bool) → is_plain_text (bytes_of text t) ≡ b → PlainBy b (mark_of text t) (item_of text t)
+plain_is text t true e = go (begins_with at_sign (bytes_of text t)) refl (is_structural (bytes_of text t)) refl e
+  where
+    go : (a : Bool) → begins_with at_sign (bytes_of text t) ≡ a → (d : Bool) → is_structural (bytes_of text t) ≡ d →
+        is_plain_text (bytes_of text t) ≡ true → mark_of text t ≡ plain (item_of text t)
+    go true p d q e = let no : is_plain_text (bytes_of text t) ≡ false = ap (λ v. not (v || is_structural (bytes_of text t))) p in cc
+    go false p true q e = let no : is_plain_text (bytes_of text t) ≡ false = ap (λ v. not (v || is_structural (bytes_of text t))) p ∙ ap not q in cc
+    go false p false q e = by_plain (bytes_of text t) t.from (item_of text t) p q
+plain_is text t false e = go (begins_with at_sign (bytes_of text t)) refl (is_structural (bytes_of text t)) refl e
+  where
+    go : (a : Bool) → begins_with at_sign (bytes_of text t) ≡ a → (d : Bool) → is_structural (bytes_of text t) ≡ d →
+        is_plain_text (bytes_of text t) ≡ false → Ends (mark_of text t)
+    go true p d q e = subst Ends (sym (by_label (bytes_of text t) t.from (item_of text t) p)) tt
+    go false p true q e = subst Ends (sym (by_word (bytes_of text t) t.from (item_of text t) p q)) tt
+    go false p false q e = let yes : is_plain_text (bytes_of text t) ≡ true = ap (λ v. not (v || is_structural (bytes_of text t))) p ∙ ap not q in cc
+
+run_ended : (x : Mark) (s : List Mark) → Ends x → (run (x ∷ s) ≡ []) × (behind_run (x ∷ s) ≡ x ∷ s)
+run_ended (word w p) s h = (refl, refl)
+run_ended (label l p) s h = (refl, refl)
+run_ended (plain x) s h = absurd h
+
+pub run_tokens : (text : List ℕ) (tokens : List Token) → run (marks_of text tokens) ≡ items_of text (take (plain_length text tokens) tokens)
+run_tokens text [] = refl
+run_tokens text (t ∷ tokens) = go (is_plain_text (bytes_of text t)) refl (run_tokens text tokens)
+  where
+    go : (b : Bool) → is_plain_text (bytes_of text t) ≡ b → run (marks_of text tokens) ≡ items_of text (take (plain_length text tokens) tokens) →
+        run (mark_of text t ∷ marks_of text tokens) ≡ items_of text (take (cond b (1 + plain_length text tokens) 0) (t ∷ tokens))
+    go true e again =
+        let one : 1 + plain_length text tokens ≡ suc (plain_length text tokens) = omega arith in
+        ap (λ m. run (m ∷ marks_of text tokens)) (plain_is text t true e) ∙ ap (λ f. item_of text t ∷ f) again
+        ∙ ap (λ n. items_of text (take n (t ∷ tokens))) (sym one)
+    go false e again = (run_ended (mark_of text t) (marks_of text tokens) (plain_is text t false e)).0
+
+pub behind_tokens : (text : List ℕ) (tokens : List Token) → behind_run (marks_of text tokens) ≡ marks_of text (drop (plain_length text tokens) tokens)
+behind_tokens text [] = refl
+behind_tokens text (t ∷ tokens) = go (is_plain_text (bytes_of text t)) refl (behind_tokens text tokens)
+  where
+    go : (b : Bool) → is_plain_text (bytes_of text t) ≡ b → behind_run (marks_of text tokens) ≡ marks_of text (drop (plain_length text tokens) tokens) →
+        behind_run (mark_of text t ∷ marks_of text tokens) ≡ marks_of text (drop (cond b (1 + plain_length text tokens) 0) (t ∷ tokens))
+    go true e again =
+        let one : 1 + plain_length text tokens ≡ suc (plain_length text tokens) = omega arith in
+        ap (λ m. behind_run (m ∷ marks_of text tokens)) (plain_is text t true e) ∙ again
+        ∙ ap (λ n. marks_of text (drop n (t ∷ tokens))) (sym one)
+    go false e again = (run_ended (mark_of text t) (marks_of text tokens) (plain_is text t false e)).1
+
+-- from the token at i of a formula on
+pub tokens_from : (text : List ℕ) (tokens : List Token) (i : ℕ) → i ≤ length (run (marks_of text tokens)) → marks_of text (drop i tokens) ≡ from_token i (marks_of text tokens)
+tokens_from text [] i h = ap (λ n. marks_of text (drop n [])) (let e : i ≡ 0 = omega arith in e) ∙ ap (λ n. map plain (drop n []) ++ []) (let e : 0 ≡ i = omega arith in e)
+tokens_from text (t ∷ tokens) zero h = whole (mark_of text t ∷ marks_of text tokens)
+  where
+    whole : (s : List Mark) → s ≡ map plain (run s) ++ behind_run s
+    whole [] = refl
+    whole (plain x ∷ s) = ap (λ u. plain x ∷ u) (whole s)
+    whole (word w p ∷ s) = refl
+    whole (label l p ∷ s) = refl
+tokens_from text (t ∷ tokens) (suc i) h = go (is_plain_text (bytes_of text t)) refl (tokens_from text tokens i)
+  where
+    go : (b : Bool) → is_plain_text (bytes_of text t) ≡ b →
+        (i ≤ length (run (marks_of text tokens)) → marks_of text (drop i tokens) ≡ from_token i (marks_of text tokens)) → marks_of text (drop i tokens) ≡ from_token (suc i) (mark_of text t ∷ marks_of text tokens)
+    go true e later =
+        let is = plain_is text t true e in
+        let short : suc i ≤ length (run (plain (item_of text t) ∷ marks_of text tokens)) = subst (λ m. suc i ≤ length (run (m ∷ marks_of text tokens))) is h in
+        later (omega (arith, short)) ∙ ap (λ m. from_token (suc i) (m ∷ marks_of text tokens)) (sym is)
+    go false e later =
+        let none = (run_ended (mark_of text t) (marks_of text tokens) (plain_is text t false e)).0 in
+        absurd (omega (arith, h, ap length none))
+
+-- the word by its bytes
+pub word_test : (bytes : List ℕ) (from : ℕ) (item : Item) (w : List ℕ) →
+    is_word w (mark_by bytes from item) ≡ (bytes_eq bytes w && (not (begins_with at_sign bytes) && is_structural bytes))
+word_test bytes from item w = go (begins_with at_sign bytes) (is_structural bytes) (bytes_eq bytes w) refl
+  where
+    go : (a b d : Bool) → bytes_eq bytes w ≡ d → is_word w (cond a (label (drop 1 bytes) from) (cond b (word bytes from) (plain item))) ≡ (d && (not a && b))
+    go true b true e = refl
+    go true b false e = refl
+    go false true true e = e
+    go false true false e = e
+    go false false true e = refl
+    go false false false e = refl
+
+-- past one token, as a slice from the second on
+pub took_one : (test : Mark → Bool) (text : List ℕ) (tokens : List Token) → is_at test (marks_of text tokens) ≡ true →
+    (x : Mark) × (marks_of text tokens ≡ x ∷ marks_of text (take (length tokens - 1) (drop 1 tokens))) × (test x ≡ true)
+took_one test text [] e = cc
+took_one test text (t ∷ tokens) e =
+    let n : suc (length tokens) - 1 ≡ length tokens = omega arith in
+    let whole : take (suc (length tokens) - 1) tokens ≡ tokens = ap (λ k. take k tokens) n ∙ take-length tokens in
+    (mark_of text t, ap (λ ts. mark_of text t ∷ marks_of text ts) (sym whole), e)
+
+pub at_first : (test : Mark → Bool) (text : List ℕ) (tokens : List Token) (t : Token) → Some t ≡ slice_get tokens 0 → is_at test (marks_of text tokens) ≡ test (mark_of text t)
+at_first test text [] t e = cc
+at_first test text (u ∷ tokens) t e = let same : u ≡ t = cc in ap (λ v. test (mark_of text v)) same
+
+-- formulas, by slices
+pub rest_slice : {A : Type 0} (n : ℕ) (xs : List A) → take (length xs - n) (drop n xs) ≡ drop n xs
+rest_slice n xs = take_rest xs n
+
+module _ (h : Hole) (text : List ℕ) (tokens : List Token) (n : ℕ) (s : List Mark) (view : marks_of text tokens ≡ s) (size : n ≡ plain_length text tokens) where
+  run_is : run s ≡ items_of text (take n tokens)
+  run_is = ap run (sym view) ∙ run_tokens text tokens ∙ ap (λ k. items_of text (take k tokens)) (sym size)
+
+  pub formula_read : (t : Raw) → IsSentence h (items_of text (take n tokens)) t → Run (IsFormula h) limits s t (marks_of text (take (length tokens - n) (drop n tokens)))
+  formula_read t k = record {
+    spelled = subst (λ f. IsSentence h f t) (sym run_is) k;
+    behind =
+        ap (marks_of text) (rest_slice n tokens) ∙ ap (λ m. marks_of text (drop m tokens)) size ∙ sym (behind_tokens text tokens) ∙ ap behind_run view;
+  }
+
+  at_token : (i : ℕ) → i ≤ length (run s) → marks_of text (take (length tokens - i) (drop i tokens)) ≡ from_token i s
+  at_token i short =
+      ap (marks_of text) (rest_slice i tokens) ∙ tokens_from text tokens i (subst (λ m. i ≤ length (run m)) (sym view) short) ∙ ap (from_token i) view
+
+  pub formula_unexpected : (i : ℕ) → IsFault h (items_of text (take n tokens)) (fault.Unexpected i) → ((t : Raw) → IsSentence h (items_of text (take n tokens)) t → ⊥) →
+      ReadsFormula h s (Err stop.Unexpected) (marks_of text (take (length tokens - i) (drop i tokens)))
+  formula_unexpected i k isnt =
+      let there : IsFault h (run s) (fault.Unexpected i) = subst (λ f. IsFault h f (fault.Unexpected i)) (sym run_is) k in
+      (i, at_token i there.0, there, λ t p. isnt t (subst (λ f. IsSentence h f t) run_is p))
+
+  pub formula_too_large : (i : ℕ) → IsFault h (items_of text (take n tokens)) (fault.TooLarge i) → ((t : Raw) → IsSentence h (items_of text (take n tokens)) t → ⊥) →
+      ReadsFormula h s (Err stop.TooLarge) (marks_of text (take (length tokens - i) (drop i tokens)))
+  formula_too_large i k isnt =
+      let there : IsFault h (run s) (fault.TooLarge i) = subst (λ f. IsFault h f (fault.TooLarge i)) (sym run_is) k in
+      (i, at_token i (omega (arith, there.0)), there, λ t p. isnt t (subst (λ f. IsSentence h f t) run_is p))

@@ -1,0 +1,127 @@
+-- What the text of a component spells, and the first fault of one that spells none.
+use Rattle.std.specs.Prelude.{◌≡◌, ℕ, Bool, ◌||◌, List, [], ◌∷◌, length, bytes_eq, codes, Option, Some, None, Result, Ok, Err, if◌then◌else◌}
+use Rattle.std.specs.Borrow.{Bor}
+use Rattle.std.specs.Str.{IsUtf8}
+use Rattle.model_core.specs.declared.fault.Fault.{Fault}
+use Rattle.formula_core.specs.declared.raw.Ref.{Ref}
+use Rattle.math_tokens.specs.declared.cutting.Token.{Token}
+use Rattle.component_tokens.specs.declared.piece.CutFault.{CutFault}
+use Rattle.component_tokens.specs.declared.piece.CutFault.TheVariants as wrong
+use Rattle.component_tokens.specs.Pieces.{at_sign, Cut}
+use Rattle.model_core.specs.declared.component.RawComponent.{RawComponent}
+use Rattle.model_core.specs.Components.{heading}
+use Rattle.component_text.specs.declared.read.ReadFault.{ReadFault}
+use Rattle.component_text.specs.declared.read.ReadFault.TheVariants as fault
+use Rattle.component_text.specs.Marks.{Mark, word, label, plain, marks_of, is_word}
+use Rattle.component_text.specs.Forms.{Bounds, limits}
+use Rattle.component_text.specs.Grammar.{reference}
+use Rattle.component_text.specs.Faults.{HasContinuation, IsUnexpectedAt, IsTooLargeAt}
+
+-- The text of the component of a name spells c: it is cut into tokens, which are a sentence of the grammar, and the heading has the name.
+pub record Spells (Whole : Bounds → List Mark → RawComponent → Type 0) (name text : List ℕ) (c : RawComponent) : Type 0 where
+  pub tokens : List Token
+  pub cut : Cut text 0 tokens None
+  pub sentence : Whole limits (marks_of text tokens) c
+  pub named : (heading c).name ≡ name
+
+-- it is found, unless memory runs out
+abbrev pub Finds : Result RawComponent ReadFault → RawComponent → Type 0
+Finds (Ok raw) c = raw ≡ c
+Finds (Err (fault.Fault f)) c = ⊥
+Finds (Err fault.OutOfMemory) c = Unit {0}
+
+-- the place and the bytes of a token
+abbrev pub place_of : Mark → ℕ
+place_of (word w p) = p
+place_of (label l p) = p
+place_of (plain x) = x.from
+
+abbrev pub text_of : Mark → List ℕ
+text_of (word w p) = w
+text_of (label l p) = at_sign ∷ l
+text_of (plain x) = x.text
+
+-- the place of the heading's name, where it is another one
+abbrev pub is_heading : Mark → Bool
+is_heading x = is_word (codes "context") x || is_word (codes "machine") x
+
+abbrev pub other_name : List ℕ → Option Ref → Option ℕ
+other_name name None = None
+other_name name (Some r) = if bytes_eq r.name name then None else Some r.place
+
+abbrev pub misnamed_behind : List ℕ → List Mark → Option ℕ
+misnamed_behind name [] = None
+misnamed_behind name (x ∷ rest) = other_name name (reference x)
+
+abbrev pub misnamed : List ℕ → List Mark → Option ℕ
+misnamed name [] = None
+misnamed name (x ∷ rest) = if is_heading x then misnamed_behind name rest else None
+
+-- The first fault of a text, by its tokens and what is wrong behind these: its kind, its place and its words.
+pub data IsFirst (Whole : Bounds → List Mark → RawComponent → Type 0) (name text : List ℕ) (marks : List Mark) (cut : Option CutFault) : ℕ → ℕ → List ℕ → Type 0 where
+  bad_sign : {p : ℕ} → misnamed name marks ≡ None → HasContinuation Whole marks → cut ≡ Some (wrong.BadSign p) → IsFirst Whole name text marks cut 1 p []
+  number_too_wide : {p : ℕ} → misnamed name marks ≡ None → HasContinuation Whole marks → cut ≡ Some (wrong.NumberTooWide p) → IsFirst Whole name text marks cut 2 p []
+  unexpected : {x : Mark} {later : List Mark} →
+      misnamed name marks ≡ None → IsUnexpectedAt Whole marks (x ∷ later) → IsFirst Whole name text marks cut 3 (place_of x) (text_of x)
+  unexpected_end : misnamed name marks ≡ None → IsUnexpectedAt Whole marks [] → cut ≡ None → IsFirst Whole name text marks cut 3 (length text) []
+  too_large : {x : Mark} {later : List Mark} →
+      misnamed name marks ≡ None → IsTooLargeAt Whole marks (x ∷ later) → IsFirst Whole name text marks cut 4 (place_of x) []
+  comment_not_closed : {p : ℕ} →
+      misnamed name marks ≡ None → HasContinuation Whole marks → cut ≡ Some (wrong.CommentNotClosed p) → IsFirst Whole name text marks cut 5 p []
+  wrong_name : {p : ℕ} → misnamed name marks ≡ Some p → IsFirst Whole name text marks cut 6 p []
+
+-- what is answered in place of a component, unless memory runs out
+abbrev pub IsReadFault : (Bounds → List Mark → RawComponent → Type 0) → List ℕ → List ℕ → ReadFault → Type 0
+IsReadFault Whole name text (fault.Fault f) =
+    (tokens : List Token) × (cut : Option CutFault) × Cut text 0 tokens cut × (f.component ≡ name)
+    × IsFirst Whole name text (marks_of text tokens) cut f.kind f.place f.words
+IsReadFault Whole name text fault.OutOfMemory = Unit {0}
+
+-- The words below stand in private contracts alone.
+
+-- the bytes of a token are text
+abbrev pub HasText : Mark → Type 0
+HasText x = IsUtf8 (text_of x)
+
+abbrev pub FaultIs : Fault → List ℕ → ℕ → ℕ → List ℕ → Type 0
+FaultIs f name kind place words = (f.component ≡ name) × (f.kind ≡ kind) × (f.place ≡ place) × (f.words ≡ words)
+
+abbrev pub Tells : ReadFault → List ℕ → ℕ → ℕ → List ℕ → Type 0
+Tells (fault.Fault f) name kind place words = FaultIs f name kind place words
+Tells fault.OutOfMemory name kind place words = Unit {0}
+
+abbrev pub fault_kind : CutFault → ℕ
+fault_kind (wrong.BadSign p) = 1
+fault_kind (wrong.NumberTooWide p) = 2
+fault_kind (wrong.CommentNotClosed p) = 5
+
+abbrev pub fault_place : CutFault → ℕ
+fault_place (wrong.BadSign p) = p
+fault_place (wrong.NumberTooWide p) = p
+fault_place (wrong.CommentNotClosed p) = p
+
+-- what is told where nothing goes on with the first of these
+abbrev pub TellsAtEnd : ReadFault → List ℕ → List ℕ → Option CutFault → Type 0
+TellsAtEnd answer name text None = Tells answer name 3 (length text) []
+TellsAtEnd answer name text (Some f) = Tells answer name (fault_kind f) (fault_place f) []
+
+abbrev pub TellsUnexpected : ReadFault → List ℕ → List ℕ → List Mark → Option CutFault → Type 0
+TellsUnexpected answer name text [] cut = TellsAtEnd answer name text cut
+TellsUnexpected answer name text (x ∷ later) cut = Tells answer name 3 (place_of x) (text_of x)
+
+abbrev pub TellsTooLarge : ReadFault → List ℕ → List Mark → Type 0
+TellsTooLarge answer name [] = Unit {0}
+TellsTooLarge answer name (x ∷ later) = Tells answer name 4 (place_of x) []
+
+-- the first token, if there is one
+abbrev pub IsFirstMark : Option (ℕ × Bor (List ℕ)) → List Mark → Type 0
+IsFirstMark None s = s ≡ []
+IsFirstMark (Some f) s = (x : Mark) × (later : List Mark) × (s ≡ x ∷ later) × (f.0 ≡ place_of x) × (f.1.now ≡ text_of x)
+
+-- what is read of the tokens, with what is wrong behind them
+abbrev pub ReadsPieces : (Bounds → List Mark → RawComponent → Type 0) → List ℕ → List ℕ → List Mark → Option CutFault → Result RawComponent ReadFault → Type 0
+ReadsPieces Whole name text marks cut (Ok c) = Whole limits marks c × (misnamed name marks ≡ None) × (cut ≡ None)
+ReadsPieces Whole name text marks cut (Err (fault.Fault f)) =
+    (f.component ≡ name) × IsFirst Whole name text marks cut f.kind f.place f.words
+    × ((c : RawComponent) → Whole limits marks c → (heading c).name ≡ name → cut ≡ None → ⊥)
+ReadsPieces Whole name text marks cut (Err fault.OutOfMemory) = Unit {0}

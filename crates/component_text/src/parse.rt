@@ -1,0 +1,162 @@
+//! The grammar of components, read from left to right: the next token decides.
+
+ghost use Rattle.std.specs.Prelude.{IfOk};
+ghost use Rattle.component_text.specs.Grammar.{Names, SomeNames, NamesBehind, SomeNamesBehind, Labelled, Line, Lines, LinesBehind, ContextBody, IsContext};
+ghost use Rattle.component_text.specs.Reading.{Reads, AddsNames, Ends, ReadsWhole};
+
+use crate::cursor::Cursor;
+use crate::stop::Stop;
+use formula_core::{List, OutOfMemory, Ref};
+use model_core::{RawComponent, RawLabelled};
+use std::alloc::Global;
+
+/// Reads all names that stand next.
+fn add_names(
+    alloc: Global,
+    names: &mut Vec<Ref>,
+    cursor: &mut Cursor<'_, '_>,
+) -> Result<(), OutOfMemory>
+    ensures { IfOk result (λ _. AddsNames names.old.items names.new.items cursor.old cursor.new) }
+{
+    while let Some(name) = cursor.name(alloc)? {
+        names.push(name)?;
+    }
+    Ok(())
+}
+
+fn names(alloc: Global, cursor: &mut Cursor<'_, '_>) -> Result<List<Ref>, Stop>
+    ensures { Reads Names cursor.old result cursor.new }
+{
+    let mut names = Vec::new(alloc);
+    add_names(alloc, &mut names, cursor)?;
+    Ok(List::of(names))
+}
+
+fn some_names(alloc: Global, cursor: &mut Cursor<'_, '_>) -> Result<List<Ref>, Stop>
+    ensures { Reads SomeNames cursor.old result cursor.new }
+{
+    let Some(first) = cursor.name(alloc)? else {
+        return Err(Stop::Unexpected);
+    };
+    let mut names = Vec::new(alloc);
+    names.push(first)?;
+    add_names(alloc, &mut names, cursor)?;
+    Ok(List::of(names))
+}
+
+/// The names behind the word, where it stands next.
+fn names_behind(alloc: Global, cursor: &mut Cursor<'_, '_>, word: &str) -> Result<List<Ref>, Stop>
+    ensures { Reads (NamesBehind word.now) cursor.old result cursor.new }
+{
+    if cursor.take_word(word) {
+        names(alloc, cursor)
+    } else {
+        Ok(List::of(Vec::new(alloc)))
+    }
+}
+
+/// The names behind the word, at least one, where the word stands next.
+fn some_names_behind(
+    alloc: Global,
+    cursor: &mut Cursor<'_, '_>,
+    word: &str,
+) -> Result<List<Ref>, Stop>
+    ensures { Reads (SomeNamesBehind word.now) cursor.old result cursor.new }
+{
+    if cursor.take_word(word) {
+        some_names(alloc, cursor)
+    } else {
+        Ok(List::of(Vec::new(alloc)))
+    }
+}
+
+/// A label and its predicate.
+fn labelled(alloc: Global, cursor: &mut Cursor<'_, '_>, theorem: bool) -> Result<RawLabelled, Stop>
+    ensures { Reads (Labelled theorem) cursor.old result cursor.new }
+{
+    let Some((label, place)) = cursor.label(alloc)? else {
+        return Err(Stop::Unexpected);
+    };
+    let formula = cursor.predicate(alloc)?;
+    Ok(RawLabelled {
+        label,
+        theorem,
+        formula,
+        place,
+    })
+}
+
+fn line(alloc: Global, cursor: &mut Cursor<'_, '_>) -> Result<RawLabelled, Stop>
+    ensures { Reads Line cursor.old result cursor.new }
+{
+    let theorem = cursor.take_word("theorem");
+    labelled(alloc, cursor, theorem)
+}
+
+fn lines(alloc: Global, cursor: &mut Cursor<'_, '_>) -> Result<List<RawLabelled>, Stop>
+    ensures { Reads Lines cursor.old result cursor.new }
+{
+    let mut lines = Vec::new(alloc);
+    while cursor.is_at_line() {
+        let line = line(alloc, cursor)?;
+        lines.push(line)?;
+    }
+    Ok(List::of(lines))
+}
+
+/// The lines behind the word, where it stands next.
+fn lines_behind(
+    alloc: Global,
+    cursor: &mut Cursor<'_, '_>,
+    word: &str,
+) -> Result<List<RawLabelled>, Stop>
+    ensures { Reads (LinesBehind word.now) cursor.old result cursor.new }
+{
+    if cursor.take_word(word) {
+        lines(alloc, cursor)
+    } else {
+        Ok(List::of(Vec::new(alloc)))
+    }
+}
+
+/// What stands between `context` and `end`.
+fn context_body(alloc: Global, cursor: &mut Cursor<'_, '_>) -> Result<RawComponent, Stop>
+    ensures { Reads ContextBody cursor.old result cursor.new }
+{
+    let Some(name) = cursor.name(alloc)? else {
+        return Err(Stop::Unexpected);
+    };
+    let extends = some_names_behind(alloc, cursor, "extends")?;
+    let sets = names_behind(alloc, cursor, "sets")?;
+    let constants = names_behind(alloc, cursor, "constants")?;
+    let axioms = lines_behind(alloc, cursor, "axioms")?;
+    Ok(RawComponent::Context {
+        name,
+        extends,
+        sets,
+        constants,
+        axioms,
+    })
+}
+
+/// Goes past `end`, and looks whether nothing stands behind it.
+fn ends(cursor: &mut Cursor<'_, '_>) -> bool
+    ensures { Ends cursor.old result cursor.new }
+{
+    cursor.take_word("end") && cursor.is_at_end()
+}
+
+/// Reads a context.
+pub fn context(alloc: Global, cursor: &mut Cursor<'_, '_>) -> Result<RawComponent, Stop>
+    ensures { ReadsWhole IsContext cursor.old result cursor.new }
+{
+    if !cursor.take_word("context") {
+        return Err(Stop::Unexpected);
+    }
+    let component = context_body(alloc, cursor)?;
+    if ends(cursor) {
+        Ok(component)
+    } else {
+        Err(Stop::Unexpected)
+    }
+}

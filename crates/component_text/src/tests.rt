@@ -1,0 +1,253 @@
+use crate::{ReadFault, read_context};
+use component_tokens::{Position, position_of};
+use formula_core::Name;
+use model_core::{Fault, RawComponent};
+use std::alloc::Global;
+use std::test::Fail;
+
+/// Texts of the context c0 with the kind, line, column and words of their first fault.
+const FAULTS: [(&str, u8, usize, usize, &str); 61] = [
+    ("", 3, 1, 1, ""),
+    ("  ", 3, 1, 3, ""),
+    ("context", 3, 1, 8, ""),
+    ("context c0", 3, 1, 11, ""),
+    ("context c0\n", 3, 2, 1, ""),
+    ("context c1 end", 6, 1, 9, ""),
+    ("context c0 end end", 3, 1, 16, "end"),
+    ("context c0' end", 3, 1, 9, "c0'"),
+    ("context end", 3, 1, 9, "end"),
+    ("context 5 end", 3, 1, 9, "5"),
+    ("context @a end", 3, 1, 9, "@a"),
+    ("context ∈ end", 3, 1, 9, "∈"),
+    ("c0 end", 3, 1, 1, "c0"),
+    ("sets context c0 end", 3, 1, 1, "sets"),
+    ("context c0 extends end", 3, 1, 20, "end"),
+    ("context c0 extends c1' end", 3, 1, 20, "c1'"),
+    ("context c0 constants n sets S end", 3, 1, 24, "sets"),
+    ("context c0 sets S sets T end", 3, 1, 19, "sets"),
+    ("context c0 sets S, T end", 3, 1, 18, ","),
+    ("context c0 sets mod end", 3, 1, 17, "mod"),
+    ("context c0 axioms n = 1 end", 3, 1, 19, "n"),
+    ("context c0 axioms theorem n = 1 end", 3, 1, 27, "n"),
+    ("context c0 axioms @a end", 3, 1, 22, "end"),
+    ("context c0 axioms @a @b n = 1 end", 3, 1, 22, "@b"),
+    ("context c0 axioms @a n = 1 theorem end", 3, 1, 36, "end"),
+    ("context c0 axioms @a n = 1 ) end", 3, 1, 28, ")"),
+    ("context c0 axioms @a n = 1 sets S end", 3, 1, 28, "sets"),
+    ("context c0 axioms @a ⊤ ∧ end", 3, 1, 26, "end"),
+    ("context c0 axioms @a ⊤ ∧", 3, 1, 25, ""),
+    ("context c0 axioms @a context = 1 end", 3, 1, 22, "context"),
+    ("context c0 axioms @a a = b = c end", 3, 1, 28, "="),
+    ("context c0 axioms @a ⊤ ∧ ⊤ ∨ ⊤ end", 3, 1, 28, "∨"),
+    ("context c0 axioms @a x ≔ 1 end", 3, 1, 24, "≔"),
+    ("context c0 axioms @a end' end", 3, 1, 22, "end'"),
+    ("context c0 variables v end", 3, 1, 12, "variables"),
+    ("context c0 end @a", 3, 1, 16, "@a"),
+    ("context c0 // end\n", 3, 2, 1, ""),
+    (
+        "context c0\nsets S\nconstants a\naxioms\n  @axm1 a ∈\nend",
+        3,
+        6,
+        1,
+        "end",
+    ),
+    ("context c0 ? end", 1, 1, 12, ""),
+    ("context ? c1", 1, 1, 9, ""),
+    ("context c1 ?", 6, 1, 9, ""),
+    ("machine c1 ?", 6, 1, 9, ""),
+    ("context c0 axioms @ n = 1 end", 1, 1, 19, ""),
+    ("context c0 end ?", 1, 1, 16, ""),
+    ("context c0 axioms @a a ? = end", 1, 1, 24, ""),
+    ("context c0 axioms @a a ∈ ∈ ? end", 3, 1, 26, "∈"),
+    ("context c0 /*\nend", 5, 1, 12, ""),
+    ("context c0 end /*", 5, 1, 16, ""),
+    ("context c0 /*/ end", 5, 1, 12, ""),
+    ("context c0 axioms @a ∀x·⊤ /* end", 5, 1, 27, ""),
+    (
+        "context c0\nconstants nnnnnnnnnnnnnnnnnnnnnnnnnnnnnnnnnnnnnnnnnnnnnnnnnnnnnnnnnnnnnnnnn\nend",
+        1,
+        2,
+        11,
+        "",
+    ),
+    (
+        "context c0\nconstants n\naxioms\n  @axm1 n = 170141183460469231731687303715884105728\nend",
+        2,
+        4,
+        13,
+        "",
+    ),
+    (
+        "context c0\nconstants n\naxioms\n  @axm1 n = (((((((((((((((((((((((((((((((((((((((((((((((((((((((((((((((((((((((((((((((((((((((((((((((((((((((((((((((((((((((((((((((((1)))))))))))))))))))))))))))))))))))))))))))))))))))))))))))))))))))))))))))))))))))))))))))))))))))))))))))))))))))))))))))))))))\nend",
+        4,
+        4,
+        141,
+        "",
+    ),
+    (
+        "context c0\nconstants n\naxioms\n  @axm1 n=1+1+1+1+1+1+1+1+1+1+1+1+1+1+1+1+1+1+1+1+1+1+1+1+1+1+1+1+1+1+1+1+1+1+1+1+1+1+1+1+1+1+1+1+1+1+1+1+1+1+1+1+1+1+1+1+1+1+1+1+1+1+1+1+1+1+1+1+1+1+1+1+1+1+1+1+1+1+1+1+1+1+1+1+1+1+1+1+1+1+1+1+1+1+1+1+1+1+1+1+1+1+1+1+1+1+1+1+1+1+1+1+1+1+1+1+1+1+1+1+1+1+1+1+1+1+1+1+1+1+1+1+1+1+1+1+1+1+1+1+1+1+1+1+1+1+1+1+1+1+1+1+1+1+1+1+1+1+1+1+1+1+1+1+1+1+1+1+1+1+1+1+1+1+1+1+1+1+1+1+1+1+1+1+1+1+1+1+1+1+1+1+1+1+1+1+1+1+1+1+1+1+1+1+1+1+1+1+1+1+1+1+1+1+1+1+1+1+1+1+1+1+1+1+1+1+1+1+1+1+1+1+1+1+1+1+1+1+1+1+1+1+1+1+1+1+1+1+1+1+1+1+1+1+1+1\nend",
+        4,
+        4,
+        521,
+        "",
+    ),
+    (
+        "context c0\nconstants n\naxioms\n  @axm1 n=1+1+1+1+1+1+1+1+1+1+1+1+1+1+1+1+1+1+1+1+1+1+1+1+1+1+1+1+1+1+1+1+1+1+1+1+1+1+1+1+1+1+1+1+1+1+1+1+1+1+1+1+1+1+1+1+1+1+1+1+1+1+1+1+1+1+1+1+1+1+1+1+1+1+1+1+1+1+1+1+1+1+1+1+1+1+1+1+1+1+1+1+1+1+1+1+1+1+1+1+1+1+1+1+1+1+1+1+1+1+1+1+1+1+1+1+1+1+1+1+1+1+1+1+1+1+1+1+1+1+1+1+1+1+1+1+1+1+1+1+1+1+1+1+1+1+1+1+1+1+1+1+1+1+1+1+1+1+1+1+1+1+1+1+1+1+1+1+1+1+1+1+1+1+1+1+1+1+1+1+1+1+1+1+1+1+1+1+1+1+1+1+1+1+1+1+1+1+1+1+1+1+1+1+1+1+1+1+1+1+1+1+1+1+1+1+1+1+1+1+1+1+1+1+1+1+1+1+1+1+1+1+1+1+1+1+1+1+1+1+1+1+1+1+1+1+1+1+1+1+1+1+1+1+1+)\nend",
+        4,
+        4,
+        521,
+        "",
+    ),
+    (
+        "context c0\nconstants n\naxioms\n  @axm1 partition(S,A,A,A,A,A,A,A,A,A,A,A,A,A,A,A,A,A,A,A,A,A,A,A,A,A)\nend",
+        4,
+        4,
+        68,
+        "",
+    ),
+    (
+        "context c0\naxioms @aaaaaaaaaaaaaaaaaaaaaaaaaaaaaaaaaaaaaaaaaaaaaaaaaaaaaaaaaaaaaaaaa ⊤ end",
+        3,
+        2,
+        75,
+        "⊤",
+    ),
+    (
+        "context c0\naxioms\n@a ⊤ /* ∧\n*/ ∧ // ∧\nend",
+        3,
+        5,
+        1,
+        "end",
+    ),
+    ("context c0 axioms @a ⊤ @b ⊤ ⊤ end", 3, 1, 29, "⊤"),
+    ("context c0 axioms @a f(x end", 3, 1, 26, "end"),
+    ("context c0 axioms @a n end", 3, 1, 24, "end"),
+];
+
+fn is_fault(text: &str, fault: &Fault, kind: u8, line: usize, column: usize, words: &str) -> bool {
+    let place = fault.place as usize;
+    place <= text.len()
+        && fault.kind == kind
+        && position_of(text, place) == Position { line, column }
+        && fault.words.as_text() == words
+        && fault.component.as_text() == "c0"
+}
+
+/// What the text of c0 is read as, none where memory runs out.
+fn told(alloc: Global, text: &str) -> Option<Result<RawComponent, Fault>> {
+    if text.len() > 10_000 {
+        return None;
+    }
+    let Ok(name) = Name::read(alloc, "c0") else {
+        return None;
+    };
+    match read_context(alloc, &name, text) {
+        Ok(component) => Some(Ok(component)),
+        Err(ReadFault::Fault(fault)) => Some(Err(fault)),
+        Err(ReadFault::OutOfMemory) => None,
+    }
+}
+
+#[test]
+fn the_first_fault_counts(rt: HostRuntime) {
+    for (text, kind, line, column, words) in &FAULTS {
+        match told(rt.alloc(), text) {
+            Some(Err(fault)) => {
+                assert!(rt;
+                    is_fault(text, &fault, *kind, *line, *column, words),
+                    "{text}: {kind} {line}:{column}"
+                );
+            }
+            _ => assert!(rt; false, "{text}"),
+        }
+    }
+}
+
+/// Texts of c0 with the numbers of their references, carrier sets, constants and axioms.
+const READ: [(&str, [usize; 4]); 7] = [
+    ("context c0 end", [0, 0, 0, 0]),
+    ("context c0 sets constants axioms end", [0, 0, 0, 0]),
+    (
+        "context c0 extends c1 c2 sets S T constants a b c axioms @x a ∈ S theorem @y b : T @z ⊤ end",
+        [2, 2, 3, 3],
+    ),
+    (
+        "// end\ncontext /* end */ c0 // end\nsets S/**/T end // end",
+        [0, 2, 0, 0],
+    ),
+    (
+        "context c0 axioms @a x = 1 // , 2\n∧ y = 2 @b.1'-_ partition(S, A) end",
+        [0, 0, 0, 2],
+    ),
+    (
+        "context\u{a0}c0\rconstants\tn axioms @a n=1@b n=2 theorem@c n=3 end",
+        [0, 0, 1, 3],
+    ),
+    (
+        "context c0 axioms @aaaaaaaaaaaaaaaaaaaaaaaaaaaaaaaaaaaaaaaaaaaaaaaaaaaaaaaaaaaaaaaax=1 end",
+        [0, 0, 0, 1],
+    ),
+];
+
+fn counted(component: &RawComponent) -> Option<[usize; 4]> {
+    match component {
+        RawComponent::Context {
+            extends,
+            sets,
+            constants,
+            axioms,
+            ..
+        } => Some([
+            extends.items().len(),
+            sets.items().len(),
+            constants.items().len(),
+            axioms.items().len(),
+        ]),
+        RawComponent::Machine { .. } => None,
+    }
+}
+
+#[test]
+fn contexts_are_read(rt: HostRuntime) {
+    for (text, counts) in &READ {
+        match told(rt.alloc(), text) {
+            Some(Ok(component)) => {
+                assert!(rt; counted(&component) == Some(*counts), "{text}");
+            }
+            _ => assert!(rt; false, "{text}"),
+        }
+    }
+}
+
+/// The label, the mark as a theorem and the place of the axiom at the index.
+fn axiom_is(
+    component: &RawComponent,
+    index: usize,
+    label: &str,
+    theorem: bool,
+    place: u32,
+) -> bool {
+    match component {
+        RawComponent::Context { axioms, .. } => match axioms.items().get(index) {
+            Some(axiom) => {
+                axiom.label.as_text() == label && axiom.theorem == theorem && axiom.place == place
+            }
+            None => false,
+        },
+        RawComponent::Machine { .. } => false,
+    }
+}
+
+#[test]
+fn axioms_have_labels_marks_and_places(rt: HostRuntime) {
+    let text = "context c0 axioms @x a ∈ S theorem @y b = 1 end";
+    match told(rt.alloc(), text) {
+        Some(Ok(component)) => {
+            assert!(rt; axiom_is(&component, 0, "x", false, 18));
+            assert!(rt; axiom_is(&component, 1, "y", true, 37));
+            assert!(rt; component.heading().name.as_text() == "c0");
+            assert!(rt; component.heading().place == 8);
+        }
+        _ => assert!(rt; false),
+    }
+}
