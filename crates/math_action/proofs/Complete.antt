@@ -1,9 +1,8 @@
 -- Each action is read.
-use Rattle.std.proofs.Common.{◌≡◌, ℕ, suc, ◌+◌, ◌<◌, ◌≤◌, List, [], ◌∷◌, ◌++◌, Bool, true, false, ◌&&◌, cond, Option, Some, None, refl, ap, sym, ◌∙◌, arith, length, length-append, nat_lt, eqb}
+use Rattle.std.proofs.Common.{◌≡◌, ℕ, ◌+◌, ◌<◌, List, [], ◌∷◌, ◌++◌, Bool, true, false, cond, Option, Some, None, refl, ap, ◌∙◌, arith, length, length-append, nat_lt}
 use Rattle.std.specs.Prelude.{option_and_then, nat_eq}
 use Rattle.std.specs.Option.{option_map_or}
 use Rattle.std.proofs.lemmas.Bool.Decides.{nat_tests}
-use Rattle.formula_core.specs.Names.{is_name}
 use Rattle.formula_core.specs.declared.raw.Raw.{Raw}
 use Rattle.formula_core.specs.declared.raw.Ref.{Ref}
 use Rattle.formula_core.specs.declared.raw.RawAction.{RawAction}
@@ -12,15 +11,14 @@ use Rattle.math_grammar.specs.declared.holes.Hole.TheVariants as hole
 use Rattle.math_grammar.specs.declared.levels.Bracket.TheVariants as bracket
 use Rattle.math_grammar.specs.declared.symbols.Symbol.{Symbol}
 use Rattle.math_grammar.specs.declared.symbols.Symbol.TheVariants as sign
-use Rattle.math_grammar.specs.Levels.{fits}
 use Rattle.math_grammar.specs.Tokens.{Item}
-use Rattle.math_grammar.specs.Grammar.{item, Reads, Spells}
+use Rattle.math_grammar.specs.Grammar.{Spells}
 use Rattle.math_grammar.specs.Actions.{ref, Targets, last_target, next_target, Values, last_value, next_value, SpellsAction, assigns, applies, chooses_in, chooses_such}
 use Rattle.math_parse.specs.Machine.{State, want, step, ended, is_ready}
 use Rattle.math_parse.proofs.Reach.{Stop, stop, reach}
 use Rattle.math_action.specs.declared.stages.Head.{Head}
 use Rattle.math_action.specs.declared.stages.Head.TheVariants as head
-use Rattle.math_action.specs.Machine.{ActionState, target, named, formula, applied, goal_of, ends_at, separated, after_formula, read_on, action_step, whole, ActionOutcome, found, refused, action_run}
+use Rattle.math_action.specs.Machine.{target, named, formula, goal_of, ends_at, after_formula, whole, ActionOutcome, found, refused, action_run}
 use Rattle.math_action.proofs.Formulas.{Separates, ready_stops, signed_ended, reads_reach, spelled_reach}
 
 pub ends_separates : (h : Head) (x : Symbol) → ends_at h x ≡ true → Separates x

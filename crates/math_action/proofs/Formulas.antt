@@ -1,18 +1,17 @@
 -- What becomes of a formula at a sign that goes on with nothing.
-use Rattle.std.proofs.Common.{◌≡◌, ℕ, List, [], ◌∷◌, ◌++◌, Bool, true, false, not, ◌&&◌, cond, Option, Some, None, inl, inr, refl, ap, sym, ◌∙◌}
-use Rattle.std.specs.Prelude.{option_and_then}
+use Rattle.std.proofs.Common.{◌≡◌, ℕ, List, [], ◌∷◌, ◌++◌, Bool, true, false, ◌&&◌, cond, Option, Some, None, inl, inr, refl, ◌∙◌}
 use Rattle.std.specs.List.{list_all}
 use Rattle.formula_core.specs.declared.raw.Raw.{Raw}
 use Rattle.formula_core.specs.declared.raw.Raw.TheVariants as raw
 use Rattle.math_grammar.specs.declared.holes.Grade.{Grade}
 use Rattle.math_grammar.specs.declared.holes.Hole.{Hole}
 use Rattle.math_grammar.specs.declared.symbols.Symbol.{Symbol}
-use Rattle.math_grammar.specs.Levels.{reaches, fits, goes_on, binding_grade, is_closed}
+use Rattle.math_grammar.specs.Levels.{fits, goes_on, binding_grade, is_closed}
 use Rattle.math_grammar.specs.Tokens.{Item}
 use Rattle.math_grammar.specs.Grammar.{item, Reads, Spells}
 use Rattle.math_parse.specs.declared.frames.Frame.{Frame}
 use Rattle.math_parse.specs.declared.frames.Frame.TheVariants as frame
-use Rattle.math_parse.specs.Machine.{hole_of, State, want, have, extend, finished, closed, after_form, attach, step, complete, ended, is_open_ended, is_ready}
+use Rattle.math_parse.specs.Machine.{hole_of, State, want, have, finished, attach, step, complete, ended, is_open_ended, is_ready}
 use Rattle.math_parse.proofs.Basics.{both, fits_reaches}
 use Rattle.math_parse.proofs.Sound.{ways, option_ways}
 use Rattle.math_parse.proofs.Complete.{complete_reads}

@@ -1,5 +1,5 @@
 -- The place of the fault: what was read goes on to an action, and the next token doesn't.
-use Rattle.std.proofs.Common.{◌≡◌, ℕ, zero, suc, ◌+◌, ◌-◌, ◌<◌, ◌≤◌, List, [], ◌∷◌, ◌++◌, Bool, true, false, cond, Option, Some, None, inl, inr, refl, ap, sym, ◌∙◌, subst, arith, length, take, drop, length-append, length-drop, take_at, append_assoc, append-nil, nat_lt}
+use Rattle.std.proofs.Common.{◌≡◌, ℕ, zero, suc, ◌+◌, ◌-◌, ◌<◌, ◌≤◌, List, [], ◌∷◌, ◌++◌, true, Option, Some, None, inl, inr, refl, ap, sym, ◌∙◌, subst, arith, length, take, drop, length-append, length-drop, take_at, append_assoc, append-nil, nat_lt}
 use Rattle.std.specs.Prelude.{nat_eq}
 use Rattle.std.proofs.lemmas.Bool.Decides.{nat_tests}
 use Rattle.std.proofs.Math.Seq.{take-append-add}
@@ -15,7 +15,7 @@ use Rattle.math_grammar.specs.declared.levels.Bracket.TheVariants as bracket
 use Rattle.math_grammar.specs.declared.symbols.Symbol.TheVariants as sign
 use Rattle.math_grammar.specs.Tokens.{Item}
 use Rattle.math_grammar.specs.Grammar.{item}
-use Rattle.math_grammar.specs.Actions.{SpellsAction, BeginsAction}
+use Rattle.math_grammar.specs.Actions.{SpellsAction}
 use Rattle.math_parse.specs.Machine.{State, want}
 use Rattle.math_parse.specs.Machine as formulas
 use Rattle.math_parse.proofs.Reach.{Stop, stop, reach, outcome, run_reaches}
@@ -24,10 +24,10 @@ use Rattle.math_parse.proofs.Sound as sounds
 use Rattle.math_action.specs.Faults.{IsUnexpectedInAction}
 use Rattle.math_action.specs.declared.stages.Head.{Head}
 use Rattle.math_action.specs.declared.stages.Head.TheVariants as head
-use Rattle.math_action.specs.Machine.{ActionState, target, named, formula, applied, goal_of, action_step, action_ended, found, refused, action_run}
+use Rattle.math_action.specs.Machine.{ActionState, target, formula, goal_of, action_step, action_ended, found, refused, action_run}
 use Rattle.math_action.proofs.Formulas.{stops_before}
 use Rattle.math_action.proofs.Complete.{after_stop, formula_run, complete_action}
-use Rattle.math_action.proofs.Sound.{Headed, assigning, opening, applying, choosing_in, choosing_such, Sound, wanting, holding, reading, argued, sound_step, sound_run, sound_start}
+use Rattle.math_action.proofs.Sound.{Headed, assigning, Sound, wanting, holding, reading, argued, sound_step, sound_run, sound_start}
 
 -- the name a
 abbrev a_word : List ℕ

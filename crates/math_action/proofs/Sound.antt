@@ -1,7 +1,6 @@
 -- What is read is an action.
-use Rattle.std.proofs.Common.{◌≡◌, ℕ, ◌<◌, List, [], ◌∷◌, ◌++◌, Bool, true, false, ◌&&◌, cond, Option, Some, None, ◌⊎◌, inl, inr, refl, ap, sym, ◌∙◌, subst, arith, length, length-append, nat_lt}
+use Rattle.std.proofs.Common.{◌≡◌, ℕ, ◌<◌, List, [], ◌∷◌, ◌++◌, true, ◌&&◌, Option, Some, None, inl, inr, refl, ap, sym, ◌∙◌, subst, arith, length, length-append, nat_lt}
 use Rattle.std.specs.Prelude.{IfSome, option_and_then, nat_eq}
-use Rattle.std.specs.Option.{option_map_or}
 use Rattle.std.proofs.lemmas.Bool.Decides.{nat_tests}
 use Rattle.formula_core.specs.Names.{is_name}
 use Rattle.formula_core.specs.declared.raw.Raw.{Raw}
@@ -9,7 +8,6 @@ use Rattle.formula_core.specs.declared.raw.Ref.{Ref}
 use Rattle.formula_core.specs.declared.raw.RawAction.{RawAction}
 use Rattle.formula_core.specs.declared.raw.RawAction.TheVariants as action
 use Rattle.math_grammar.specs.declared.holes.Grade.{Grade}
-use Rattle.math_grammar.specs.declared.holes.Hole.{Hole}
 use Rattle.math_grammar.specs.declared.holes.Hole.TheVariants as hole
 use Rattle.math_grammar.specs.declared.levels.Bracket.TheVariants as bracket
 use Rattle.math_grammar.specs.declared.symbols.Symbol.{Symbol}
@@ -24,7 +22,7 @@ use Rattle.math_parse.proofs.Sound as formulas
 use Rattle.math_action.proofs.Complete.{ends_separates}
 use Rattle.math_action.specs.declared.stages.Head.{Head}
 use Rattle.math_action.specs.declared.stages.Head.TheVariants as head
-use Rattle.math_action.specs.Machine.{ActionState, target, named, formula, applied, goal_of, ends_at, begin_target, if_first, after_target, separated, after_formula, read_on, after_argument, action_step, whole, action_ended, found, refused, action_run}
+use Rattle.math_action.specs.Machine.{ActionState, target, named, formula, applied, goal_of, ends_at, begin_target, after_target, separated, after_formula, read_on, after_argument, action_step, whole, action_ended, found, action_run}
 
 module _ (limit : Option ℕ) where
   -- The tokens s0 up to m spell what stands before a formula.

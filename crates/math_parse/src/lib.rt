@@ -1,4 +1,4 @@
-//! The parser of formulas.
+//! The parser of formulas. Its steps are public, since the reader of actions gives them the tokens of its formulas.
 #![tactic(auto)]
 
 mod begin;
