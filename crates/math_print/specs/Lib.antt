@@ -5,3 +5,4 @@ pub mod Names
 pub mod Printing
 pub mod Signs
 pub mod Types
+pub mod Written

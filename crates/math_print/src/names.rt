@@ -1,10 +1,12 @@
 //! The names of bound identifiers.
-ghost use Rattle.std.specs.Prelude.{◌≡◌, ◌<◌, ◌+◌, ◌-◌, ◌^◌, IfOk, not, ℕ, List, bytes_eq, length};
+ghost use Rattle.std.specs.Prelude.{◌≡◌, ◌<◌, ◌+◌, ◌-◌, ◌^◌, IfOk, OnOk, not, ℕ, List, bytes_eq, length};
 ghost use Rattle.std.specs.List.{list_any};
 ghost use Rattle.std.specs.Map.{keys_of};
 ghost use Rattle.std.specs.BTreeSet.{contains_by};
 ghost use Rattle.std.specs.Ordering.{nat_cmp};
 ghost use Rattle.std.specs.Cmp.Lexicographic.{slice_cmp};
+ghost use Rattle.formula_core.specs.Identifiers.{identifiers};
+ghost use Rattle.math_print.specs.Depths.{deepest};
 ghost use Rattle.math_print.specs.Names.{numbered, first_allowed, bound_names};
 
 use crate::depths::deepest;
@@ -59,7 +61,8 @@ fn first_allowed(
 
 /// The names of the bound identifiers of a formula, from the outermost one on.
 pub(crate) fn bound_names(alloc: Global, formula: &Formula) -> Result<Vec<Name>, OutOfMemory>
-    ensures { IfOk result (λ names. names.items ≡ bound_names formula.now) }
+    ensures names { IfOk result (λ names. names.items ≡ bound_names formula.now) }
+    ensures small { OnOk result (deepest formula.now + length (identifiers formula.now) < 2 ^ 64) }
 {
     let many = deepest(formula);
     if many == u64::MAX {
@@ -68,8 +71,10 @@ pub(crate) fn bound_names(alloc: Global, formula: &Formula) -> Result<Vec<Name>,
     let mut identifiers = Vec::new(alloc);
     formula.add_identifiers(alloc, &mut identifiers)?;
     let taken = names_of(alloc, identifiers.as_slice())?;
-    match identifiers.len().checked_add(many as usize) {
-        Some(tries) => first_allowed(alloc, &taken, many as usize, tries),
-        None => Err(OutOfMemory),
-    }
+    let tries = match identifiers.len().checked_add(many as usize) {
+        Some(tries) => tries,
+        None => return Err(OutOfMemory),
+    };
+    let names = first_allowed(alloc, &taken, many as usize, tries)?;
+    Ok(names)
 }
