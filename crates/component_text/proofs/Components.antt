@@ -1,5 +1,5 @@
 -- The parts of components.
-use Rattle.std.proofs.Common.{◌≡◌, ◌∙◌, ap, ℕ, zero, suc, ◌+◌, ◌<◌, ◌≤◌, List, [], ◌∷◌, ◌++◌, Bool, true, false, ◌||◌, Some, None, Ok, Err, cond, ◌==◌, inl, inr, length, map, refl, sym, subst, arith, append_assoc, append-nil}
+use Rattle.std.proofs.Common.{◌≡◌, ◌∙◌, ap, ℕ, suc, ◌<◌, ◌≤◌, List, [], ◌∷◌, ◌++◌, Bool, true, false, Some, None, Ok, Err, cond, ◌==◌, inl, inr, length, refl, sym, subst, arith, append_assoc, append-nil}
 use Rattle.std.specs.Prelude.{Option, Result, codes}
 use Rattle.std.specs.Result.{IsErrAnd}
 use Rattle.std.proofs.lemmas.Result.{err_from_is_err_and}
@@ -14,18 +14,20 @@ use Rattle.math_grammar.specs.declared.holes.Hole.TheVariants as hole
 use Rattle.math_grammar.specs.declared.symbols.Symbol.TheVariants as sym_
 use Rattle.math_grammar.specs.Tokens.{Item}
 use Rattle.math_grammar.specs.Grammar.{item, Spells, a_truth}
-use Rattle.math_parse.specs.Limits.{most_parts, IsSentence}
+use Rattle.math_parse.specs.Limits.{most_parts}
 use Rattle.model_core.specs.declared.component.RawLabelled.{RawLabelled}
 use Rattle.model_core.specs.declared.component.RawComponent.{RawComponent}
 use Rattle.component_text.specs.declared.stop.Stop.{Stop}
 use Rattle.component_text.specs.declared.stop.Stop.TheVariants as stop
-use Rattle.component_text.specs.Marks.{Mark, word, label, plain, run, behind_run, is_word, is_at}
-use Rattle.component_text.specs.Forms.{Bounds, limits, parts, none, One, Run, Nothing, Then, Choice, taken, other, Many, no_more, one_more, Of}
-use Rattle.component_text.specs.Grammar.{IsFormula, reference, is_reference, label_at, is_a_label, Names, SomeNames, labelled, Labelled, Line, begins_line, Lines, NamesBehind, SomeNamesBehind, LinesBehind, context_of, ContextBody, IsContext}
-use Rattle.component_text.specs.Reading.{end_mark, Begins, NoneHas, Refuses, Passes, Reads, Takes, ReadsOne, Lacks, ReadsFormula, AddsNames, Ends, ReadsWhole, from_token}
+use Rattle.component_text.specs.Marks.{Mark, word, label, plain, behind_run, is_word, is_at}
+use Rattle.component_text.specs.Forms.{Bounds, limits, parts, One, Run, Nothing, Then, Choice, taken, other, no_more, one_more}
+use Rattle.component_text.specs.Grammar.{IsFormula, reference, is_reference, label_at, Names, SomeNames, labelled, Labelled, Line, begins_line, Lines, NamesBehind, SomeNamesBehind, LinesBehind, context_of, ContextBody, IsContext}
+use Rattle.component_text.specs.Reading.{end_mark, Begins, Refuses, Passes, Reads, Takes, Lacks, ReadsFormula, AddsNames, Ends, ReadsWhole}
 use Rattle.component_text.proofs.Parts.{Good, good_one, good_run, good_nothing, good_then, good_of, good_choice, good_many}
-use Rattle.component_text.proofs.Refusing.{CanSkip, skip_begins, left_out, one_refused, one_then_refused, one_then_passes, first_refused, first_passes, both_skip, second_refused, second_passes, of_refused, of_passes, of_skip, taken_refused, taken_passes, other_refused, other_passes, other_skip, many_skip, many_here, many_here_passes, many_later, many_later_passes}
-use Rattle.component_text.proofs.Formulas.{run_refused, run_passes}
+use Rattle.component_text.proofs.Refusing.{CanSkip, skip_begins, left_out, one_refused, one_then_refused, one_then_passes, first_refused, first_passes, both_skip, second_refused, second_passes, of_refused, of_passes, taken_refused, taken_passes, other_refused, other_passes, other_skip, many_skip, many_here, many_here_passes, many_later, many_later_passes}
+use Rattle.component_text.proofs.Formulas.{label_refused, label_passes}
+use Rattle.component_text.specs.Reading.{NoLabel, all_plain, behind_word}
+use Rattle.component_text.proofs.Placed.{Leaves, leaves_one, leaves_nothing, leaves_formula, leaves_of, leaves_then, leaves_choice, leaves_many, placed_behind}
 use Rattle.component_text.proofs.Whole.{word_is, whole, body_unexpected, body_too_large, head_unexpected, head_wrong, body_wrong, after_body, after_end, end_wrong}
 use Rattle.std.proofs.lemmas.Bool.Decides.{nat_tests}
 
@@ -125,10 +127,33 @@ labelled_read theorem s m rest x t o h = record { from = (x, t); is = refl; part
 pub labelled_stops : (theorem : Bool) (s m rest : List Mark) (x : List ℕ × ℕ) (e : Stop) → One label_at limits s x m → ReadsFormula hole.Predicate m (Err e) rest → Reads (Labelled theorem) s (Err e) rest
 labelled_stops theorem s m rest x stop.Unexpected o h =
     of_refused (labelled theorem) (Then (One label_at) (Run (IsFormula hole.Predicate))) s rest
-    (one_then_refused label_at (Run (IsFormula hole.Predicate)) s m rest x o (run_refused hole.Predicate m rest h.0 h.1 h.2 h.3))
+    (label_refused s m rest x h.0 o h.1 h.3 h.2)
 labelled_stops theorem s m rest x stop.TooLarge o h =
-    of_passes (labelled theorem) (Then (One label_at) (Run (IsFormula hole.Predicate))) s rest (run_passes label_at hole.Predicate s m rest x h.0 o h.1 h.2 h.3)
+    of_passes (labelled theorem) (Then (One label_at) (Run (IsFormula hole.Predicate))) s rest (label_passes s m rest x h.0 o h.1 h.3 h.2)
 labelled_stops theorem s m rest x stop.OutOfMemory o h = tt
+
+-- what stands behind names and lines
+name_alone : (y : Mark) (r : Ref) → reference y ≡ Some r → NoLabel (y ∷ [])
+name_alone (word w p) r e = behind_word [] w p [] refl
+name_alone (label l p) r e = cc
+name_alone (plain x) r e = all_plain (x ∷ []) refl
+
+pub word_alone : (w : List ℕ) (y : Mark) → is_word w y ≡ true → NoLabel (y ∷ [])
+word_alone w (word v p) e = behind_word [] v p [] refl
+word_alone w (label l p) e = cc
+word_alone w (plain x) e = cc
+
+leaves_name : Leaves (One reference)
+leaves_name = leaves_one reference name_alone
+
+leaves_names : Leaves Names
+leaves_names = leaves_many is_reference (One reference) (good_one reference) good_names.split leaves_name
+
+leaves_some_names : Leaves SomeNames
+leaves_some_names = leaves_of (λ p. p.0 ∷ p.1) (Then (One reference) Names) (leaves_then (One reference) Names (good_one reference) good_names leaves_name leaves_names)
+
+leaves_labelled : (theorem : Bool) → Leaves (Labelled theorem)
+leaves_labelled theorem = leaves_formula (labelled theorem) label_at (IsFormula hole.Predicate)
 
 -- lines
 pub good_line : Good Line
@@ -165,7 +190,7 @@ line_begins = record {
 
 pub line_reads : (s m rest : List Mark) (theorem : Bool) (r : Result RawLabelled Stop) → Takes (is_word (codes "theorem")) s theorem m → Reads (Labelled theorem) m r rest → Reads Line s r rest
 line_reads s m rest true (Ok x) k h = taken k.0 m k.1 k.2 h
-line_reads s m rest true (Err stop.Unexpected) k h = taken_refused (is_word (codes "theorem")) (Labelled true) (Labelled false) s m rest k.0 k.1 k.2 h
+line_reads s m rest true (Err stop.Unexpected) k h = taken_refused (is_word (codes "theorem")) (Labelled true) (Labelled false) (word_alone (codes "theorem")) s m rest k.0 k.1 k.2 h
 line_reads s m rest true (Err stop.TooLarge) k h = taken_passes (is_word (codes "theorem")) (Labelled true) (Labelled false) s m rest k.0 k.1 k.2 h
 line_reads s m rest true (Err stop.OutOfMemory) k h = tt
 line_reads s m rest false (Ok x) k h = other k.1 (subst (λ t. Labelled false limits t x rest) k.0 h)
@@ -173,8 +198,14 @@ line_reads s m rest false (Err stop.Unexpected) k h = other_refused (is_word (co
 line_reads s m rest false (Err stop.TooLarge) k h = other_passes (is_word (codes "theorem")) (Labelled true) (Labelled false) s rest k.1 line_begins (subst (λ t. Passes (Labelled false) t rest) k.0 h)
 line_reads s m rest false (Err stop.OutOfMemory) k h = tt
 
+leaves_line : Leaves Line
+leaves_line = leaves_choice (is_word (codes "theorem")) (Labelled true) (Labelled false) (good_labelled true) (word_alone (codes "theorem")) (leaves_labelled true) (leaves_labelled false)
+
 good_lines : Good Lines
 good_lines = good_many begins_line Line good_line refl line_takes
+
+leaves_lines : Leaves Lines
+leaves_lines = leaves_many begins_line Line good_line good_lines.split leaves_line
 
 pub lines_skip : CanSkip Lines
 lines_skip = many_skip begins_line Line good_line refl line_takes
@@ -186,16 +217,16 @@ pub lines_here_passes : (s rest : List Mark) → is_at begins_line s ≡ true �
 lines_here_passes = many_here_passes begins_line Line good_line refl line_takes
 
 pub lines_later : (s m rest : List Mark) (x : RawLabelled) → is_at begins_line s ≡ true → Line limits s x m → Refuses Lines m rest → Refuses Lines s rest
-lines_later = many_later begins_line Line good_line refl line_takes
+lines_later = many_later begins_line Line good_line refl line_takes leaves_line
 
 pub lines_later_passes : (s m rest : List Mark) (x : RawLabelled) → is_at begins_line s ≡ true → Line limits s x m → Passes Lines m rest → Passes Lines s rest
 lines_later_passes = many_later_passes begins_line Line good_line refl line_takes
 
 -- sections
-module _ {X : Type 0} (test : Mark → Bool) (P : Bounds → List Mark → List X → List Mark → Type 0) where
+module _ {X : Type 0} (test : Mark → Bool) (P : Bounds → List Mark → List X → List Mark → Type 0) (words : (y : Mark) → test y ≡ true → NoLabel (y ∷ [])) where
   pub section_reads : (s m rest : List Mark) (r : Result (List X) Stop) → Takes test s true m → Reads P m r rest → Reads (Choice test P (Nothing [])) s r rest
   section_reads s m rest (Ok x) k h = taken k.0 m k.1 k.2 h
-  section_reads s m rest (Err stop.Unexpected) k h = taken_refused test P (Nothing []) s m rest k.0 k.1 k.2 h
+  section_reads s m rest (Err stop.Unexpected) k h = taken_refused test P (Nothing []) words s m rest k.0 k.1 k.2 h
   section_reads s m rest (Err stop.TooLarge) k h = taken_passes test P (Nothing []) s m rest k.0 k.1 k.2 h
   section_reads s m rest (Err stop.OutOfMemory) k h = tt
 
@@ -204,6 +235,9 @@ module _ {X : Type 0} (test : Mark → Bool) (P : Bounds → List Mark → List 
 
   good_section : Good P → test end_mark ≡ false → Good (Choice test P (Nothing []))
   good_section p e = good_choice test P (Nothing []) p (good_nothing []) e
+
+  leaves_section : Good P → Leaves P → Leaves (Choice test P (Nothing []))
+  leaves_section good p = leaves_choice test P (Nothing []) good words p (leaves_nothing [])
 
   section_skip : test end_mark ≡ false → CanSkip (Choice test P (Nothing []))
   section_skip e = other_skip test P (Nothing []) e (left_out (Nothing []) [] (λ tail. record { is = refl; behind = refl }))
@@ -222,28 +256,28 @@ abbrev Axioms : Bounds → List Mark → List RawLabelled → List Mark → Type
 Axioms = LinesBehind (codes "axioms")
 
 pub good_extends : Good Extends
-good_extends = good_section (is_word (codes "extends")) SomeNames good_some_names refl
+good_extends = good_section (is_word (codes "extends")) SomeNames (word_alone (codes "extends")) good_some_names refl
 
 pub good_sets : Good Sets
-good_sets = good_section (is_word (codes "sets")) Names good_names refl
+good_sets = good_section (is_word (codes "sets")) Names (word_alone (codes "sets")) good_names refl
 
 pub good_constants : Good Constants
-good_constants = good_section (is_word (codes "constants")) Names good_names refl
+good_constants = good_section (is_word (codes "constants")) Names (word_alone (codes "constants")) good_names refl
 
 good_axioms : Good Axioms
-good_axioms = good_section (is_word (codes "axioms")) Lines good_lines refl
+good_axioms = good_section (is_word (codes "axioms")) Lines (word_alone (codes "axioms")) good_lines refl
 
 skip_extends : CanSkip Extends
-skip_extends = section_skip (is_word (codes "extends")) SomeNames refl
+skip_extends = section_skip (is_word (codes "extends")) SomeNames (word_alone (codes "extends")) refl
 
 skip_sets : CanSkip Sets
-skip_sets = section_skip (is_word (codes "sets")) Names refl
+skip_sets = section_skip (is_word (codes "sets")) Names (word_alone (codes "sets")) refl
 
 skip_constants : CanSkip Constants
-skip_constants = section_skip (is_word (codes "constants")) Names refl
+skip_constants = section_skip (is_word (codes "constants")) Names (word_alone (codes "constants")) refl
 
 skip_axioms : CanSkip Axioms
-skip_axioms = section_skip (is_word (codes "axioms")) Lines refl
+skip_axioms = section_skip (is_word (codes "axioms")) Lines (word_alone (codes "axioms")) refl
 
 -- from each clause on
 abbrev FromConstants : Bounds → List Mark → (List Ref × List RawLabelled) → List Mark → Type 0
@@ -268,6 +302,25 @@ pub good_context_body : Good ContextBody
 good_context_body = good_of context_of (Then (One reference) FromExtends)
     (good_then (One reference) FromExtends (good_one reference) (good_then Extends FromSets good_extends (good_then Sets FromConstants good_sets (good_then Constants Axioms good_constants good_axioms))))
 
+leaves_extends : Leaves Extends
+leaves_extends = leaves_section (is_word (codes "extends")) SomeNames (word_alone (codes "extends")) good_some_names leaves_some_names
+
+leaves_sets : Leaves Sets
+leaves_sets = leaves_section (is_word (codes "sets")) Names (word_alone (codes "sets")) good_names leaves_names
+
+leaves_constants : Leaves Constants
+leaves_constants = leaves_section (is_word (codes "constants")) Names (word_alone (codes "constants")) good_names leaves_names
+
+leaves_axioms : Leaves Axioms
+leaves_axioms = leaves_section (is_word (codes "axioms")) Lines (word_alone (codes "axioms")) good_lines leaves_lines
+
+leaves_context_body : Leaves ContextBody
+leaves_context_body = leaves_of context_of (Then (One reference) FromExtends)
+    (leaves_then (One reference) FromExtends (good_one reference) (good_then Extends FromSets good_extends (good_then Sets FromConstants good_sets (good_then Constants Axioms good_constants good_axioms))) leaves_name
+    (leaves_then Extends FromSets good_extends (good_then Sets FromConstants good_sets (good_then Constants Axioms good_constants good_axioms)) leaves_extends
+    (leaves_then Sets FromConstants good_sets (good_then Constants Axioms good_constants good_axioms) leaves_sets
+    (leaves_then Constants Axioms good_constants good_axioms leaves_constants leaves_axioms))))
+
 pub context_body_begins : Begins ContextBody []
 context_body_begins = record {
   more = some_name ∷ skip_from_extends.fill;
@@ -284,7 +337,9 @@ no_context_name s h = of_refused context_of (Then (One reference) FromExtends) s
 
 module _ (s a : List Mark) (n : Ref) (name : One reference limits s n a) where
   behind_name_refused : (rest : List Mark) → Refuses FromExtends a rest → Refuses ContextBody s rest
-  behind_name_refused rest h = of_refused context_of (Then (One reference) FromExtends) s rest (one_then_refused reference FromExtends s a rest n name h)
+  behind_name_refused rest h =
+      of_refused context_of (Then (One reference) FromExtends) s rest
+      (one_then_refused reference FromExtends s a rest n name h (placed_behind (name.mark ∷ []) h.before rest (λ _. name_alone name.mark n name.is) h.placed))
 
   behind_name_passes : (rest : List Mark) → Passes FromExtends a rest → Passes ContextBody s rest
   behind_name_passes rest h = of_passes context_of (Then (One reference) FromExtends) s rest (one_then_passes reference FromExtends s a rest n name h)
@@ -296,7 +351,7 @@ module _ (s a : List Mark) (n : Ref) (name : One reference limits s n a) where
 
   module _ (b : List Mark) (es : List Ref) (extends : Extends limits a es b) where
     behind_extends_refused : (rest : List Mark) → Refuses FromSets b rest → Refuses ContextBody s rest
-    behind_extends_refused rest h = behind_name_refused rest (second_refused Extends FromSets good_extends a b rest es extends h skip_from_sets)
+    behind_extends_refused rest h = behind_name_refused rest (second_refused Extends FromSets good_extends leaves_extends a b rest es extends h skip_from_sets)
 
     behind_extends_passes : (rest : List Mark) → Passes FromSets b rest → Passes ContextBody s rest
     behind_extends_passes rest h = behind_name_passes rest (second_passes Extends FromSets good_extends a b rest es extends h skip_from_sets)
@@ -308,7 +363,7 @@ module _ (s a : List Mark) (n : Ref) (name : One reference limits s n a) where
 
     module _ (c : List Mark) (ss : List Ref) (sets : Sets limits b ss c) where
       behind_sets_refused : (rest : List Mark) → Refuses FromConstants c rest → Refuses ContextBody s rest
-      behind_sets_refused rest h = behind_extends_refused rest (second_refused Sets FromConstants good_sets b c rest ss sets h skip_from_constants)
+      behind_sets_refused rest h = behind_extends_refused rest (second_refused Sets FromConstants good_sets leaves_sets b c rest ss sets h skip_from_constants)
 
       behind_sets_passes : (rest : List Mark) → Passes FromConstants c rest → Passes ContextBody s rest
       behind_sets_passes rest h = behind_extends_passes rest (second_passes Sets FromConstants good_sets b c rest ss sets h skip_from_constants)
@@ -320,7 +375,7 @@ module _ (s a : List Mark) (n : Ref) (name : One reference limits s n a) where
 
       module _ (d : List Mark) (cs : List Ref) (constants : Constants limits c cs d) where
         pub axioms_stop : (rest : List Mark) (e : Stop) → Reads Axioms d (Err e) rest → Reads ContextBody s (Err e) rest
-        axioms_stop rest stop.Unexpected h = behind_sets_refused rest (second_refused Constants Axioms good_constants c d rest cs constants h skip_axioms)
+        axioms_stop rest stop.Unexpected h = behind_sets_refused rest (second_refused Constants Axioms good_constants leaves_constants c d rest cs constants h skip_axioms)
         axioms_stop rest stop.TooLarge h = behind_sets_passes rest (second_passes Constants Axioms good_constants c d rest cs constants h skip_axioms)
         axioms_stop rest stop.OutOfMemory h = tt
 
@@ -402,7 +457,7 @@ context_read s m k rest p c e h f = whole (codes "context") ContextBody s m k p 
 pub context_unended : (s m k rest : List Mark) (p : ℕ) (c : RawComponent) → s ≡ word (codes "context") p ∷ m → ContextBody limits m c k → Ends k false rest → ReadsWhole IsContext s (Err stop.Unexpected) rest
 context_unended s m k rest p c e h (inl f) =
     subst (λ t. ReadsWhole IsContext s (Err stop.Unexpected) t) (sym f.0) (
-      after_body (codes "context") ContextBody good_context_body s m k p c e h f.1,
+      after_body (codes "context") ContextBody good_context_body leaves_context_body s m k p c e h f.1,
       end_wrong (codes "context") ContextBody good_context_body s m k p c e h
           (λ q is. let does : is_at (is_word (codes "end")) k ≡ true = ap (is_at (is_word (codes "end"))) is in let contra : true ≡ false = sym does ∙ f.1 in cc),
     )

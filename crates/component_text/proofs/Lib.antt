@@ -1,6 +1,7 @@
 pub mod Texts
 pub mod Marks
 pub mod Parts
+pub mod Placed
 pub mod Refusing
 pub mod Whole
 pub mod Formulas

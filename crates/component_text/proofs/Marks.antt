@@ -1,7 +1,7 @@
 -- What a token is by its bytes, and the tokens before the next structural word or label.
 use Rattle.std.proofs.Common.{◌≡◌, ◌∙◌, ap, ℕ, zero, suc, ◌+◌, ◌-◌, ◌≤◌, List, [], ◌∷◌, ◌++◌, Bool, true, false, not, ◌||◌, ◌&&◌, bytes_eq, cond, length, take, drop, map, refl, sym, subst, arith}
 use Rattle.std.proofs.Math.Seq.{take-length}
-use Rattle.std.specs.Prelude.{Some, None, slice_get, Err}
+use Rattle.std.specs.Prelude.{Some, slice_get, Err}
 use Rattle.std.proofs.lemmas.List.{take_rest}
 use Rattle.formula_core.specs.declared.raw.Raw.{Raw}
 use Rattle.math_grammar.specs.declared.holes.Hole.{Hole}

@@ -1,10 +1,10 @@
 -- Parts of a grammar that one token decides: where a part ends doesn't depend on what stands behind the next token.
-use Rattle.std.proofs.Common.{◌≡◌, ◌∙◌, ap, ℕ, suc, ◌+◌, ◌<◌, ◌≤◌, ◌⊎◌, inl, inr, List, [], ◌∷◌, ◌++◌, Bool, true, false, Some, None, length, map, refl, sym, subst, arith, append_assoc, append-nil, length-append}
+use Rattle.std.proofs.Common.{◌≡◌, ◌∙◌, ap, ℕ, ◌<◌, List, [], ◌∷◌, ◌++◌, Bool, true, false, length, map, refl, sym, subst, arith, append_assoc, length-append}
 use Rattle.std.specs.Prelude.{Option}
 use Rattle.std.proofs.lemmas.List.{append_cancel_right}
 use Rattle.math_grammar.specs.Tokens.{Item}
 use Rattle.component_text.specs.Marks.{Mark, word, label, plain, run, behind_run, is_at}
-use Rattle.component_text.specs.Forms.{Bounds, limits, parts, none, One, Run, Nothing, Then, Choice, taken, other, Many, no_more, one_more, Of}
+use Rattle.component_text.specs.Forms.{Bounds, limits, parts, One, Run, Nothing, Then, Choice, taken, other, Many, no_more, one_more, Of}
 use Rattle.component_text.specs.Reading.{end_mark}
 
 -- the same token stands first, or none

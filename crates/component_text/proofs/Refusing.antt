@@ -1,11 +1,12 @@
 -- Where a part made of parts is refused, or passes a limit.
-use Rattle.std.proofs.Common.{◌≡◌, ◌∙◌, ap, ℕ, suc, ◌+◌, ◌<◌, ◌≤◌, List, [], ◌∷◌, ◌++◌, Bool, true, false, Some, None, length, map, refl, sym, subst, arith, append_assoc, append-nil, length-append}
+use Rattle.std.proofs.Common.{◌≡◌, ◌∙◌, ap, ◌<◌, List, [], ◌∷◌, ◌++◌, Bool, true, false, Some, None, length, refl, sym, subst, arith, append_assoc, append-nil, length-append}
 use Rattle.std.specs.Prelude.{Option}
 use Rattle.component_text.specs.Marks.{Mark, is_at}
 use Rattle.component_text.specs.Forms.{Bounds, limits, parts, none, One, Then, Choice, taken, other, Many, no_more, one_more, Of}
 use Rattle.component_text.specs.Faults.{IsLargeAt}
-use Rattle.component_text.specs.Reading.{end_mark, Begins, NoneHas, Refuses, Passes, Lacks}
-use Rattle.component_text.proofs.Parts.{SameStart, both_end, same_first, MayFollow, same, closing, Good, same_start_self}
+use Rattle.component_text.specs.Reading.{end_mark, Begins, NoneHas, Refuses, Passes, Lacks, is_plain, NoLabel, Placed, no_formula}
+use Rattle.component_text.proofs.Placed.{no_label_none, placed_behind, Leaves}
+use Rattle.component_text.proofs.Parts.{SameStart, same_first, same, closing, Good, same_start_self}
 
 -- The part may begin with `end`: it is left out before it, or `end` is all of it.
 pub record CanSkip {X : Type 0} (P : Bounds → List Mark → X → List Mark → Type 0) : Type 0 where
@@ -25,9 +26,9 @@ left_out P x h = record { fill = []; value = x; behind = λ tail. tail; starts =
 pub larger : (front before : List Mark) (token : Mark) → IsLargeAt before token → IsLargeAt (front ++ before) token
 larger front before token h = record {
   lead = front ++ h.lead;
-  opener = h.opener;
+  name = h.name;
+  place = h.place;
   formula = h.formula;
-  hole = h.hole;
   item = h.item;
   is = ap (λ t. front ++ t) h.is ∙ sym (append_assoc front h.lead _);
   token = h.token;
@@ -62,6 +63,7 @@ module _ {X Y : Type 0} (value : Mark → Option X) (Q : Bounds → List Mark �
       goes_on = λ tail. record { middle = q.more ++ end_mark ∷ tail; first = record { mark = y; there = refl; is = is }; second = q.goes_on tail };
     };
     nowhere = one_nowhere s isnt;
+    placed = no_formula no_label_none;
     wrong = λ z r h. one_wrong limits s z.0 h.middle isnt h.first;
   }
 
@@ -84,12 +86,13 @@ module _ {X Y : Type 0} (value : Mark → Option X) (Q : Bounds → List Mark �
       let tail : k.middle ≡ m = cc in
       q z.1 r (subst (λ t. Q limits t z.1 r) tail k.second)
 
-  pub one_then_refused : (s m rest : List Mark) (x : X) → One value limits s x m → Refuses Q m rest → Refuses (Then (One value) Q) s rest
-  one_then_refused s m rest x h q = record {
+  pub one_then_refused : (s m rest : List Mark) (x : X) (h : One value limits s x m) (q : Refuses Q m rest) → Placed (h.mark ∷ q.before) rest → Refuses (Then (One value) Q) s rest
+  one_then_refused s m rest x h q where_it_is = record {
     before = h.mark ∷ q.before;
     is = h.there ∙ ap (λ t. h.mark ∷ t) q.is;
     begins = one_begins h.mark x q.before h.is q.begins;
     nowhere = one_then_nowhere h.mark q.before rest q.nowhere;
+    placed = where_it_is;
     wrong = one_then_wrong s m x h q.wrong;
   }
 
@@ -126,7 +129,7 @@ module _ {X Y : Type 0} (P : Bounds → List Mark → X → List Mark → Type 0
   first_nowhere before (y ∷ rest) h = λ more x r k. h more x.0 k.middle k.first
 
   pub first_refused : (s rest : List Mark) → Refuses P s rest → CanSkip Q → Refuses (Then P Q) s rest
-  first_refused s rest h q = record { before = h.before; is = h.is; begins = first_begins h.before h.begins q; nowhere = first_nowhere h.before rest h.nowhere; wrong = λ z r k. h.wrong z.0 k.middle k.first }
+  first_refused s rest h q = record { before = h.before; is = h.is; begins = first_begins h.before h.begins q; nowhere = first_nowhere h.before rest h.nowhere; placed = h.placed; wrong = λ z r k. h.wrong z.0 k.middle k.first }
 
   pub first_passes : (s rest : List Mark) → Passes P s rest → CanSkip Q → Passes (Then P Q) s rest
   first_passes s rest h q = record { before = h.before; token = h.token; later = h.later; is = h.is; next = h.next; begins = first_begins h.before h.begins q; large = h.large; wrong = λ z r k. h.wrong z.0 k.middle k.first }
@@ -194,8 +197,8 @@ module _ {X Y : Type 0} (P : Bounds → List Mark → X → List Mark → Type 0
         let middle : k.middle ≡ m = p.agrees limits limits front m m x z.0 k.middle h (same_start_self m) (subst (λ t. P limits t z.0 k.middle) e k.first) in
         q z.1 r (subst (λ t. Q limits t z.1 r) middle k.second)
 
-    pub second_refused : (s m rest : List Mark) (x : X) → P limits s x m → Refuses Q m rest → CanSkip Q → Refuses (Then P Q) s rest
-    second_refused s m rest x h q skip =
+    pub second_refused : Leaves P → (s m rest : List Mark) (x : X) → P limits s x m → Refuses Q m rest → CanSkip Q → Refuses (Then P Q) s rest
+    second_refused leaves s m rest x h q skip =
         let front = p.split limits s x m h in
         let there : P limits (front.0 ++ m) x m = subst (λ t. P limits t x m) front.1 h in
         record {
@@ -203,6 +206,7 @@ module _ {X Y : Type 0} (P : Bounds → List Mark → X → List Mark → Type 0
           is = behind_is front.0 s m q.before rest front.1 q.is;
           begins = second_begins front.0 m q.before rest x there q.is q.begins skip;
           nowhere = second_nowhere front.0 m q.before rest x there q.is q.nowhere;
+          placed = placed_behind front.0 q.before rest (λ e. leaves.no_label limits front.0 m x there (ap (is_at is_plain) q.is ∙ e)) q.placed;
           wrong = second_wrong s m front.0 x there front.1 q.wrong;
         }
 
@@ -231,7 +235,7 @@ module _ {X Y : Type 0} (f : X → Y) (P : Bounds → List Mark → X → List M
   of_nowhere before (y ∷ rest) h = λ more x r k. h more k.from r k.part
 
   pub of_refused : (s rest : List Mark) → Refuses P s rest → Refuses (Of f P) s rest
-  of_refused s rest h = record { before = h.before; is = h.is; begins = of_begins h.before h.begins; nowhere = of_nowhere h.before rest h.nowhere; wrong = λ z r k. h.wrong k.from r k.part }
+  of_refused s rest h = record { before = h.before; is = h.is; begins = of_begins h.before h.begins; nowhere = of_nowhere h.before rest h.nowhere; placed = h.placed; wrong = λ z r k. h.wrong k.from r k.part }
 
   pub of_passes : (s rest : List Mark) → Passes P s rest → Passes (Of f P) s rest
   of_passes s rest h = record { before = h.before; token = h.token; later = h.later; is = h.is; next = h.next; begins = of_begins h.before h.begins; large = h.large; wrong = λ z r k. h.wrong k.from r k.part }
@@ -259,12 +263,13 @@ module _ {X : Type 0} (test : Mark → Bool) (P Q : Bounds → List Mark → X �
   taken_wrong s m y e is h x r (taken z u e' is' k) = let there : y ∷ m ≡ z ∷ u = sym e ∙ e' in let tail : u ≡ m = cc in h x r (subst (λ v. P limits v x r) tail k)
   taken_wrong s m y e is h x r (other isnt k) = contrary (sym is ∙ ap (is_at test) (sym e) ∙ isnt)
 
-  pub taken_refused : (s m rest : List Mark) (y : Mark) → s ≡ y ∷ m → test y ≡ true → Refuses P m rest → Refuses (Choice test P Q) s rest
-  taken_refused s m rest y e is h = record {
+  pub taken_refused : ((y : Mark) → test y ≡ true → NoLabel (y ∷ [])) → (s m rest : List Mark) (y : Mark) → s ≡ y ∷ m → test y ≡ true → Refuses P m rest → Refuses (Choice test P Q) s rest
+  taken_refused words s m rest y e is h = record {
     before = y ∷ h.before;
     is = e ∙ ap (λ t. y ∷ t) h.is;
     begins = taken_begins y h.before is h.begins;
     nowhere = taken_nowhere y h.before rest is h.nowhere;
+    placed = placed_behind (y ∷ []) h.before rest (λ _. words y is) h.placed;
     wrong = taken_wrong s m y e is h.wrong;
   }
 
@@ -307,6 +312,7 @@ module _ {X : Type 0} (test : Mark → Bool) (P Q : Bounds → List Mark → X �
     is = h.is;
     begins = other_begins s h.before rest h.is isnt start h.begins;
     nowhere = other_nowhere s h.before rest h.is isnt h.nowhere;
+    placed = h.placed;
     wrong = other_wrong s isnt h.wrong;
   }
 
@@ -365,6 +371,7 @@ module _ {X : Type 0} (test : Mark → Bool) (P : Bounds → List Mark → X →
     is = h.is;
     begins = here_begins s h.before rest h.is does h.begins;
     nowhere = here_nowhere s h.before rest h.is does h.nowhere;
+    placed = h.placed;
     wrong = here_wrong s does h.wrong;
   }
 
@@ -406,16 +413,17 @@ module _ {X : Type 0} (test : Mark → Bool) (P : Bounds → List Mark → X →
   front_some : (s m before rest front : List Mark) (x : X) → P limits s x m → s ≡ front ++ m → 0 < length (front ++ before)
   front_some s m before rest front x h e = omega (arith, takes limits s x m h, ap length e, length-append front m, length-append front before)
 
-  pub many_later : (s m rest : List Mark) (x : X) → is_at test s ≡ true → P limits s x m → Refuses (Many test P) m rest → Refuses (Many test P) s rest
+  pub many_later : Leaves P → (s m rest : List Mark) (x : X) → is_at test s ≡ true → P limits s x m → Refuses (Many test P) m rest → Refuses (Many test P) s rest
   unfolding second_refused
-  many_later s m rest x does h q =
-      let both = second_refused P (Many test P) p s m rest x h q many_skip in
+  many_later leaves s m rest x does h q =
+      let both = second_refused P (Many test P) p leaves s m rest x h q many_skip in
       let front = p.split limits s x m h in
       record {
         before = both.before;
         is = both.is;
         begins = later_begins s both.before rest (front_some s m q.before rest front.0 x h front.1) both.is does both.begins;
         nowhere = later_nowhere s both.before rest both.is does both.nowhere;
+        placed = both.placed;
         wrong = λ xs r. to_both limits s xs r does (λ ys. both.wrong ys r);
       }
 

@@ -1,7 +1,6 @@
 -- From the tokens of a text to the text.
-use Rattle.std.proofs.Common.{◌≡◌, ◌∙◌, ap, ℕ, zero, suc, ◌<◌, List, [], ◌∷◌, ◌++◌, Bool, true, false, cond, length, Some, None, Ok, Err, refl, sym, subst, arith, append-nil, bytes_eq, inl, inr}
-use Rattle.std.specs.Prelude.{Option, Result, codes, ◌||◌}
-use Rattle.std.specs.List.{AllByRecursion}
+use Rattle.std.proofs.Common.{◌≡◌, ◌∙◌, ap, ℕ, List, [], ◌∷◌, Bool, true, false, cond, length, Some, None, Ok, Err, refl, sym, subst, append-nil, bytes_eq}
+use Rattle.std.specs.Prelude.{Option, Result, codes}
 use Rattle.std.specs.Result.{IfOk}
 use Rattle.std.proofs.lemmas.Slice.Eq.{bytes_eq-Decides}
 use Rattle.formula_core.specs.declared.raw.Ref.{Ref}
@@ -9,23 +8,16 @@ use Rattle.math_tokens.specs.declared.cutting.Token.{Token}
 use Rattle.component_tokens.specs.declared.piece.CutFault.{CutFault}
 use Rattle.component_tokens.specs.declared.piece.CutFault.TheVariants as wrong
 use Rattle.component_tokens.specs.Pieces.{Cut}
-use Rattle.model_core.specs.declared.fault.Fault.{Fault}
 use Rattle.model_core.specs.declared.component.RawComponent.{RawComponent}
-use Rattle.model_core.specs.declared.component.RawComponent.TheVariants.{Context}
 use Rattle.model_core.specs.Components.{heading}
-use Rattle.component_text.specs.declared.stop.Stop.{Stop}
-use Rattle.component_text.specs.declared.stop.Stop.TheVariants as stop
 use Rattle.component_text.specs.declared.read.ReadFault.{ReadFault}
 use Rattle.component_text.specs.declared.read.ReadFault.TheVariants as fault
-use Rattle.component_text.specs.Marks.{Mark, word, label, plain, marks_of, is_word, is_at}
-use Rattle.component_text.specs.Forms.{Bounds, limits, parts, none, One}
-use Rattle.component_text.specs.Grammar.{reference, IsContext, ContextBody, Headed}
+use Rattle.component_text.specs.Marks.{Mark, word, marks_of}
+use Rattle.component_text.specs.Forms.{Bounds, limits, parts}
+use Rattle.component_text.specs.Grammar.{reference, IsContext}
 use Rattle.component_text.specs.Faults.{HasContinuation, IsUnexpectedAt, IsTooLargeAt}
-use Rattle.component_text.specs.Reading.{Takes, ReadsOne, Lacks, ReadsWhole}
-use Rattle.component_text.specs.Spelled.{Spells, Finds, place_of, text_of, is_heading, other_name, misnamed_behind, misnamed, IsFirst, bad_sign, number_too_wide, unexpected, unexpected_end, too_large, comment_not_closed, wrong_name, IsReadFault, HasText, FaultIs, Tells, fault_kind, fault_place, TellsAtEnd, TellsUnexpected, TellsTooLarge, IsFirstMark, ReadsPieces}
-use Rattle.component_text.proofs.Parts.{Good}
+use Rattle.component_text.specs.Spelled.{Spells, Finds, place_of, text_of, other_name, misnamed_behind, misnamed, IsFirst, bad_sign, number_too_wide, unexpected, unexpected_end, too_large, comment_not_closed, wrong_name, IsReadFault, Tells, fault_kind, fault_place, TellsAtEnd, TellsUnexpected, TellsTooLarge, ReadsPieces}
 use Rattle.component_text.proofs.Components.{good_context_body}
-use Rattle.component_text.proofs.Utf8.{all_behind}
 use Rattle.component_text.proofs.Unique.{OneFormula, context_unique}
 
 -- a fault that is told, and that it is the first

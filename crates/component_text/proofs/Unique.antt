@@ -1,5 +1,5 @@
 -- What stands within the limits is read in one way.
-use Rattle.std.proofs.Common.{◌≡◌, ◌∙◌, ap, ℕ, List, [], ◌∷◌, ◌++◌, Bool, true, false, Some, refl, sym, subst}
+use Rattle.std.proofs.Common.{◌≡◌, ◌∙◌, ap, ℕ, List, [], ◌∷◌, Bool, true, false, Some, refl, sym, subst}
 use Rattle.std.specs.Prelude.{Option, codes}
 use Rattle.formula_core.specs.declared.raw.Raw.{Raw}
 use Rattle.math_grammar.specs.declared.holes.Hole.{Hole}
@@ -9,9 +9,9 @@ use Rattle.math_grammar.specs.Grammar.{Spells}
 use Rattle.model_core.specs.declared.component.RawComponent.{RawComponent}
 use Rattle.component_text.specs.Marks.{Mark, word, is_word, is_at}
 use Rattle.component_text.specs.Forms.{Bounds, limits, One, Run, Nothing, Then, Choice, taken, other, Many, no_more, one_more, Of}
-use Rattle.component_text.specs.Grammar.{IsFormula, reference, is_reference, label_at, Names, SomeNames, labelled, Labelled, Line, begins_line, Lines, NamesBehind, SomeNamesBehind, LinesBehind, context_of, ContextBody, Headed, IsContext}
+use Rattle.component_text.specs.Grammar.{IsFormula, reference, is_reference, label_at, Names, SomeNames, labelled, Labelled, Line, begins_line, Lines, NamesBehind, SomeNamesBehind, LinesBehind, context_of, ContextBody, IsContext}
 use Rattle.component_text.proofs.Parts.{Good, same_start_self, good_one}
-use Rattle.component_text.proofs.Components.{good_names, good_line, good_extends, good_sets, good_constants, good_context_body}
+use Rattle.component_text.proofs.Components.{good_line, good_extends, good_sets, good_constants}
 
 -- one value where the part is read twice
 abbrev pub Unique : {X : Type 0} → (Bounds → List Mark → X → List Mark → Type 0) → Type 0

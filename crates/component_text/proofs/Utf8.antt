@@ -1,5 +1,5 @@
 -- The bytes of a token are text.
-use Rattle.std.proofs.Common.{◌≡◌, ◌∙◌, ap, ℕ, zero, suc, ◌+◌, ◌-◌, ◌<◌, ◌≤◌, ◌==◌, min, List, [], ◌∷◌, ◌++◌, Bool, true, false, ◌&&◌, cond, length, take, drop, map, Some, None, Ok, refl, sym, subst, arith, inl, inr, bytes_eq}
+use Rattle.std.proofs.Common.{◌≡◌, ◌∙◌, ap, ℕ, zero, suc, ◌+◌, ◌-◌, ◌<◌, ◌≤◌, ◌==◌, List, [], ◌∷◌, ◌++◌, Bool, true, false, cond, take, drop, Some, refl, sym, subst, arith, inl, inr, bytes_eq}
 use Rattle.std.specs.Prelude.{Option}
 use Rattle.std.specs.List.{list_all, prefix_len}
 use Rattle.std.specs.Str.{IsAscii, IsUtf8, is_utf8, chars}
@@ -14,11 +14,10 @@ use Rattle.math_tokens.specs.declared.lexemes.Lexeme.{Lexeme}
 use Rattle.math_tokens.specs.declared.cutting.Token.{Token}
 use Rattle.math_tokens.specs.SignForms.{sign_forms}
 use Rattle.math_tokens.specs.Lexemes.{Forms, sign_in, is_digit, is_word, is_digits, IsLexeme, a_sign, a_word, a_primed, a_number}
-use Rattle.math_tokens.specs.Texts.{IsTokenAt}
 use Rattle.math_grammar.specs.Tokens.{bytes_of}
 use Rattle.component_tokens.specs.declared.piece.CutFault.{CutFault}
 use Rattle.component_tokens.specs.declared.piece.Piece.TheVariants as piece
-use Rattle.component_tokens.specs.Pieces.{at_sign, label_run, label_length, label_token, IsLabelOrToken, IsPieceAt, Cut, at_end, over_gap, past_token, at_fault}
+use Rattle.component_tokens.specs.Pieces.{at_sign, label_run, label_length, IsPieceAt, Cut, at_end, over_gap, past_token, at_fault}
 use Rattle.std.specs.Prelude.{slice_get}
 use Rattle.std.specs.List.{AllByRecursion}
 use Rattle.formula_core.specs.Texts.{begins_with}

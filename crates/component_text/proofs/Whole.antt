@@ -1,14 +1,15 @@
 -- Components: a word, a body, `end`, and nothing behind it.
-use Rattle.std.proofs.Common.{◌≡◌, ◌∙◌, ap, ℕ, List, [], ◌∷◌, ◌++◌, Bool, true, false, refl, sym, subst, append_assoc, append-nil, bytes_eq}
+use Rattle.std.proofs.Common.{◌≡◌, ◌∙◌, ap, ℕ, List, [], ◌∷◌, ◌++◌, true, false, refl, sym, subst, append_assoc, append-nil, bytes_eq}
 use Rattle.std.specs.Prelude.{codes}
 use Rattle.std.proofs.lemmas.Slice.Eq.{bytes_eq-Decides}
 use Rattle.model_core.specs.declared.component.RawComponent.{RawComponent}
 use Rattle.component_text.specs.Marks.{Mark, word, label, plain, is_word, is_at}
 use Rattle.component_text.specs.Forms.{Bounds, limits, parts, none}
 use Rattle.component_text.specs.Grammar.{Headed}
-use Rattle.component_text.specs.Faults.{HasContinuation, NoneGoesOn, IsUnexpectedAt, IsTooLargeAt, IsLargeAt}
-use Rattle.component_text.specs.Reading.{end_mark, Begins, NoneHas, Refuses, Passes}
-use Rattle.component_text.proofs.Parts.{SameStart, both_end, same_first, MayFollow, same, closing, Good, same_start_self}
+use Rattle.component_text.specs.Faults.{HasContinuation, NoneGoesOn, IsUnexpectedAt, IsTooLargeAt}
+use Rattle.component_text.specs.Reading.{end_mark, Begins, NoneHas, Refuses, Passes, behind_word, no_formula}
+use Rattle.component_text.proofs.Placed.{placed_small, placed_behind, placed_after, no_label_word, no_label_none, no_label_both, Leaves}
+use Rattle.component_text.proofs.Parts.{both_end, same_first, same, closing, Good, same_start_self}
 use Rattle.component_text.proofs.Refusing.{larger}
 
 -- a mark that is the word
@@ -44,6 +45,7 @@ module _ (w : List ℕ) (Body : Bounds → List Mark → RawComponent → List M
     is = e ∙ ap (λ t. word w p ∷ t) h.is;
     begins = begun p h.before h.begins;
     nowhere = nowhere_in_body p h.before rest h.nowhere;
+    small = placed_small (word w p ∷ h.before) rest (placed_behind (word w p ∷ []) h.before rest (λ _. no_label_word w p) h.placed);
   }
 
   pub body_too_large : (s m rest : List Mark) (p : ℕ) → s ≡ word w p ∷ m → Passes Body m rest → IsTooLargeAt Whole s rest
@@ -71,6 +73,7 @@ module _ (w : List ℕ) (Body : Bounds → List Mark → RawComponent → List M
     is = refl;
     begins = (word w 0 ∷ (h.more ++ end_mark ∷ []), h.value, record { place = 0; behind = h.more ++ end_mark ∷ []; rest = end_mark ∷ []; head = refl; body = h.goes_on []; end_place = 0; end = refl });
     nowhere = no_head s e;
+    small = placed_small [] s (no_formula no_label_none);
   }
 
   -- what is refused is no component
@@ -108,8 +111,8 @@ module _ (w : List ℕ) (Body : Bounds → List Mark → RawComponent → List M
         let does : is_word (codes "end") y ≡ true = ap (is_word (codes "end")) y_is in
         cc
 
-    pub after_body : (s m k : List Mark) (p : ℕ) (c : RawComponent) → s ≡ word w p ∷ m → Body limits m c k → is_at (is_word (codes "end")) k ≡ false → IsUnexpectedAt Whole s k
-    after_body s m k p c e h isnt =
+    pub after_body : Leaves Body → (s m k : List Mark) (p : ℕ) (c : RawComponent) → s ≡ word w p ∷ m → Body limits m c k → is_at (is_word (codes "end")) k ≡ false → IsUnexpectedAt Whole s k
+    after_body leaves s m k p c e h isnt =
         let front = good.split limits m c k h in
         let there : Body limits (front.0 ++ k) c k = subst (λ t. Body limits t c k) front.1 h in
         record {
@@ -129,6 +132,8 @@ module _ (w : List ℕ) (Body : Bounds → List Mark → RawComponent → List M
             },
           );
           nowhere = no_end front.0 k p c there isnt;
+          small = placed_small (word w p ∷ front.0) k
+              (placed_after (word w p ∷ front.0) k (λ d. no_label_both (word w p ∷ []) front.0 (no_label_word w p) (leaves.no_label limits front.0 k c there d)));
         }
 
     -- something stands behind `end`
@@ -154,6 +159,7 @@ module _ (w : List ℕ) (Body : Bounds → List Mark → RawComponent → List M
               end = refl;
             },
           );
+          small = placed_small (word w p ∷ (front.0 ++ last ∷ [])) (y ∷ t) (no_formula (behind_word (word w p ∷ front.0) (codes "end") q [] refl));
           nowhere = λ more d g.
               let n : List Mark = (front.0 ++ last ∷ []) ++ y ∷ more in
               let tail : g.behind ≡ n = (let f = g.head in cc) in

@@ -12,7 +12,7 @@ use Rattle.math_parse.specs.Limits.{most_parts, IsSentence}
 use Rattle.model_core.specs.declared.component.RawLabelled.{RawLabelled}
 use Rattle.model_core.specs.declared.component.RawComponent.{RawComponent}
 use Rattle.model_core.specs.declared.component.RawComponent.TheVariants.{Context}
-use Rattle.component_text.specs.Marks.{Mark, word, label, plain, is_word, is_at}
+use Rattle.component_text.specs.Marks.{Mark, word, label, plain, is_word}
 use Rattle.component_text.specs.Forms.{Bounds, limits, parts, none, One, Run, Nothing, Then, Choice, Many, Of}
 
 abbrev pub IsFormula : Hole → Bounds → List Item → Raw → Type 0

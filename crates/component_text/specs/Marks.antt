@@ -1,5 +1,5 @@
 -- The tokens of a component's text as its grammar sees them.
-use Rattle.std.specs.Prelude.{ℕ, Bool, true, false, ◌||◌, List, [], ◌∷◌, map, drop, bytes_eq, codes, if◌then◌else◌}
+use Rattle.std.specs.Prelude.{ℕ, Bool, false, List, [], ◌∷◌, map, drop, bytes_eq, if◌then◌else◌}
 use Rattle.std.specs.List.{list_any}
 use Rattle.formula_core.specs.Texts.{begins_with}
 use Rattle.math_tokens.specs.declared.cutting.Token.{Token}

@@ -1,13 +1,15 @@
 -- What the calls that read parts leave. Private contracts alone cite this.
-use Rattle.std.specs.Prelude.{◌≡◌, ℕ, Bool, true, false, List, [], ◌∷◌, ◌++◌, drop, map, Option, Some, None, Result, Ok, Err, codes, ◌⊎◌}
+use Rattle.std.specs.Prelude.{◌≡◌, ℕ, Bool, true, false, List, [], ◌∷◌, ◌++◌, length, drop, map, Option, Some, None, Result, Ok, Err, codes, ◌⊎◌}
 use Rattle.formula_core.specs.declared.raw.Raw.{Raw}
 use Rattle.formula_core.specs.declared.raw.Ref.{Ref}
 use Rattle.math_grammar.specs.declared.holes.Hole.{Hole}
+use Rattle.math_grammar.specs.declared.holes.Hole.TheVariants as hole
+use Rattle.math_grammar.specs.Tokens.{Item}
 use Rattle.math_parse.specs.declared.fault.ParseFault.TheVariants as fault
-use Rattle.math_parse.specs.Limits.{IsFault, IsSentence}
+use Rattle.math_parse.specs.Limits.{IsFault, IsSentence, IsTooLarge}
 use Rattle.component_text.specs.declared.stop.Stop.{Stop}
 use Rattle.component_text.specs.declared.stop.Stop.TheVariants as stop
-use Rattle.component_text.specs.Marks.{Mark, word, plain, run, behind_run, is_word, is_at}
+use Rattle.component_text.specs.Marks.{Mark, word, label, plain, run, behind_run, is_word, is_at}
 use Rattle.component_text.specs.Forms.{Bounds, limits, parts, none, One, Run}
 use Rattle.component_text.specs.Grammar.{IsFormula, Names}
 use Rattle.component_text.specs.Faults.{IsLargeAt, IsUnexpectedAt, IsTooLargeAt}
@@ -26,11 +28,29 @@ abbrev pub NoneHas : {X : Type 0} → (Bounds → List Mark → X → List Mark 
 NoneHas {X} P before [] = (x : X) (r : List Mark) → P none before x r → ⊥
 NoneHas {X} P before (y ∷ rest) = (more : List Mark) (x : X) (r : List Mark) → P none (before ++ y ∷ more) x r → ⊥
 
+abbrev pub is_plain : Mark → Bool
+is_plain (plain x) = true
+is_plain (word w p) = false
+is_plain (label l p) = false
+
+-- no label stands behind the last structural word
+pub data NoLabel (s : List Mark) : Type 0 where
+  behind_word : (lead : List Mark) (w : List ℕ) (p : ℕ) (names : List Item) → s ≡ lead ++ (word w p ∷ map plain names) → NoLabel s
+  all_plain : (names : List Item) → s ≡ map plain names → NoLabel s
+
+-- why the first of `rest` passes no limit: it is no token of a formula, stands in no formula, or in one within its limits
+pub data Placed (before rest : List Mark) : Type 0 where
+  not_plain : is_at is_plain rest ≡ false → Placed before rest
+  no_formula : NoLabel before → Placed before rest
+  in_formula : (lead : List Mark) (l : List ℕ) (p : ℕ) (formula : List Item) (y : Item) (later : List Mark) →
+      before ≡ lead ++ (label l p ∷ map plain formula) → rest ≡ plain y ∷ later → (IsTooLarge hole.Predicate (formula ++ y ∷ []) (length formula) → ⊥) → Placed before rest
+
 pub record Refuses {X : Type 0} (P : Bounds → List Mark → X → List Mark → Type 0) (old rest : List Mark) : Type 0 where
   pub before : List Mark
   pub is : old ≡ before ++ rest
   pub begins : Begins P before
   pub nowhere : NoneHas P before rest
+  pub placed : Placed before rest
   pub wrong : (x : X) (r : List Mark) → P limits old x r → ⊥
 
 pub record Passes {X : Type 0} (P : Bounds → List Mark → X → List Mark → Type 0) (old rest : List Mark) : Type 0 where

@@ -1,5 +1,5 @@
 -- Names and labels by their bytes. Private contracts alone cite this.
-use Rattle.std.specs.Prelude.{◌≡◌, ℕ, Bool, true, false, not, ◌||◌, ◌&&◌, bytes_eq, List, [], ◌∷◌, drop, Option, Some, None}
+use Rattle.std.specs.Prelude.{◌≡◌, ℕ, Bool, true, false, not, ◌||◌, ◌&&◌, bytes_eq, List, drop, Option, Some, None}
 use Rattle.std.specs.List.{prefix_len}
 use Rattle.formula_core.specs.Names.{is_identifier}
 use Rattle.formula_core.specs.Texts.{is_label, begins_with}

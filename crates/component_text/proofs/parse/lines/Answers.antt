@@ -1,4 +1,4 @@
-use Rattle.std.proofs.Common.{◌≡◌, ◌∙◌, sym}
+use Rattle.std.proofs.Common.{sym}
 use Rattle.component_text.specs.Grammar.{Lines}
 use Rattle.component_text.specs.Forms.{limits}
 use Rattle.component_text.proofs.Components.{exit_with, lines_more, lines_done, lines_stop, lines_later, lines_later_passes, line_takes}

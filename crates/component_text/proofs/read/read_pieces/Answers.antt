@@ -1,4 +1,4 @@
-use Rattle.std.proofs.Common.{◌≡◌, ◌∙◌, ◌<◌, ap, sym, subst, length, arith, Some, None}
+use Rattle.std.proofs.Common.{◌≡◌, ◌∙◌, ap, sym, subst, Some, None}
 use Rattle.std.specs.List.{AllByRecursion}
 use Rattle.component_text.specs.Marks.{marks_of}
 use Rattle.component_text.specs.Forms.{limits}

@@ -1,4 +1,4 @@
-use Rattle.std.proofs.Common.{◌≡◌, ◌∙◌, ap, sym}
+use Rattle.std.proofs.Common.{◌∙◌, ap, sym}
 use Rattle.math_grammar.specs.Tokens.{item_of, bytes_of}
 use Rattle.component_text.specs.Marks.{is_word, is_at}
 use Rattle.component_text.specs.Texts.{is_word_text}

@@ -1,4 +1,3 @@
-use Rattle.std.proofs.Common.{◌≡◌, ◌∙◌, ap, sym}
 use Rattle.math_grammar.specs.declared.holes.Hole.TheVariants as hole
 use Rattle.component_text.proofs.Marks.{formula_read, formula_unexpected, formula_too_large}
 use Rattle.component_text.proofs.cursor.Cursor.predicate.Goals as goal

@@ -1,4 +1,4 @@
-use Rattle.std.proofs.Common.{◌≡◌, ◌∙◌, ap, sym}
+use Rattle.std.proofs.Common.{◌∙◌, ap, sym}
 use Rattle.component_text.specs.Marks.{is_word, is_at}
 use Rattle.component_text.proofs.Marks.{took_one}
 use Rattle.component_text.proofs.cursor.Cursor.take_word.Goals as goal
