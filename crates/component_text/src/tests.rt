@@ -3,7 +3,6 @@ use component_tokens::{Position, position_of};
 use formula_core::Name;
 use model_core::{Fault, RawComponent};
 use std::alloc::Global;
-use std::test::Fail;
 
 /// Texts of the context c0 with the kind, line, column and words of their first fault.
 const FAULTS: [(&str, u8, usize, usize, &str); 61] = [
@@ -133,33 +132,37 @@ fn is_fault(text: &str, fault: &Fault, kind: u8, line: usize, column: usize, wor
         && fault.component.as_text() == "c0"
 }
 
-/// What the text of c0 is read as, none where memory runs out.
-fn told(alloc: Global, text: &str) -> Option<Result<RawComponent, Fault>> {
+/// Reads the text of c0.
+fn read_c0(alloc: Global, text: &str) -> Result<RawComponent, ReadFault> {
     if text.len() > 10_000 {
-        return None;
+        return Err(ReadFault::OutOfMemory);
     }
-    let Ok(name) = Name::read(alloc, "c0") else {
-        return None;
-    };
-    match read_context(alloc, &name, text) {
-        Ok(component) => Some(Ok(component)),
-        Err(ReadFault::Fault(fault)) => Some(Err(fault)),
-        Err(ReadFault::OutOfMemory) => None,
+    match Name::read(alloc, "c0") {
+        Ok(name) => read_context(alloc, &name, text),
+        Err(_) => Err(ReadFault::OutOfMemory),
+    }
+}
+
+fn is_faulted(
+    alloc: Global,
+    text: &str,
+    kind: u8,
+    line: usize,
+    column: usize,
+    words: &str,
+) -> bool {
+    match read_c0(alloc, text) {
+        Ok(_) => false,
+        Err(ReadFault::Fault(fault)) => is_fault(text, &fault, kind, line, column, words),
+        Err(ReadFault::OutOfMemory) => false,
     }
 }
 
 #[test]
 fn the_first_fault_counts(rt: HostRuntime) {
     for (text, kind, line, column, words) in &FAULTS {
-        match told(rt.alloc(), text) {
-            Some(Err(fault)) => {
-                assert!(rt;
-                    is_fault(text, &fault, *kind, *line, *column, words),
-                    "{text}: {kind} {line}:{column}"
-                );
-            }
-            _ => assert!(rt; false, "{text}"),
-        }
+        let told = is_faulted(rt.alloc(), text, *kind, *line, *column, words);
+        assert!(rt; told, "{text}: {kind} {line}:{column}");
     }
 }
 
@@ -207,15 +210,18 @@ fn counted(component: &RawComponent) -> Option<[usize; 4]> {
     }
 }
 
+fn is_read(alloc: Global, text: &str, counts: &[usize; 4]) -> bool {
+    match read_c0(alloc, text) {
+        Ok(component) => counted(&component) == Some(*counts),
+        Err(_) => false,
+    }
+}
+
 #[test]
 fn contexts_are_read(rt: HostRuntime) {
     for (text, counts) in &READ {
-        match told(rt.alloc(), text) {
-            Some(Ok(component)) => {
-                assert!(rt; counted(&component) == Some(*counts), "{text}");
-            }
-            _ => assert!(rt; false, "{text}"),
-        }
+        let read = is_read(rt.alloc(), text, counts);
+        assert!(rt; read, "{text}");
     }
 }
 
@@ -238,16 +244,21 @@ fn axiom_is(
     }
 }
 
+fn has_its_axioms(alloc: Global, text: &str) -> bool {
+    match read_c0(alloc, text) {
+        Ok(component) => {
+            axiom_is(&component, 0, "x", false, 18)
+                && axiom_is(&component, 1, "y", true, 37)
+                && component.heading().name.as_text() == "c0"
+                && component.heading().place == 8
+        }
+        Err(_) => false,
+    }
+}
+
 #[test]
 fn axioms_have_labels_marks_and_places(rt: HostRuntime) {
     let text = "context c0 axioms @x a ∈ S theorem @y b = 1 end";
-    match told(rt.alloc(), text) {
-        Some(Ok(component)) => {
-            assert!(rt; axiom_is(&component, 0, "x", false, 18));
-            assert!(rt; axiom_is(&component, 1, "y", true, 37));
-            assert!(rt; component.heading().name.as_text() == "c0");
-            assert!(rt; component.heading().place == 8);
-        }
-        _ => assert!(rt; false),
-    }
+    let read = has_its_axioms(rt.alloc(), text);
+    assert!(rt; read);
 }
