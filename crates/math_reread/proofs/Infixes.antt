@@ -1,0 +1,245 @@
+-- The operators between two operands that are printed with a sign, and what they read.
+use Rattle.std.proofs.Common.{◌≡◌, ◌∙◌, sym as back, ap, subst, refl, ℕ, Bool, true, false, ◌&&◌, List, [], ◌∷◌, ◌++◌, nat_le, nat_lt, Some, None}
+use Rattle.std.specs.Prelude.{not}
+use Rattle.formula_core.specs.declared.ty.Ty.{Ty}
+use Rattle.formula_core.specs.declared.op.Op.{Op}
+use Rattle.formula_core.specs.declared.op.Op.TheVariants as op
+use Rattle.formula_core.specs.declared.row.Row.TheVariants as row
+use Rattle.formula_core.specs.declared.row.BinaryRow.{BinaryRow}
+use Rattle.formula_core.specs.declared.row.BinaryRow.TheVariants as binary
+use Rattle.formula_core.specs.declared.formula.Formula.{Formula, out-Formula}
+use Rattle.formula_core.specs.declared.raw.RawOp.TheVariants as rawop
+use Rattle.formula_core.specs.declared.raw.Raw.{Raw}
+use Rattle.formula_core.specs.declared.raw.Raw.TheVariants as raw
+use Rattle.formula_core.specs.Rows.{row_of}
+use Rattle.formula_core.specs.Schemes.{Scheme, truth, power, pair, binary_scheme}
+use Rattle.formula_core.specs.Types.{is_value_type}
+use Rattle.formula_core.specs.Wellness.{type_of}
+use Rattle.math_grammar.specs.declared.holes.Grade.{Grade}
+use Rattle.math_grammar.specs.declared.holes.Grade.TheVariants as grade
+use Rattle.math_grammar.specs.declared.levels.Level.{Level as Sort}
+use Rattle.math_grammar.specs.declared.levels.Level.TheVariants as sort
+use Rattle.math_grammar.specs.Levels.{rank, level, right_of, left_of, agrees, takes_left, least, most, fits, grouped, infix_of}
+use Rattle.math_grammar.specs.Tokens.{Item}
+use Rattle.math_grammar.specs.Grammar.{place_of, between, Reads}
+use Rattle.math_print.specs.declared.levels.Side.{Side}
+use Rattle.math_print.specs.declared.levels.Side.TheVariants as side
+use Rattle.math_print.specs.Levels.{level_of, formula_level, is_relation, is_same_connective, is_enclosed, goes_on as goes_on_left, needs_parentheses}
+use Rattle.math_print.specs.Signs.{sign_of}
+use Rattle.math_print.specs.Written.{written, denied, operator_raw}
+use Rattle.math_reread.specs.Items.{symbol_of, sign_token, operand_items, operator_items, Part, items}
+use Rattle.math_reread.specs.Grades.{operator_grade, grade_of}
+use Rattle.math_reread.proofs.Tables.{top, ends, le_through, quieter, least_value, quiet, left_value, right_value, sign_rank, value_at, left_is_tight, right_is_tight, left_is_quiet, right_is_quiet, goes_on_chained}
+use Rattle.math_reread.proofs.Readings.{Whole, round_grade, rounded, infix_form}
+
+-- How the tokens of a formula are read, as it stands and denied.
+pub record IsRead (names : List (List ℕ)) (d : ℕ) (f : Formula) : Type 0 where
+  pub sorted : nat_lt 3 (rank (grade_of f)) ≡ is_value_type (type_of f)
+  pub starts : place_of (written names f d) ≡ 0
+  pub plain : Whole (quiet (formula_level f)) (grade_of f) (items names f false d) (written names f d)
+  pub denied_too : is_value_type (type_of f) ≡ false → Whole 2 grade.Literal (items names f true d) (denied (written names f d))
+
+-- a scheme without the sort of predicates is a type of values
+abbrev pub is_of_values : Scheme → Bool
+is_of_values truth = false
+is_of_values (power s) = is_of_values s
+is_of_values (pair s u) = is_of_values s && is_of_values u
+is_of_values _ = true
+
+pub both_true : (a b : Bool) → a ≡ true → b ≡ true → (a && b) ≡ true
+both_true true b h k = k
+both_true false b h k = cc
+
+pub grouped_value : (g : Grade) → nat_lt 3 (rank g) ≡ true → grouped g ≡ grade.Primary
+grouped_value grade.Implication h = cc
+grouped_value grade.Conjunction h = cc
+grouped_value grade.Disjunction h = cc
+grouped_value grade.Literal h = cc
+grouped_value _ h = refl
+
+pub grouped_predicate : (g : Grade) → nat_lt 3 (rank g) ≡ false → grouped g ≡ grade.Literal
+grouped_predicate grade.Implication h = refl
+grouped_predicate grade.Conjunction h = refl
+grouped_predicate grade.Disjunction h = refl
+grouped_predicate grade.Literal h = refl
+grouped_predicate _ h = cc
+
+pub rank_most : (g : Grade) → nat_le (rank g) 16 ≡ true
+rank_most grade.Name = refl
+rank_most _ = refl
+
+-- an operator on values, with its sign between them
+pub record IsInfix (o : Op) : Type 0 where
+  pub l : Sort
+  pub r : BinaryRow
+  pub its_row : row_of o ≡ row.Binary r
+  pub first : is_of_values (binary_scheme r).0 ≡ true
+  pub second : is_of_values (binary_scheme r).1 ≡ true
+  pub result : is_of_values (binary_scheme r).2 ≡ true
+  pub of_value : nat_lt 3 (rank (operator_grade o)) ≡ true
+  pub graded : (g : Grade) → level l g ≡ operator_grade o
+  pub sign : infix_of (symbol_of o) ≡ Some (l, rawop.Plain o)
+  pub agreeing : (g : Grade) → agrees l g ≡ true
+  pub left : nat_le (left_of l) (left_value (level_of o)) ≡ true
+  pub left_grouped : nat_le (left_of l) 15 ≡ true
+  pub right : nat_le (least (right_of l)) (right_value (level_of o)) ≡ true
+  pub right_grouped : nat_le (least (right_of l)) 15 ≡ true
+  pub all : most (right_of l) ≡ 16
+  pub calm : nat_lt (quiet (level_of o)) (least (right_of l)) ≡ true
+  pub reached : nat_le (top (symbol_of o)) (sign_rank (level_of o)) ≡ true
+  pub unrelated : is_relation (level_of o) ≡ false
+  pub alone : (left : Op) → is_same_connective o left ≡ false
+  pub tokens : (a b : Part) (t : Ty) (d : ℕ) → operator_items o (sign_token o) (a ∷ b ∷ []) t d ≡ operand_items o side.Left a d ++ (sign_token o ∷ operand_items o side.Right b d)
+  pub tree : (a b : Raw) (t : Ty) → operator_raw o (a ∷ b ∷ []) t ≡ raw.Node (rawop.Plain o) (a ∷ b ∷ []) 0
+
+module _ (names : List (List ℕ)) (d : ℕ) (o : Op) (i : IsInfix o) where
+  abbrev enclosed : Side → Formula → Bool
+  enclosed s a = is_enclosed (level_of o) (formula_level a) (goes_on_left o s a)
+
+  needed : (s : Side) (a : Formula) → needs_parentheses o s a ≡ enclosed s a
+  needed s a = ap (λ b. not b && enclosed s a) i.unrelated
+
+  left_takes : (a : Formula) → nat_lt 3 (rank (grade_of a)) ≡ true → (b : Bool) → enclosed side.Left a ≡ b → takes_left i.l (round_grade b (grade_of a)) ≡ true
+  left_takes a v true e = ap (takes_left i.l) (grouped_value (grade_of a) v) ∙ both_true _ _ i.left_grouped (i.agreeing grade.Primary)
+  left_takes a v false e =
+      both_true _ _
+      (le_through (left_of i.l) (left_value (level_of o)) (rank (grade_of a)) i.left
+      (le_through (left_value (level_of o)) (least_value (formula_level a)) (rank (grade_of a))
+      (left_is_tight (level_of o) (formula_level a) (goes_on_left o side.Left a) (goes_on_chained o side.Left a i.alone) e) (value_at (out-Formula a) v)))
+      (i.agreeing (grade_of a))
+
+  right_fits : (a : Formula) → nat_lt 3 (rank (grade_of a)) ≡ true → (b : Bool) → enclosed side.Right a ≡ b → fits (right_of i.l) (round_grade b (grade_of a)) ≡ true
+  right_fits a v true e = ap (fits (right_of i.l)) (grouped_value (grade_of a) v) ∙ both_true _ _ i.right_grouped (ap (nat_le 15) i.all)
+  right_fits a v false e =
+      both_true _ _
+      (le_through (least (right_of i.l)) (right_value (level_of o)) (rank (grade_of a)) i.right
+      (le_through (right_value (level_of o)) (least_value (formula_level a)) (rank (grade_of a)) (right_is_tight (level_of o) (formula_level a) e) (value_at (out-Formula a) v)))
+      (ap (nat_le (rank (grade_of a))) i.all ∙ rank_most (grade_of a))
+
+  abbrev left_items : Formula → List Item
+  left_items a = operand_items o side.Left (a, items names a) d
+
+  abbrev right_items : Formula → List Item
+  right_items a = operand_items o side.Right (a, items names a) d
+
+  pub infix_reads : (a b : Formula) (t : Ty) → IsRead names d a → IsRead names d b → is_value_type (type_of a) ≡ true → is_value_type (type_of b) ≡ true
+      → Whole (quiet (level_of o)) (operator_grade o) (operator_items o (sign_token o) ((a, items names a) ∷ (b, items names b) ∷ []) t d) (operator_raw o (written names a d ∷ written names b d ∷ []) t)
+  infix_reads a b t ra rb va vb rest q =
+      let na : Bool = needs_parentheses o side.Left a in
+      let nb : Bool = needs_parentheses o side.Right b in
+      let ga : Grade = round_grade na (grade_of a) in
+      let gb : Grade = round_grade nb (grade_of b) in
+      let after : List Item = sign_token o ∷ (right_items b ++ rest) in
+      let first : Reads None ga (left_items a ++ after) (written names a d) after
+      = rounded na (quiet (formula_level a)) (grade_of a) (items names a false d) (written names a d) ra.plain after (λ e.
+          le_through (top (symbol_of o)) (sign_rank (level_of o)) (quiet (formula_level a)) i.reached
+          (left_is_quiet (level_of o) (formula_level a) (goes_on_left o side.Left a) (back (needed side.Left a) ∙ e))) in
+      let second : Reads None gb (right_items b ++ rest) (written names b d) rest
+      = rounded nb (quiet (formula_level b)) (grade_of b) (items names b false d) (written names b d) rb.plain rest (λ e.
+          quieter (quiet (level_of o)) (quiet (formula_level b)) rest (right_is_quiet (level_of o) (formula_level b) (back (needed side.Right b) ∙ e)) q) in
+      let whole : Reads None (level i.l ga) ((left_items a ++ (sign_token o ∷ right_items b)) ++ rest) (between (rawop.Plain o) (written names a d) (written names b d)) rest
+      = infix_form i.l (rawop.Plain o) (symbol_of o) (sign_of o) ga gb (left_items a) (right_items b) rest (written names a d) (written names b d) i.sign
+        (left_takes a (ra.sorted ∙ va) na (back (needed side.Left a))) (right_fits b (rb.sorted ∙ vb) nb (back (needed side.Right b)))
+        (ends (right_of i.l) gb (quiet (level_of o)) rest i.calm q) first second in
+      let tree : between (rawop.Plain o) (written names a d) (written names b d) ≡ operator_raw o (written names a d ∷ written names b d ∷ []) t
+      = ap (raw.Node (rawop.Plain o) (written names a d ∷ written names b d ∷ [])) ra.starts ∙ back (i.tree (written names a d) (written names b d) t) in
+      let P : Grade → List Item → Raw → Type 0 = λ g s r. Reads None g (s ++ rest) r rest in
+      let one : P (operator_grade o) (left_items a ++ (sign_token o ∷ right_items b)) (between (rawop.Plain o) (written names a d) (written names b d))
+      = subst (λ g. P g (left_items a ++ (sign_token o ∷ right_items b)) (between (rawop.Plain o) (written names a d) (written names b d))) (i.graded ga) whole in
+      let two : P (operator_grade o) (left_items a ++ (sign_token o ∷ right_items b)) (operator_raw o (written names a d ∷ written names b d ∷ []) t)
+      = subst (λ r. P (operator_grade o) (left_items a ++ (sign_token o ∷ right_items b)) r) tree one in
+      subst (λ s. P (operator_grade o) s (operator_raw o (written names a d ∷ written names b d ∷ []) t)) (back (i.tokens (a, items names a) (b, items names b) t d)) two
+
+pub infix-Maplet : IsInfix op.Maplet
+infix-Maplet = record { l = sort.Maplet; r = binary.Maplet; its_row = refl; first = refl; second = refl; result = refl; of_value = refl; graded = λ g. refl; sign = refl; agreeing = λ g. refl; left = refl; left_grouped = refl; right = refl; right_grouped = refl; all = refl; calm = refl; reached = refl; unrelated = refl; alone = λ left. refl; tokens = λ a b t d. refl; tree = λ a b t. refl }
+
+pub infix-Relations : IsInfix op.Relations
+infix-Relations = record { l = sort.Arrow; r = binary.RelationSet; its_row = refl; first = refl; second = refl; result = refl; of_value = refl; graded = λ g. refl; sign = refl; agreeing = λ g. refl; left = refl; left_grouped = refl; right = refl; right_grouped = refl; all = refl; calm = refl; reached = refl; unrelated = refl; alone = λ left. refl; tokens = λ a b t d. refl; tree = λ a b t. refl }
+
+pub infix-TotalRelations : IsInfix op.TotalRelations
+infix-TotalRelations = record { l = sort.Arrow; r = binary.RelationSet; its_row = refl; first = refl; second = refl; result = refl; of_value = refl; graded = λ g. refl; sign = refl; agreeing = λ g. refl; left = refl; left_grouped = refl; right = refl; right_grouped = refl; all = refl; calm = refl; reached = refl; unrelated = refl; alone = λ left. refl; tokens = λ a b t d. refl; tree = λ a b t. refl }
+
+pub infix-SurjectiveRelations : IsInfix op.SurjectiveRelations
+infix-SurjectiveRelations = record { l = sort.Arrow; r = binary.RelationSet; its_row = refl; first = refl; second = refl; result = refl; of_value = refl; graded = λ g. refl; sign = refl; agreeing = λ g. refl; left = refl; left_grouped = refl; right = refl; right_grouped = refl; all = refl; calm = refl; reached = refl; unrelated = refl; alone = λ left. refl; tokens = λ a b t d. refl; tree = λ a b t. refl }
+
+pub infix-TotalSurjectiveRelations : IsInfix op.TotalSurjectiveRelations
+infix-TotalSurjectiveRelations = record { l = sort.Arrow; r = binary.RelationSet; its_row = refl; first = refl; second = refl; result = refl; of_value = refl; graded = λ g. refl; sign = refl; agreeing = λ g. refl; left = refl; left_grouped = refl; right = refl; right_grouped = refl; all = refl; calm = refl; reached = refl; unrelated = refl; alone = λ left. refl; tokens = λ a b t d. refl; tree = λ a b t. refl }
+
+pub infix-PartialFunctions : IsInfix op.PartialFunctions
+infix-PartialFunctions = record { l = sort.Arrow; r = binary.RelationSet; its_row = refl; first = refl; second = refl; result = refl; of_value = refl; graded = λ g. refl; sign = refl; agreeing = λ g. refl; left = refl; left_grouped = refl; right = refl; right_grouped = refl; all = refl; calm = refl; reached = refl; unrelated = refl; alone = λ left. refl; tokens = λ a b t d. refl; tree = λ a b t. refl }
+
+pub infix-TotalFunctions : IsInfix op.TotalFunctions
+infix-TotalFunctions = record { l = sort.Arrow; r = binary.RelationSet; its_row = refl; first = refl; second = refl; result = refl; of_value = refl; graded = λ g. refl; sign = refl; agreeing = λ g. refl; left = refl; left_grouped = refl; right = refl; right_grouped = refl; all = refl; calm = refl; reached = refl; unrelated = refl; alone = λ left. refl; tokens = λ a b t d. refl; tree = λ a b t. refl }
+
+pub infix-PartialInjections : IsInfix op.PartialInjections
+infix-PartialInjections = record { l = sort.Arrow; r = binary.RelationSet; its_row = refl; first = refl; second = refl; result = refl; of_value = refl; graded = λ g. refl; sign = refl; agreeing = λ g. refl; left = refl; left_grouped = refl; right = refl; right_grouped = refl; all = refl; calm = refl; reached = refl; unrelated = refl; alone = λ left. refl; tokens = λ a b t d. refl; tree = λ a b t. refl }
+
+pub infix-TotalInjections : IsInfix op.TotalInjections
+infix-TotalInjections = record { l = sort.Arrow; r = binary.RelationSet; its_row = refl; first = refl; second = refl; result = refl; of_value = refl; graded = λ g. refl; sign = refl; agreeing = λ g. refl; left = refl; left_grouped = refl; right = refl; right_grouped = refl; all = refl; calm = refl; reached = refl; unrelated = refl; alone = λ left. refl; tokens = λ a b t d. refl; tree = λ a b t. refl }
+
+pub infix-PartialSurjections : IsInfix op.PartialSurjections
+infix-PartialSurjections = record { l = sort.Arrow; r = binary.RelationSet; its_row = refl; first = refl; second = refl; result = refl; of_value = refl; graded = λ g. refl; sign = refl; agreeing = λ g. refl; left = refl; left_grouped = refl; right = refl; right_grouped = refl; all = refl; calm = refl; reached = refl; unrelated = refl; alone = λ left. refl; tokens = λ a b t d. refl; tree = λ a b t. refl }
+
+pub infix-TotalSurjections : IsInfix op.TotalSurjections
+infix-TotalSurjections = record { l = sort.Arrow; r = binary.RelationSet; its_row = refl; first = refl; second = refl; result = refl; of_value = refl; graded = λ g. refl; sign = refl; agreeing = λ g. refl; left = refl; left_grouped = refl; right = refl; right_grouped = refl; all = refl; calm = refl; reached = refl; unrelated = refl; alone = λ left. refl; tokens = λ a b t d. refl; tree = λ a b t. refl }
+
+pub infix-Bijections : IsInfix op.Bijections
+infix-Bijections = record { l = sort.Arrow; r = binary.RelationSet; its_row = refl; first = refl; second = refl; result = refl; of_value = refl; graded = λ g. refl; sign = refl; agreeing = λ g. refl; left = refl; left_grouped = refl; right = refl; right_grouped = refl; all = refl; calm = refl; reached = refl; unrelated = refl; alone = λ left. refl; tokens = λ a b t d. refl; tree = λ a b t. refl }
+
+pub infix-Union : IsInfix op.Union
+infix-Union = record { l = sort.SetOperator; r = binary.SetOperation; its_row = refl; first = refl; second = refl; result = refl; of_value = refl; graded = λ g. refl; sign = refl; agreeing = λ g. refl; left = refl; left_grouped = refl; right = refl; right_grouped = refl; all = refl; calm = refl; reached = refl; unrelated = refl; alone = λ left. refl; tokens = λ a b t d. refl; tree = λ a b t. refl }
+
+pub infix-Intersection : IsInfix op.Intersection
+infix-Intersection = record { l = sort.SetOperator; r = binary.SetOperation; its_row = refl; first = refl; second = refl; result = refl; of_value = refl; graded = λ g. refl; sign = refl; agreeing = λ g. refl; left = refl; left_grouped = refl; right = refl; right_grouped = refl; all = refl; calm = refl; reached = refl; unrelated = refl; alone = λ left. refl; tokens = λ a b t d. refl; tree = λ a b t. refl }
+
+pub infix-Difference : IsInfix op.Difference
+infix-Difference = record { l = sort.SetOperator; r = binary.SetOperation; its_row = refl; first = refl; second = refl; result = refl; of_value = refl; graded = λ g. refl; sign = refl; agreeing = λ g. refl; left = refl; left_grouped = refl; right = refl; right_grouped = refl; all = refl; calm = refl; reached = refl; unrelated = refl; alone = λ left. refl; tokens = λ a b t d. refl; tree = λ a b t. refl }
+
+pub infix-Product : IsInfix op.Product
+infix-Product = record { l = sort.SetOperator; r = binary.Product; its_row = refl; first = refl; second = refl; result = refl; of_value = refl; graded = λ g. refl; sign = refl; agreeing = λ g. refl; left = refl; left_grouped = refl; right = refl; right_grouped = refl; all = refl; calm = refl; reached = refl; unrelated = refl; alone = λ left. refl; tokens = λ a b t d. refl; tree = λ a b t. refl }
+
+pub infix-DomainRestriction : IsInfix op.DomainRestriction
+infix-DomainRestriction = record { l = sort.SetOperator; r = binary.DomainFilter; its_row = refl; first = refl; second = refl; result = refl; of_value = refl; graded = λ g. refl; sign = refl; agreeing = λ g. refl; left = refl; left_grouped = refl; right = refl; right_grouped = refl; all = refl; calm = refl; reached = refl; unrelated = refl; alone = λ left. refl; tokens = λ a b t d. refl; tree = λ a b t. refl }
+
+pub infix-DomainSubtraction : IsInfix op.DomainSubtraction
+infix-DomainSubtraction = record { l = sort.SetOperator; r = binary.DomainFilter; its_row = refl; first = refl; second = refl; result = refl; of_value = refl; graded = λ g. refl; sign = refl; agreeing = λ g. refl; left = refl; left_grouped = refl; right = refl; right_grouped = refl; all = refl; calm = refl; reached = refl; unrelated = refl; alone = λ left. refl; tokens = λ a b t d. refl; tree = λ a b t. refl }
+
+pub infix-RangeRestriction : IsInfix op.RangeRestriction
+infix-RangeRestriction = record { l = sort.SetOperator; r = binary.RangeFilter; its_row = refl; first = refl; second = refl; result = refl; of_value = refl; graded = λ g. refl; sign = refl; agreeing = λ g. refl; left = refl; left_grouped = refl; right = refl; right_grouped = refl; all = refl; calm = refl; reached = refl; unrelated = refl; alone = λ left. refl; tokens = λ a b t d. refl; tree = λ a b t. refl }
+
+pub infix-RangeSubtraction : IsInfix op.RangeSubtraction
+infix-RangeSubtraction = record { l = sort.SetOperator; r = binary.RangeFilter; its_row = refl; first = refl; second = refl; result = refl; of_value = refl; graded = λ g. refl; sign = refl; agreeing = λ g. refl; left = refl; left_grouped = refl; right = refl; right_grouped = refl; all = refl; calm = refl; reached = refl; unrelated = refl; alone = λ left. refl; tokens = λ a b t d. refl; tree = λ a b t. refl }
+
+pub infix-Overriding : IsInfix op.Overriding
+infix-Overriding = record { l = sort.SetOperator; r = binary.Overriding; its_row = refl; first = refl; second = refl; result = refl; of_value = refl; graded = λ g. refl; sign = refl; agreeing = λ g. refl; left = refl; left_grouped = refl; right = refl; right_grouped = refl; all = refl; calm = refl; reached = refl; unrelated = refl; alone = λ left. refl; tokens = λ a b t d. refl; tree = λ a b t. refl }
+
+pub infix-Composition : IsInfix op.Composition
+infix-Composition = record { l = sort.SetOperator; r = binary.Composition; its_row = refl; first = refl; second = refl; result = refl; of_value = refl; graded = λ g. refl; sign = refl; agreeing = λ g. refl; left = refl; left_grouped = refl; right = refl; right_grouped = refl; all = refl; calm = refl; reached = refl; unrelated = refl; alone = λ left. refl; tokens = λ a b t d. refl; tree = λ a b t. refl }
+
+pub infix-ParallelProduct : IsInfix op.ParallelProduct
+infix-ParallelProduct = record { l = sort.SetOperator; r = binary.ParallelProduct; its_row = refl; first = refl; second = refl; result = refl; of_value = refl; graded = λ g. refl; sign = refl; agreeing = λ g. refl; left = refl; left_grouped = refl; right = refl; right_grouped = refl; all = refl; calm = refl; reached = refl; unrelated = refl; alone = λ left. refl; tokens = λ a b t d. refl; tree = λ a b t. refl }
+
+pub infix-DirectProduct : IsInfix op.DirectProduct
+infix-DirectProduct = record { l = sort.SetOperator; r = binary.DirectProduct; its_row = refl; first = refl; second = refl; result = refl; of_value = refl; graded = λ g. refl; sign = refl; agreeing = λ g. refl; left = refl; left_grouped = refl; right = refl; right_grouped = refl; all = refl; calm = refl; reached = refl; unrelated = refl; alone = λ left. refl; tokens = λ a b t d. refl; tree = λ a b t. refl }
+
+pub infix-Interval : IsInfix op.Interval
+infix-Interval = record { l = sort.Interval; r = binary.Interval; its_row = refl; first = refl; second = refl; result = refl; of_value = refl; graded = λ g. refl; sign = refl; agreeing = λ g. refl; left = refl; left_grouped = refl; right = refl; right_grouped = refl; all = refl; calm = refl; reached = refl; unrelated = refl; alone = λ left. refl; tokens = λ a b t d. refl; tree = λ a b t. refl }
+
+pub infix-Plus : IsInfix op.Plus
+infix-Plus = record { l = sort.Additive; r = binary.Arithmetic; its_row = refl; first = refl; second = refl; result = refl; of_value = refl; graded = λ g. refl; sign = refl; agreeing = λ g. refl; left = refl; left_grouped = refl; right = refl; right_grouped = refl; all = refl; calm = refl; reached = refl; unrelated = refl; alone = λ left. refl; tokens = λ a b t d. refl; tree = λ a b t. refl }
+
+pub infix-Times : IsInfix op.Times
+infix-Times = record { l = sort.Multiplicative; r = binary.Arithmetic; its_row = refl; first = refl; second = refl; result = refl; of_value = refl; graded = λ g. refl; sign = refl; agreeing = λ g. refl; left = refl; left_grouped = refl; right = refl; right_grouped = refl; all = refl; calm = refl; reached = refl; unrelated = refl; alone = λ left. refl; tokens = λ a b t d. refl; tree = λ a b t. refl }
+
+pub infix-Divide : IsInfix op.Divide
+infix-Divide = record { l = sort.Multiplicative; r = binary.Arithmetic; its_row = refl; first = refl; second = refl; result = refl; of_value = refl; graded = λ g. refl; sign = refl; agreeing = λ g. refl; left = refl; left_grouped = refl; right = refl; right_grouped = refl; all = refl; calm = refl; reached = refl; unrelated = refl; alone = λ left. refl; tokens = λ a b t d. refl; tree = λ a b t. refl }
+
+pub infix-Modulo : IsInfix op.Modulo
+infix-Modulo = record { l = sort.Multiplicative; r = binary.Arithmetic; its_row = refl; first = refl; second = refl; result = refl; of_value = refl; graded = λ g. refl; sign = refl; agreeing = λ g. refl; left = refl; left_grouped = refl; right = refl; right_grouped = refl; all = refl; calm = refl; reached = refl; unrelated = refl; alone = λ left. refl; tokens = λ a b t d. refl; tree = λ a b t. refl }
+
+pub infix-Power : IsInfix op.Power
+infix-Power = record { l = sort.Power; r = binary.Arithmetic; its_row = refl; first = refl; second = refl; result = refl; of_value = refl; graded = λ g. refl; sign = refl; agreeing = λ g. refl; left = refl; left_grouped = refl; right = refl; right_grouped = refl; all = refl; calm = refl; reached = refl; unrelated = refl; alone = λ left. refl; tokens = λ a b t d. refl; tree = λ a b t. refl }
+
+pub infix-Minus : IsInfix op.Minus
+infix-Minus = record { l = sort.Additive; r = binary.Arithmetic; its_row = refl; first = refl; second = refl; result = refl; of_value = refl; graded = λ g. refl; sign = refl; agreeing = λ g. refl; left = refl; left_grouped = refl; right = refl; right_grouped = refl; all = refl; calm = refl; reached = refl; unrelated = refl; alone = λ left. refl; tokens = λ a b t d. refl; tree = λ a b t. refl }
+

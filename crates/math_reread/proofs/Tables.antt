@@ -1,0 +1,1249 @@
+-- How the levels of printed forms and the grades of the grammar agree.
+use Rattle.std.proofs.Common.{◌≡◌, ◌∙◌, ap, refl, ℕ, Bool, true, false, ◌&&◌, ◌||◌, List, [], ◌∷◌, arith, nat_le, nat_lt}
+use Rattle.std.specs.Prelude.{not}
+use Rattle.std.proofs.lemmas.Bool.Decides.{nat_tests}
+use Rattle.formula_core.specs.declared.op.Op.{Op}
+use Rattle.formula_core.specs.declared.op.Op.TheVariants as op
+use Rattle.formula_core.specs.declared.op.Binder.{Binder}
+use Rattle.formula_core.specs.declared.op.Binder.TheVariants as binder
+use Rattle.formula_core.specs.declared.formula.Formula.{Formula, out-Formula}
+use Rattle.formula_core.specs.declared.formula.Formula.TheOpen.{Formula-F, Int, Free, Bound, Node, Bind}
+use Rattle.math_grammar.specs.declared.holes.Grade.{Grade}
+use Rattle.math_grammar.specs.declared.holes.Grade.TheVariants as grade
+use Rattle.math_grammar.specs.declared.holes.Hole.{Hole}
+use Rattle.math_grammar.specs.declared.holes.Hole.TheVariants as hole
+use Rattle.math_grammar.specs.declared.levels.Level.{Level as Sort}
+use Rattle.math_grammar.specs.declared.levels.Level.TheVariants as sort
+use Rattle.math_grammar.specs.declared.levels.Bracket.TheVariants as bracket
+use Rattle.math_grammar.specs.declared.symbols.Symbol.{Symbol}
+use Rattle.math_grammar.specs.declared.symbols.Symbol.TheVariants as sym
+use Rattle.math_grammar.specs.Levels.{rank, level, takes_left, least, fits, goes_on}
+use Rattle.math_grammar.specs.Tokens.{Item}
+use Rattle.math_grammar.specs.Grammar.{Ends}
+use Rattle.math_print.specs.declared.levels.Level.{Level}
+use Rattle.math_print.specs.declared.levels.Level.TheVariants as lev
+use Rattle.math_print.specs.declared.levels.Side.{Side}
+use Rattle.math_print.specs.declared.levels.Side.TheVariants as side
+use Rattle.math_print.specs.Levels.{level_of, formula_level_at, is_chained, is_same_connective, is_negative, goes_on_at, is_enclosed, goes_on as goes_on_left}
+use Rattle.math_reread.specs.Grades.{operator_grade, binder_grade, grade_at}
+
+-- the level that a token makes of what stands before it, if it goes on with it
+abbrev pub sort_rank : Sort → ℕ
+sort_rank sort.Implication = 1
+sort_rank sort.Conjunction = 2
+sort_rank sort.Disjunction = 2
+sort_rank sort.Relation = 3
+sort_rank sort.Typing = 4
+sort_rank sort.Maplet = 5
+sort_rank sort.Arrow = 6
+sort_rank sort.SetOperator = 7
+sort_rank sort.Interval = 8
+sort_rank sort.Additive = 9
+sort_rank sort.Multiplicative = 11
+sort_rank sort.Power = 12
+
+abbrev pub top : Symbol → ℕ
+top (sym.Infix l o) = sort_rank l
+top sym.Minus = 9
+top (sym.Open bracket.Round) = 14
+top (sym.Open bracket.Square) = 14
+top sym.Converse = 14
+top _ = 0
+
+-- the next token goes on with nothing that is tighter
+abbrev pub Quiet : ℕ → List Item → Type 0
+Quiet n [] = Unit {0}
+Quiet n (x ∷ rest) = nat_le (top x.symbol) n ≡ true
+
+rank_level : (l : Sort) (g : Grade) → rank (level l g) ≡ sort_rank l
+rank_level sort.Implication g = refl
+rank_level sort.Conjunction g = refl
+rank_level sort.Disjunction g = refl
+rank_level sort.Relation g = refl
+rank_level sort.Typing grade.Name = refl
+rank_level sort.Typing _ = refl
+rank_level sort.Maplet g = refl
+rank_level sort.Arrow g = refl
+rank_level sort.SetOperator g = refl
+rank_level sort.Interval g = refl
+rank_level sort.Additive g = refl
+rank_level sort.Multiplicative g = refl
+rank_level sort.Power g = refl
+
+and_false : (a b : Bool) → b ≡ false → (a && b) ≡ false
+and_false true b h = h
+and_false false b h = refl
+
+passes_by : (h : Hole) (g : Grade) (x : Symbol) → nat_le (least h) (top x) ≡ false → goes_on h g x ≡ false
+passes_by h g (sym.Infix l o) e = and_false (takes_left l g) _ (ap (nat_le (least h)) (rank_level l g) ∙ e)
+passes_by h g sym.Minus e = and_false (takes_left sort.Additive g) _ e
+passes_by h g (sym.Open bracket.Round) e = and_false (nat_le 14 (rank g)) _ e
+passes_by h g (sym.Open bracket.Square) e = and_false (nat_le 14 (rank g)) _ e
+passes_by h g sym.Converse e = and_false (nat_le 14 (rank g)) _ e
+passes_by h g _ e = refl
+
+below : (a b n : ℕ) → nat_le a n ≡ true → nat_lt n b ≡ true → nat_le b a ≡ false
+below a b n h k = grind (arith, nat_tests)
+
+-- what is quiet enough ends the place
+pub ends : (h : Hole) (g : Grade) (n : ℕ) (rest : List Item) → nat_lt n (least h) ≡ true → Quiet n rest → Ends h g rest
+ends h g n [] low q = tt
+ends h g n (x ∷ rest) low q = passes_by h g x.symbol (below (top x.symbol) (least h) n q low)
+
+pub zero_le : (n : ℕ) → nat_le 0 n ≡ true
+zero_le n = grind (arith, nat_tests)
+
+pub le_through : (a b c : ℕ) → nat_le a b ≡ true → nat_le b c ≡ true → nat_le a c ≡ true
+le_through a b c h k = grind (arith, nat_tests)
+
+pub quieter : (n m : ℕ) (rest : List Item) → nat_le n m ≡ true → Quiet n rest → Quiet m rest
+quieter n m [] le q = tt
+quieter n m (x ∷ rest) le q = le_through (top x.symbol) n m q le
+
+enclosed_or : {A : Type 0} (go : Bool) → go ≡ false → not go ≡ false → A
+enclosed_or true h k = cc
+enclosed_or false h k = cc
+
+-- the least grade of an expression of this level
+abbrev pub least_value : Level → ℕ
+least_value lev.Reaching = 13
+least_value lev.Maplet = 5
+least_value lev.Arrow = 6
+least_value lev.SetOperator = 7
+least_value lev.Interval = 8
+least_value lev.Additive = 9
+least_value lev.Multiplicative = 11
+least_value lev.Power = 12
+least_value lev.Postfix = 14
+least_value lev.Closed = 15
+least_value _ = 0
+
+-- the least grade of a predicate of this level
+abbrev pub least_predicate : Level → ℕ
+least_predicate lev.Implication = 1
+least_predicate lev.Junction = 2
+least_predicate lev.Relation = 3
+least_predicate lev.Closed = 3
+least_predicate _ = 0
+
+-- what follows a form of this level
+abbrev pub quiet : Level → ℕ
+quiet lev.Quantified = 0
+quiet lev.Implication = 1
+quiet lev.Junction = 2
+quiet lev.Relation = 2
+quiet lev.Reaching = 3
+quiet lev.Maplet = 5
+quiet lev.Arrow = 6
+quiet lev.SetOperator = 7
+quiet lev.Interval = 8
+quiet lev.Additive = 9
+quiet lev.Multiplicative = 11
+quiet lev.Power = 12
+quiet lev.Postfix = 14
+quiet lev.Closed = 14
+
+-- what the grammar wants on the left of a sign of this level
+abbrev pub left_value : Level → ℕ
+left_value lev.Maplet = 5
+left_value lev.Arrow = 7
+left_value lev.SetOperator = 7
+left_value lev.Interval = 9
+left_value lev.Additive = 9
+left_value lev.Multiplicative = 11
+left_value lev.Power = 13
+left_value lev.Postfix = 15
+left_value _ = 0
+
+-- and on the right
+abbrev pub right_value : Level → ℕ
+right_value lev.Maplet = 6
+right_value lev.Arrow = 7
+right_value lev.SetOperator = 8
+right_value lev.Interval = 9
+right_value lev.Additive = 11
+right_value lev.Multiplicative = 12
+right_value lev.Power = 13
+right_value _ = 0
+
+-- the signs of this level
+abbrev pub sign_rank : Level → ℕ
+sign_rank lev.Implication = 1
+sign_rank lev.Junction = 2
+sign_rank lev.Maplet = 5
+sign_rank lev.Arrow = 6
+sign_rank lev.SetOperator = 7
+sign_rank lev.Interval = 8
+sign_rank lev.Additive = 9
+sign_rank lev.Multiplicative = 11
+sign_rank lev.Power = 12
+sign_rank lev.Postfix = 14
+sign_rank _ = 0
+
+-- what the grammar wants on the left of a connective
+abbrev pub left_predicate : Level → ℕ
+left_predicate lev.Implication = 2
+left_predicate _ = 0
+
+-- and on the right
+abbrev pub right_predicate : Level → ℕ
+right_predicate lev.Implication = 2
+right_predicate lev.Junction = 3
+right_predicate _ = 0
+
+pub value_op : (o : Op) → nat_lt 3 (rank (operator_grade o)) ≡ true → nat_le (least_value (level_of o)) (rank (operator_grade o)) ≡ true
+value_op op.Top h = cc
+value_op op.Bottom h = cc
+value_op op.Finite h = cc
+value_op _ h = refl
+
+pub predicate_op : (o : Op) → nat_le (least_predicate (level_of o)) (rank (operator_grade o)) ≡ true
+predicate_op op.Top = refl
+predicate_op _ = refl
+
+quiet_op : (o : Op) → nat_lt 3 (rank (operator_grade o)) ≡ true → nat_le 3 (quiet (level_of o)) ≡ true
+quiet_op op.Top h = refl
+quiet_op op.Bottom h = refl
+quiet_op op.Not h = cc
+quiet_op op.And h = cc
+quiet_op op.Or h = cc
+quiet_op op.Implies h = cc
+quiet_op op.Equivalent h = cc
+quiet_op op.Equal h = cc
+quiet_op op.Member h = cc
+quiet_op op.ProperSubset h = cc
+quiet_op op.Subset h = cc
+quiet_op op.Less h = cc
+quiet_op op.LessOrEqual h = cc
+quiet_op op.Finite h = refl
+quiet_op _ h = refl
+
+pub value_at : (x : Formula-F Formula) → nat_lt 3 (rank (grade_at x)) ≡ true → nat_le (least_value (formula_level_at x)) (rank (grade_at x)) ≡ true
+value_at (Int n) h = refl
+value_at (Free name t) h = refl
+value_at (Bound i t) h = refl
+value_at (Node o parts t) h = value_op o h
+value_at (Bind b types parts t) h = go b
+  where
+    go : (b : Binder) → nat_le (least_value (formula_level_at (Bind b types parts t))) (rank (binder_grade b)) ≡ true
+    go binder.ForAll = refl
+    go binder.Exists = refl
+    go binder.Comprehension = refl
+    go binder.QuantifiedUnion = refl
+    go binder.QuantifiedIntersection = refl
+
+pub predicate_at : (x : Formula-F Formula) → nat_le (least_predicate (formula_level_at x)) (rank (grade_at x)) ≡ true
+predicate_at (Int n) = refl
+predicate_at (Free name t) = refl
+predicate_at (Bound i t) = refl
+predicate_at (Node o parts t) = predicate_op o
+predicate_at (Bind b types parts t) = go b
+  where
+    go : (b : Binder) → nat_le (least_predicate (formula_level_at (Bind b types parts t))) (rank (binder_grade b)) ≡ true
+    go binder.ForAll = refl
+    go binder.Exists = refl
+    go binder.Comprehension = refl
+    go binder.QuantifiedUnion = refl
+    go binder.QuantifiedIntersection = refl
+
+-- a relation may follow an expression
+pub quiet_at : (x : Formula-F Formula) → nat_lt 3 (rank (grade_at x)) ≡ true → nat_le 3 (quiet (formula_level_at x)) ≡ true
+quiet_at (Int n) h = refl
+quiet_at (Free name t) h = refl
+quiet_at (Bound i t) h = refl
+quiet_at (Node o parts t) h = quiet_op o h
+quiet_at (Bind b types parts t) h = go b h
+  where
+    go : (b : Binder) → nat_lt 3 (rank (binder_grade b)) ≡ true → nat_le 3 (quiet (formula_level_at (Bind b types parts t))) ≡ true
+    go binder.ForAll h = cc
+    go binder.Exists h = cc
+    go binder.Comprehension h = refl
+    go binder.QuantifiedUnion h = refl
+    go binder.QuantifiedIntersection h = refl
+
+pub left_is_tight : (own operand : Level) (go : Bool) → (is_chained own ≡ false → go ≡ false) → is_enclosed own operand go ≡ false → nat_le (left_value own) (least_value operand) ≡ true
+left_is_tight lev.Quantified lev.Quantified go f h = refl
+left_is_tight lev.Quantified lev.Implication go f h = refl
+left_is_tight lev.Quantified lev.Junction go f h = refl
+left_is_tight lev.Quantified lev.Relation go f h = refl
+left_is_tight lev.Quantified lev.Reaching go f h = refl
+left_is_tight lev.Quantified lev.Maplet go f h = refl
+left_is_tight lev.Quantified lev.Arrow go f h = refl
+left_is_tight lev.Quantified lev.SetOperator go f h = refl
+left_is_tight lev.Quantified lev.Interval go f h = refl
+left_is_tight lev.Quantified lev.Additive go f h = refl
+left_is_tight lev.Quantified lev.Multiplicative go f h = refl
+left_is_tight lev.Quantified lev.Power go f h = refl
+left_is_tight lev.Quantified lev.Postfix go f h = refl
+left_is_tight lev.Quantified lev.Closed go f h = refl
+left_is_tight lev.Implication lev.Quantified go f h = refl
+left_is_tight lev.Implication lev.Implication go f h = refl
+left_is_tight lev.Implication lev.Junction go f h = refl
+left_is_tight lev.Implication lev.Relation go f h = refl
+left_is_tight lev.Implication lev.Reaching go f h = refl
+left_is_tight lev.Implication lev.Maplet go f h = refl
+left_is_tight lev.Implication lev.Arrow go f h = refl
+left_is_tight lev.Implication lev.SetOperator go f h = refl
+left_is_tight lev.Implication lev.Interval go f h = refl
+left_is_tight lev.Implication lev.Additive go f h = refl
+left_is_tight lev.Implication lev.Multiplicative go f h = refl
+left_is_tight lev.Implication lev.Power go f h = refl
+left_is_tight lev.Implication lev.Postfix go f h = refl
+left_is_tight lev.Implication lev.Closed go f h = refl
+left_is_tight lev.Junction lev.Quantified go f h = refl
+left_is_tight lev.Junction lev.Implication go f h = refl
+left_is_tight lev.Junction lev.Junction go f h = refl
+left_is_tight lev.Junction lev.Relation go f h = refl
+left_is_tight lev.Junction lev.Reaching go f h = refl
+left_is_tight lev.Junction lev.Maplet go f h = refl
+left_is_tight lev.Junction lev.Arrow go f h = refl
+left_is_tight lev.Junction lev.SetOperator go f h = refl
+left_is_tight lev.Junction lev.Interval go f h = refl
+left_is_tight lev.Junction lev.Additive go f h = refl
+left_is_tight lev.Junction lev.Multiplicative go f h = refl
+left_is_tight lev.Junction lev.Power go f h = refl
+left_is_tight lev.Junction lev.Postfix go f h = refl
+left_is_tight lev.Junction lev.Closed go f h = refl
+left_is_tight lev.Relation lev.Quantified go f h = refl
+left_is_tight lev.Relation lev.Implication go f h = refl
+left_is_tight lev.Relation lev.Junction go f h = refl
+left_is_tight lev.Relation lev.Relation go f h = refl
+left_is_tight lev.Relation lev.Reaching go f h = refl
+left_is_tight lev.Relation lev.Maplet go f h = refl
+left_is_tight lev.Relation lev.Arrow go f h = refl
+left_is_tight lev.Relation lev.SetOperator go f h = refl
+left_is_tight lev.Relation lev.Interval go f h = refl
+left_is_tight lev.Relation lev.Additive go f h = refl
+left_is_tight lev.Relation lev.Multiplicative go f h = refl
+left_is_tight lev.Relation lev.Power go f h = refl
+left_is_tight lev.Relation lev.Postfix go f h = refl
+left_is_tight lev.Relation lev.Closed go f h = refl
+left_is_tight lev.Reaching lev.Quantified go f h = refl
+left_is_tight lev.Reaching lev.Implication go f h = refl
+left_is_tight lev.Reaching lev.Junction go f h = refl
+left_is_tight lev.Reaching lev.Relation go f h = refl
+left_is_tight lev.Reaching lev.Reaching go f h = refl
+left_is_tight lev.Reaching lev.Maplet go f h = refl
+left_is_tight lev.Reaching lev.Arrow go f h = refl
+left_is_tight lev.Reaching lev.SetOperator go f h = refl
+left_is_tight lev.Reaching lev.Interval go f h = refl
+left_is_tight lev.Reaching lev.Additive go f h = refl
+left_is_tight lev.Reaching lev.Multiplicative go f h = refl
+left_is_tight lev.Reaching lev.Power go f h = refl
+left_is_tight lev.Reaching lev.Postfix go f h = refl
+left_is_tight lev.Reaching lev.Closed go f h = refl
+left_is_tight lev.Maplet lev.Quantified go f h = cc
+left_is_tight lev.Maplet lev.Implication go f h = cc
+left_is_tight lev.Maplet lev.Junction go f h = cc
+left_is_tight lev.Maplet lev.Relation go f h = cc
+left_is_tight lev.Maplet lev.Reaching go f h = refl
+left_is_tight lev.Maplet lev.Maplet go f h = refl
+left_is_tight lev.Maplet lev.Arrow go f h = refl
+left_is_tight lev.Maplet lev.SetOperator go f h = refl
+left_is_tight lev.Maplet lev.Interval go f h = refl
+left_is_tight lev.Maplet lev.Additive go f h = refl
+left_is_tight lev.Maplet lev.Multiplicative go f h = refl
+left_is_tight lev.Maplet lev.Power go f h = refl
+left_is_tight lev.Maplet lev.Postfix go f h = refl
+left_is_tight lev.Maplet lev.Closed go f h = refl
+left_is_tight lev.Arrow lev.Quantified go f h = cc
+left_is_tight lev.Arrow lev.Implication go f h = cc
+left_is_tight lev.Arrow lev.Junction go f h = cc
+left_is_tight lev.Arrow lev.Relation go f h = cc
+left_is_tight lev.Arrow lev.Reaching go f h = refl
+left_is_tight lev.Arrow lev.Maplet go f h = cc
+left_is_tight lev.Arrow lev.Arrow go f h = let e : go ≡ false = f refl in let g : not go ≡ false = h in enclosed_or go e g
+left_is_tight lev.Arrow lev.SetOperator go f h = refl
+left_is_tight lev.Arrow lev.Interval go f h = refl
+left_is_tight lev.Arrow lev.Additive go f h = refl
+left_is_tight lev.Arrow lev.Multiplicative go f h = refl
+left_is_tight lev.Arrow lev.Power go f h = refl
+left_is_tight lev.Arrow lev.Postfix go f h = refl
+left_is_tight lev.Arrow lev.Closed go f h = refl
+left_is_tight lev.SetOperator lev.Quantified go f h = cc
+left_is_tight lev.SetOperator lev.Implication go f h = cc
+left_is_tight lev.SetOperator lev.Junction go f h = cc
+left_is_tight lev.SetOperator lev.Relation go f h = cc
+left_is_tight lev.SetOperator lev.Reaching go f h = refl
+left_is_tight lev.SetOperator lev.Maplet go f h = cc
+left_is_tight lev.SetOperator lev.Arrow go f h = cc
+left_is_tight lev.SetOperator lev.SetOperator go f h = refl
+left_is_tight lev.SetOperator lev.Interval go f h = refl
+left_is_tight lev.SetOperator lev.Additive go f h = refl
+left_is_tight lev.SetOperator lev.Multiplicative go f h = refl
+left_is_tight lev.SetOperator lev.Power go f h = refl
+left_is_tight lev.SetOperator lev.Postfix go f h = refl
+left_is_tight lev.SetOperator lev.Closed go f h = refl
+left_is_tight lev.Interval lev.Quantified go f h = cc
+left_is_tight lev.Interval lev.Implication go f h = cc
+left_is_tight lev.Interval lev.Junction go f h = cc
+left_is_tight lev.Interval lev.Relation go f h = cc
+left_is_tight lev.Interval lev.Reaching go f h = refl
+left_is_tight lev.Interval lev.Maplet go f h = cc
+left_is_tight lev.Interval lev.Arrow go f h = cc
+left_is_tight lev.Interval lev.SetOperator go f h = cc
+left_is_tight lev.Interval lev.Interval go f h = let e : go ≡ false = f refl in let g : not go ≡ false = h in enclosed_or go e g
+left_is_tight lev.Interval lev.Additive go f h = refl
+left_is_tight lev.Interval lev.Multiplicative go f h = refl
+left_is_tight lev.Interval lev.Power go f h = refl
+left_is_tight lev.Interval lev.Postfix go f h = refl
+left_is_tight lev.Interval lev.Closed go f h = refl
+left_is_tight lev.Additive lev.Quantified go f h = cc
+left_is_tight lev.Additive lev.Implication go f h = cc
+left_is_tight lev.Additive lev.Junction go f h = cc
+left_is_tight lev.Additive lev.Relation go f h = cc
+left_is_tight lev.Additive lev.Reaching go f h = refl
+left_is_tight lev.Additive lev.Maplet go f h = cc
+left_is_tight lev.Additive lev.Arrow go f h = cc
+left_is_tight lev.Additive lev.SetOperator go f h = cc
+left_is_tight lev.Additive lev.Interval go f h = cc
+left_is_tight lev.Additive lev.Additive go f h = refl
+left_is_tight lev.Additive lev.Multiplicative go f h = refl
+left_is_tight lev.Additive lev.Power go f h = refl
+left_is_tight lev.Additive lev.Postfix go f h = refl
+left_is_tight lev.Additive lev.Closed go f h = refl
+left_is_tight lev.Multiplicative lev.Quantified go f h = cc
+left_is_tight lev.Multiplicative lev.Implication go f h = cc
+left_is_tight lev.Multiplicative lev.Junction go f h = cc
+left_is_tight lev.Multiplicative lev.Relation go f h = cc
+left_is_tight lev.Multiplicative lev.Reaching go f h = refl
+left_is_tight lev.Multiplicative lev.Maplet go f h = cc
+left_is_tight lev.Multiplicative lev.Arrow go f h = cc
+left_is_tight lev.Multiplicative lev.SetOperator go f h = cc
+left_is_tight lev.Multiplicative lev.Interval go f h = cc
+left_is_tight lev.Multiplicative lev.Additive go f h = cc
+left_is_tight lev.Multiplicative lev.Multiplicative go f h = refl
+left_is_tight lev.Multiplicative lev.Power go f h = refl
+left_is_tight lev.Multiplicative lev.Postfix go f h = refl
+left_is_tight lev.Multiplicative lev.Closed go f h = refl
+left_is_tight lev.Power lev.Quantified go f h = cc
+left_is_tight lev.Power lev.Implication go f h = cc
+left_is_tight lev.Power lev.Junction go f h = cc
+left_is_tight lev.Power lev.Relation go f h = cc
+left_is_tight lev.Power lev.Reaching go f h = refl
+left_is_tight lev.Power lev.Maplet go f h = cc
+left_is_tight lev.Power lev.Arrow go f h = cc
+left_is_tight lev.Power lev.SetOperator go f h = cc
+left_is_tight lev.Power lev.Interval go f h = cc
+left_is_tight lev.Power lev.Additive go f h = cc
+left_is_tight lev.Power lev.Multiplicative go f h = cc
+left_is_tight lev.Power lev.Power go f h = let e : go ≡ false = f refl in let g : not go ≡ false = h in enclosed_or go e g
+left_is_tight lev.Power lev.Postfix go f h = refl
+left_is_tight lev.Power lev.Closed go f h = refl
+left_is_tight lev.Postfix lev.Quantified go f h = cc
+left_is_tight lev.Postfix lev.Implication go f h = cc
+left_is_tight lev.Postfix lev.Junction go f h = cc
+left_is_tight lev.Postfix lev.Relation go f h = cc
+left_is_tight lev.Postfix lev.Reaching go f h = cc
+left_is_tight lev.Postfix lev.Maplet go f h = cc
+left_is_tight lev.Postfix lev.Arrow go f h = cc
+left_is_tight lev.Postfix lev.SetOperator go f h = cc
+left_is_tight lev.Postfix lev.Interval go f h = cc
+left_is_tight lev.Postfix lev.Additive go f h = cc
+left_is_tight lev.Postfix lev.Multiplicative go f h = cc
+left_is_tight lev.Postfix lev.Power go f h = cc
+left_is_tight lev.Postfix lev.Postfix go f h = let e : go ≡ false = f refl in let g : not go ≡ false = h in enclosed_or go e g
+left_is_tight lev.Postfix lev.Closed go f h = refl
+left_is_tight lev.Closed lev.Quantified go f h = refl
+left_is_tight lev.Closed lev.Implication go f h = refl
+left_is_tight lev.Closed lev.Junction go f h = refl
+left_is_tight lev.Closed lev.Relation go f h = refl
+left_is_tight lev.Closed lev.Reaching go f h = refl
+left_is_tight lev.Closed lev.Maplet go f h = refl
+left_is_tight lev.Closed lev.Arrow go f h = refl
+left_is_tight lev.Closed lev.SetOperator go f h = refl
+left_is_tight lev.Closed lev.Interval go f h = refl
+left_is_tight lev.Closed lev.Additive go f h = refl
+left_is_tight lev.Closed lev.Multiplicative go f h = refl
+left_is_tight lev.Closed lev.Power go f h = refl
+left_is_tight lev.Closed lev.Postfix go f h = refl
+left_is_tight lev.Closed lev.Closed go f h = refl
+
+pub right_is_tight : (own operand : Level) → is_enclosed own operand false ≡ false → nat_le (right_value own) (least_value operand) ≡ true
+right_is_tight lev.Quantified lev.Quantified h = refl
+right_is_tight lev.Quantified lev.Implication h = refl
+right_is_tight lev.Quantified lev.Junction h = refl
+right_is_tight lev.Quantified lev.Relation h = refl
+right_is_tight lev.Quantified lev.Reaching h = refl
+right_is_tight lev.Quantified lev.Maplet h = refl
+right_is_tight lev.Quantified lev.Arrow h = refl
+right_is_tight lev.Quantified lev.SetOperator h = refl
+right_is_tight lev.Quantified lev.Interval h = refl
+right_is_tight lev.Quantified lev.Additive h = refl
+right_is_tight lev.Quantified lev.Multiplicative h = refl
+right_is_tight lev.Quantified lev.Power h = refl
+right_is_tight lev.Quantified lev.Postfix h = refl
+right_is_tight lev.Quantified lev.Closed h = refl
+right_is_tight lev.Implication lev.Quantified h = refl
+right_is_tight lev.Implication lev.Implication h = refl
+right_is_tight lev.Implication lev.Junction h = refl
+right_is_tight lev.Implication lev.Relation h = refl
+right_is_tight lev.Implication lev.Reaching h = refl
+right_is_tight lev.Implication lev.Maplet h = refl
+right_is_tight lev.Implication lev.Arrow h = refl
+right_is_tight lev.Implication lev.SetOperator h = refl
+right_is_tight lev.Implication lev.Interval h = refl
+right_is_tight lev.Implication lev.Additive h = refl
+right_is_tight lev.Implication lev.Multiplicative h = refl
+right_is_tight lev.Implication lev.Power h = refl
+right_is_tight lev.Implication lev.Postfix h = refl
+right_is_tight lev.Implication lev.Closed h = refl
+right_is_tight lev.Junction lev.Quantified h = refl
+right_is_tight lev.Junction lev.Implication h = refl
+right_is_tight lev.Junction lev.Junction h = refl
+right_is_tight lev.Junction lev.Relation h = refl
+right_is_tight lev.Junction lev.Reaching h = refl
+right_is_tight lev.Junction lev.Maplet h = refl
+right_is_tight lev.Junction lev.Arrow h = refl
+right_is_tight lev.Junction lev.SetOperator h = refl
+right_is_tight lev.Junction lev.Interval h = refl
+right_is_tight lev.Junction lev.Additive h = refl
+right_is_tight lev.Junction lev.Multiplicative h = refl
+right_is_tight lev.Junction lev.Power h = refl
+right_is_tight lev.Junction lev.Postfix h = refl
+right_is_tight lev.Junction lev.Closed h = refl
+right_is_tight lev.Relation lev.Quantified h = refl
+right_is_tight lev.Relation lev.Implication h = refl
+right_is_tight lev.Relation lev.Junction h = refl
+right_is_tight lev.Relation lev.Relation h = refl
+right_is_tight lev.Relation lev.Reaching h = refl
+right_is_tight lev.Relation lev.Maplet h = refl
+right_is_tight lev.Relation lev.Arrow h = refl
+right_is_tight lev.Relation lev.SetOperator h = refl
+right_is_tight lev.Relation lev.Interval h = refl
+right_is_tight lev.Relation lev.Additive h = refl
+right_is_tight lev.Relation lev.Multiplicative h = refl
+right_is_tight lev.Relation lev.Power h = refl
+right_is_tight lev.Relation lev.Postfix h = refl
+right_is_tight lev.Relation lev.Closed h = refl
+right_is_tight lev.Reaching lev.Quantified h = refl
+right_is_tight lev.Reaching lev.Implication h = refl
+right_is_tight lev.Reaching lev.Junction h = refl
+right_is_tight lev.Reaching lev.Relation h = refl
+right_is_tight lev.Reaching lev.Reaching h = refl
+right_is_tight lev.Reaching lev.Maplet h = refl
+right_is_tight lev.Reaching lev.Arrow h = refl
+right_is_tight lev.Reaching lev.SetOperator h = refl
+right_is_tight lev.Reaching lev.Interval h = refl
+right_is_tight lev.Reaching lev.Additive h = refl
+right_is_tight lev.Reaching lev.Multiplicative h = refl
+right_is_tight lev.Reaching lev.Power h = refl
+right_is_tight lev.Reaching lev.Postfix h = refl
+right_is_tight lev.Reaching lev.Closed h = refl
+right_is_tight lev.Maplet lev.Quantified h = cc
+right_is_tight lev.Maplet lev.Implication h = cc
+right_is_tight lev.Maplet lev.Junction h = cc
+right_is_tight lev.Maplet lev.Relation h = cc
+right_is_tight lev.Maplet lev.Reaching h = refl
+right_is_tight lev.Maplet lev.Maplet h = cc
+right_is_tight lev.Maplet lev.Arrow h = refl
+right_is_tight lev.Maplet lev.SetOperator h = refl
+right_is_tight lev.Maplet lev.Interval h = refl
+right_is_tight lev.Maplet lev.Additive h = refl
+right_is_tight lev.Maplet lev.Multiplicative h = refl
+right_is_tight lev.Maplet lev.Power h = refl
+right_is_tight lev.Maplet lev.Postfix h = refl
+right_is_tight lev.Maplet lev.Closed h = refl
+right_is_tight lev.Arrow lev.Quantified h = cc
+right_is_tight lev.Arrow lev.Implication h = cc
+right_is_tight lev.Arrow lev.Junction h = cc
+right_is_tight lev.Arrow lev.Relation h = cc
+right_is_tight lev.Arrow lev.Reaching h = refl
+right_is_tight lev.Arrow lev.Maplet h = cc
+right_is_tight lev.Arrow lev.Arrow h = cc
+right_is_tight lev.Arrow lev.SetOperator h = refl
+right_is_tight lev.Arrow lev.Interval h = refl
+right_is_tight lev.Arrow lev.Additive h = refl
+right_is_tight lev.Arrow lev.Multiplicative h = refl
+right_is_tight lev.Arrow lev.Power h = refl
+right_is_tight lev.Arrow lev.Postfix h = refl
+right_is_tight lev.Arrow lev.Closed h = refl
+right_is_tight lev.SetOperator lev.Quantified h = cc
+right_is_tight lev.SetOperator lev.Implication h = cc
+right_is_tight lev.SetOperator lev.Junction h = cc
+right_is_tight lev.SetOperator lev.Relation h = cc
+right_is_tight lev.SetOperator lev.Reaching h = refl
+right_is_tight lev.SetOperator lev.Maplet h = cc
+right_is_tight lev.SetOperator lev.Arrow h = cc
+right_is_tight lev.SetOperator lev.SetOperator h = cc
+right_is_tight lev.SetOperator lev.Interval h = refl
+right_is_tight lev.SetOperator lev.Additive h = refl
+right_is_tight lev.SetOperator lev.Multiplicative h = refl
+right_is_tight lev.SetOperator lev.Power h = refl
+right_is_tight lev.SetOperator lev.Postfix h = refl
+right_is_tight lev.SetOperator lev.Closed h = refl
+right_is_tight lev.Interval lev.Quantified h = cc
+right_is_tight lev.Interval lev.Implication h = cc
+right_is_tight lev.Interval lev.Junction h = cc
+right_is_tight lev.Interval lev.Relation h = cc
+right_is_tight lev.Interval lev.Reaching h = refl
+right_is_tight lev.Interval lev.Maplet h = cc
+right_is_tight lev.Interval lev.Arrow h = cc
+right_is_tight lev.Interval lev.SetOperator h = cc
+right_is_tight lev.Interval lev.Interval h = cc
+right_is_tight lev.Interval lev.Additive h = refl
+right_is_tight lev.Interval lev.Multiplicative h = refl
+right_is_tight lev.Interval lev.Power h = refl
+right_is_tight lev.Interval lev.Postfix h = refl
+right_is_tight lev.Interval lev.Closed h = refl
+right_is_tight lev.Additive lev.Quantified h = cc
+right_is_tight lev.Additive lev.Implication h = cc
+right_is_tight lev.Additive lev.Junction h = cc
+right_is_tight lev.Additive lev.Relation h = cc
+right_is_tight lev.Additive lev.Reaching h = refl
+right_is_tight lev.Additive lev.Maplet h = cc
+right_is_tight lev.Additive lev.Arrow h = cc
+right_is_tight lev.Additive lev.SetOperator h = cc
+right_is_tight lev.Additive lev.Interval h = cc
+right_is_tight lev.Additive lev.Additive h = cc
+right_is_tight lev.Additive lev.Multiplicative h = refl
+right_is_tight lev.Additive lev.Power h = refl
+right_is_tight lev.Additive lev.Postfix h = refl
+right_is_tight lev.Additive lev.Closed h = refl
+right_is_tight lev.Multiplicative lev.Quantified h = cc
+right_is_tight lev.Multiplicative lev.Implication h = cc
+right_is_tight lev.Multiplicative lev.Junction h = cc
+right_is_tight lev.Multiplicative lev.Relation h = cc
+right_is_tight lev.Multiplicative lev.Reaching h = refl
+right_is_tight lev.Multiplicative lev.Maplet h = cc
+right_is_tight lev.Multiplicative lev.Arrow h = cc
+right_is_tight lev.Multiplicative lev.SetOperator h = cc
+right_is_tight lev.Multiplicative lev.Interval h = cc
+right_is_tight lev.Multiplicative lev.Additive h = cc
+right_is_tight lev.Multiplicative lev.Multiplicative h = cc
+right_is_tight lev.Multiplicative lev.Power h = refl
+right_is_tight lev.Multiplicative lev.Postfix h = refl
+right_is_tight lev.Multiplicative lev.Closed h = refl
+right_is_tight lev.Power lev.Quantified h = cc
+right_is_tight lev.Power lev.Implication h = cc
+right_is_tight lev.Power lev.Junction h = cc
+right_is_tight lev.Power lev.Relation h = cc
+right_is_tight lev.Power lev.Reaching h = refl
+right_is_tight lev.Power lev.Maplet h = cc
+right_is_tight lev.Power lev.Arrow h = cc
+right_is_tight lev.Power lev.SetOperator h = cc
+right_is_tight lev.Power lev.Interval h = cc
+right_is_tight lev.Power lev.Additive h = cc
+right_is_tight lev.Power lev.Multiplicative h = cc
+right_is_tight lev.Power lev.Power h = cc
+right_is_tight lev.Power lev.Postfix h = refl
+right_is_tight lev.Power lev.Closed h = refl
+right_is_tight lev.Postfix lev.Quantified h = refl
+right_is_tight lev.Postfix lev.Implication h = refl
+right_is_tight lev.Postfix lev.Junction h = refl
+right_is_tight lev.Postfix lev.Relation h = refl
+right_is_tight lev.Postfix lev.Reaching h = refl
+right_is_tight lev.Postfix lev.Maplet h = refl
+right_is_tight lev.Postfix lev.Arrow h = refl
+right_is_tight lev.Postfix lev.SetOperator h = refl
+right_is_tight lev.Postfix lev.Interval h = refl
+right_is_tight lev.Postfix lev.Additive h = refl
+right_is_tight lev.Postfix lev.Multiplicative h = refl
+right_is_tight lev.Postfix lev.Power h = refl
+right_is_tight lev.Postfix lev.Postfix h = refl
+right_is_tight lev.Postfix lev.Closed h = refl
+right_is_tight lev.Closed lev.Quantified h = refl
+right_is_tight lev.Closed lev.Implication h = refl
+right_is_tight lev.Closed lev.Junction h = refl
+right_is_tight lev.Closed lev.Relation h = refl
+right_is_tight lev.Closed lev.Reaching h = refl
+right_is_tight lev.Closed lev.Maplet h = refl
+right_is_tight lev.Closed lev.Arrow h = refl
+right_is_tight lev.Closed lev.SetOperator h = refl
+right_is_tight lev.Closed lev.Interval h = refl
+right_is_tight lev.Closed lev.Additive h = refl
+right_is_tight lev.Closed lev.Multiplicative h = refl
+right_is_tight lev.Closed lev.Power h = refl
+right_is_tight lev.Closed lev.Postfix h = refl
+right_is_tight lev.Closed lev.Closed h = refl
+
+pub left_is_quiet : (own operand : Level) (go : Bool) → is_enclosed own operand go ≡ false → nat_le (sign_rank own) (quiet operand) ≡ true
+left_is_quiet lev.Quantified lev.Quantified go h = refl
+left_is_quiet lev.Quantified lev.Implication go h = refl
+left_is_quiet lev.Quantified lev.Junction go h = refl
+left_is_quiet lev.Quantified lev.Relation go h = refl
+left_is_quiet lev.Quantified lev.Reaching go h = refl
+left_is_quiet lev.Quantified lev.Maplet go h = refl
+left_is_quiet lev.Quantified lev.Arrow go h = refl
+left_is_quiet lev.Quantified lev.SetOperator go h = refl
+left_is_quiet lev.Quantified lev.Interval go h = refl
+left_is_quiet lev.Quantified lev.Additive go h = refl
+left_is_quiet lev.Quantified lev.Multiplicative go h = refl
+left_is_quiet lev.Quantified lev.Power go h = refl
+left_is_quiet lev.Quantified lev.Postfix go h = refl
+left_is_quiet lev.Quantified lev.Closed go h = refl
+left_is_quiet lev.Implication lev.Quantified go h = cc
+left_is_quiet lev.Implication lev.Implication go h = refl
+left_is_quiet lev.Implication lev.Junction go h = refl
+left_is_quiet lev.Implication lev.Relation go h = refl
+left_is_quiet lev.Implication lev.Reaching go h = refl
+left_is_quiet lev.Implication lev.Maplet go h = refl
+left_is_quiet lev.Implication lev.Arrow go h = refl
+left_is_quiet lev.Implication lev.SetOperator go h = refl
+left_is_quiet lev.Implication lev.Interval go h = refl
+left_is_quiet lev.Implication lev.Additive go h = refl
+left_is_quiet lev.Implication lev.Multiplicative go h = refl
+left_is_quiet lev.Implication lev.Power go h = refl
+left_is_quiet lev.Implication lev.Postfix go h = refl
+left_is_quiet lev.Implication lev.Closed go h = refl
+left_is_quiet lev.Junction lev.Quantified go h = cc
+left_is_quiet lev.Junction lev.Implication go h = cc
+left_is_quiet lev.Junction lev.Junction go h = refl
+left_is_quiet lev.Junction lev.Relation go h = refl
+left_is_quiet lev.Junction lev.Reaching go h = refl
+left_is_quiet lev.Junction lev.Maplet go h = refl
+left_is_quiet lev.Junction lev.Arrow go h = refl
+left_is_quiet lev.Junction lev.SetOperator go h = refl
+left_is_quiet lev.Junction lev.Interval go h = refl
+left_is_quiet lev.Junction lev.Additive go h = refl
+left_is_quiet lev.Junction lev.Multiplicative go h = refl
+left_is_quiet lev.Junction lev.Power go h = refl
+left_is_quiet lev.Junction lev.Postfix go h = refl
+left_is_quiet lev.Junction lev.Closed go h = refl
+left_is_quiet lev.Relation lev.Quantified go h = refl
+left_is_quiet lev.Relation lev.Implication go h = refl
+left_is_quiet lev.Relation lev.Junction go h = refl
+left_is_quiet lev.Relation lev.Relation go h = refl
+left_is_quiet lev.Relation lev.Reaching go h = refl
+left_is_quiet lev.Relation lev.Maplet go h = refl
+left_is_quiet lev.Relation lev.Arrow go h = refl
+left_is_quiet lev.Relation lev.SetOperator go h = refl
+left_is_quiet lev.Relation lev.Interval go h = refl
+left_is_quiet lev.Relation lev.Additive go h = refl
+left_is_quiet lev.Relation lev.Multiplicative go h = refl
+left_is_quiet lev.Relation lev.Power go h = refl
+left_is_quiet lev.Relation lev.Postfix go h = refl
+left_is_quiet lev.Relation lev.Closed go h = refl
+left_is_quiet lev.Reaching lev.Quantified go h = refl
+left_is_quiet lev.Reaching lev.Implication go h = refl
+left_is_quiet lev.Reaching lev.Junction go h = refl
+left_is_quiet lev.Reaching lev.Relation go h = refl
+left_is_quiet lev.Reaching lev.Reaching go h = refl
+left_is_quiet lev.Reaching lev.Maplet go h = refl
+left_is_quiet lev.Reaching lev.Arrow go h = refl
+left_is_quiet lev.Reaching lev.SetOperator go h = refl
+left_is_quiet lev.Reaching lev.Interval go h = refl
+left_is_quiet lev.Reaching lev.Additive go h = refl
+left_is_quiet lev.Reaching lev.Multiplicative go h = refl
+left_is_quiet lev.Reaching lev.Power go h = refl
+left_is_quiet lev.Reaching lev.Postfix go h = refl
+left_is_quiet lev.Reaching lev.Closed go h = refl
+left_is_quiet lev.Maplet lev.Quantified go h = cc
+left_is_quiet lev.Maplet lev.Implication go h = cc
+left_is_quiet lev.Maplet lev.Junction go h = cc
+left_is_quiet lev.Maplet lev.Relation go h = cc
+left_is_quiet lev.Maplet lev.Reaching go h = cc
+left_is_quiet lev.Maplet lev.Maplet go h = refl
+left_is_quiet lev.Maplet lev.Arrow go h = refl
+left_is_quiet lev.Maplet lev.SetOperator go h = refl
+left_is_quiet lev.Maplet lev.Interval go h = refl
+left_is_quiet lev.Maplet lev.Additive go h = refl
+left_is_quiet lev.Maplet lev.Multiplicative go h = refl
+left_is_quiet lev.Maplet lev.Power go h = refl
+left_is_quiet lev.Maplet lev.Postfix go h = refl
+left_is_quiet lev.Maplet lev.Closed go h = refl
+left_is_quiet lev.Arrow lev.Quantified go h = cc
+left_is_quiet lev.Arrow lev.Implication go h = cc
+left_is_quiet lev.Arrow lev.Junction go h = cc
+left_is_quiet lev.Arrow lev.Relation go h = cc
+left_is_quiet lev.Arrow lev.Reaching go h = cc
+left_is_quiet lev.Arrow lev.Maplet go h = cc
+left_is_quiet lev.Arrow lev.Arrow go h = refl
+left_is_quiet lev.Arrow lev.SetOperator go h = refl
+left_is_quiet lev.Arrow lev.Interval go h = refl
+left_is_quiet lev.Arrow lev.Additive go h = refl
+left_is_quiet lev.Arrow lev.Multiplicative go h = refl
+left_is_quiet lev.Arrow lev.Power go h = refl
+left_is_quiet lev.Arrow lev.Postfix go h = refl
+left_is_quiet lev.Arrow lev.Closed go h = refl
+left_is_quiet lev.SetOperator lev.Quantified go h = cc
+left_is_quiet lev.SetOperator lev.Implication go h = cc
+left_is_quiet lev.SetOperator lev.Junction go h = cc
+left_is_quiet lev.SetOperator lev.Relation go h = cc
+left_is_quiet lev.SetOperator lev.Reaching go h = cc
+left_is_quiet lev.SetOperator lev.Maplet go h = cc
+left_is_quiet lev.SetOperator lev.Arrow go h = cc
+left_is_quiet lev.SetOperator lev.SetOperator go h = refl
+left_is_quiet lev.SetOperator lev.Interval go h = refl
+left_is_quiet lev.SetOperator lev.Additive go h = refl
+left_is_quiet lev.SetOperator lev.Multiplicative go h = refl
+left_is_quiet lev.SetOperator lev.Power go h = refl
+left_is_quiet lev.SetOperator lev.Postfix go h = refl
+left_is_quiet lev.SetOperator lev.Closed go h = refl
+left_is_quiet lev.Interval lev.Quantified go h = cc
+left_is_quiet lev.Interval lev.Implication go h = cc
+left_is_quiet lev.Interval lev.Junction go h = cc
+left_is_quiet lev.Interval lev.Relation go h = cc
+left_is_quiet lev.Interval lev.Reaching go h = cc
+left_is_quiet lev.Interval lev.Maplet go h = cc
+left_is_quiet lev.Interval lev.Arrow go h = cc
+left_is_quiet lev.Interval lev.SetOperator go h = cc
+left_is_quiet lev.Interval lev.Interval go h = refl
+left_is_quiet lev.Interval lev.Additive go h = refl
+left_is_quiet lev.Interval lev.Multiplicative go h = refl
+left_is_quiet lev.Interval lev.Power go h = refl
+left_is_quiet lev.Interval lev.Postfix go h = refl
+left_is_quiet lev.Interval lev.Closed go h = refl
+left_is_quiet lev.Additive lev.Quantified go h = cc
+left_is_quiet lev.Additive lev.Implication go h = cc
+left_is_quiet lev.Additive lev.Junction go h = cc
+left_is_quiet lev.Additive lev.Relation go h = cc
+left_is_quiet lev.Additive lev.Reaching go h = cc
+left_is_quiet lev.Additive lev.Maplet go h = cc
+left_is_quiet lev.Additive lev.Arrow go h = cc
+left_is_quiet lev.Additive lev.SetOperator go h = cc
+left_is_quiet lev.Additive lev.Interval go h = cc
+left_is_quiet lev.Additive lev.Additive go h = refl
+left_is_quiet lev.Additive lev.Multiplicative go h = refl
+left_is_quiet lev.Additive lev.Power go h = refl
+left_is_quiet lev.Additive lev.Postfix go h = refl
+left_is_quiet lev.Additive lev.Closed go h = refl
+left_is_quiet lev.Multiplicative lev.Quantified go h = cc
+left_is_quiet lev.Multiplicative lev.Implication go h = cc
+left_is_quiet lev.Multiplicative lev.Junction go h = cc
+left_is_quiet lev.Multiplicative lev.Relation go h = cc
+left_is_quiet lev.Multiplicative lev.Reaching go h = cc
+left_is_quiet lev.Multiplicative lev.Maplet go h = cc
+left_is_quiet lev.Multiplicative lev.Arrow go h = cc
+left_is_quiet lev.Multiplicative lev.SetOperator go h = cc
+left_is_quiet lev.Multiplicative lev.Interval go h = cc
+left_is_quiet lev.Multiplicative lev.Additive go h = cc
+left_is_quiet lev.Multiplicative lev.Multiplicative go h = refl
+left_is_quiet lev.Multiplicative lev.Power go h = refl
+left_is_quiet lev.Multiplicative lev.Postfix go h = refl
+left_is_quiet lev.Multiplicative lev.Closed go h = refl
+left_is_quiet lev.Power lev.Quantified go h = cc
+left_is_quiet lev.Power lev.Implication go h = cc
+left_is_quiet lev.Power lev.Junction go h = cc
+left_is_quiet lev.Power lev.Relation go h = cc
+left_is_quiet lev.Power lev.Reaching go h = cc
+left_is_quiet lev.Power lev.Maplet go h = cc
+left_is_quiet lev.Power lev.Arrow go h = cc
+left_is_quiet lev.Power lev.SetOperator go h = cc
+left_is_quiet lev.Power lev.Interval go h = cc
+left_is_quiet lev.Power lev.Additive go h = cc
+left_is_quiet lev.Power lev.Multiplicative go h = cc
+left_is_quiet lev.Power lev.Power go h = refl
+left_is_quiet lev.Power lev.Postfix go h = refl
+left_is_quiet lev.Power lev.Closed go h = refl
+left_is_quiet lev.Postfix lev.Quantified go h = cc
+left_is_quiet lev.Postfix lev.Implication go h = cc
+left_is_quiet lev.Postfix lev.Junction go h = cc
+left_is_quiet lev.Postfix lev.Relation go h = cc
+left_is_quiet lev.Postfix lev.Reaching go h = cc
+left_is_quiet lev.Postfix lev.Maplet go h = cc
+left_is_quiet lev.Postfix lev.Arrow go h = cc
+left_is_quiet lev.Postfix lev.SetOperator go h = cc
+left_is_quiet lev.Postfix lev.Interval go h = cc
+left_is_quiet lev.Postfix lev.Additive go h = cc
+left_is_quiet lev.Postfix lev.Multiplicative go h = cc
+left_is_quiet lev.Postfix lev.Power go h = cc
+left_is_quiet lev.Postfix lev.Postfix go h = refl
+left_is_quiet lev.Postfix lev.Closed go h = refl
+left_is_quiet lev.Closed lev.Quantified go h = refl
+left_is_quiet lev.Closed lev.Implication go h = refl
+left_is_quiet lev.Closed lev.Junction go h = refl
+left_is_quiet lev.Closed lev.Relation go h = refl
+left_is_quiet lev.Closed lev.Reaching go h = refl
+left_is_quiet lev.Closed lev.Maplet go h = refl
+left_is_quiet lev.Closed lev.Arrow go h = refl
+left_is_quiet lev.Closed lev.SetOperator go h = refl
+left_is_quiet lev.Closed lev.Interval go h = refl
+left_is_quiet lev.Closed lev.Additive go h = refl
+left_is_quiet lev.Closed lev.Multiplicative go h = refl
+left_is_quiet lev.Closed lev.Power go h = refl
+left_is_quiet lev.Closed lev.Postfix go h = refl
+left_is_quiet lev.Closed lev.Closed go h = refl
+
+pub right_is_quiet : (own operand : Level) → is_enclosed own operand false ≡ false → nat_le (quiet own) (quiet operand) ≡ true
+right_is_quiet lev.Quantified lev.Quantified h = refl
+right_is_quiet lev.Quantified lev.Implication h = refl
+right_is_quiet lev.Quantified lev.Junction h = refl
+right_is_quiet lev.Quantified lev.Relation h = refl
+right_is_quiet lev.Quantified lev.Reaching h = refl
+right_is_quiet lev.Quantified lev.Maplet h = refl
+right_is_quiet lev.Quantified lev.Arrow h = refl
+right_is_quiet lev.Quantified lev.SetOperator h = refl
+right_is_quiet lev.Quantified lev.Interval h = refl
+right_is_quiet lev.Quantified lev.Additive h = refl
+right_is_quiet lev.Quantified lev.Multiplicative h = refl
+right_is_quiet lev.Quantified lev.Power h = refl
+right_is_quiet lev.Quantified lev.Postfix h = refl
+right_is_quiet lev.Quantified lev.Closed h = refl
+right_is_quiet lev.Implication lev.Quantified h = cc
+right_is_quiet lev.Implication lev.Implication h = refl
+right_is_quiet lev.Implication lev.Junction h = refl
+right_is_quiet lev.Implication lev.Relation h = refl
+right_is_quiet lev.Implication lev.Reaching h = refl
+right_is_quiet lev.Implication lev.Maplet h = refl
+right_is_quiet lev.Implication lev.Arrow h = refl
+right_is_quiet lev.Implication lev.SetOperator h = refl
+right_is_quiet lev.Implication lev.Interval h = refl
+right_is_quiet lev.Implication lev.Additive h = refl
+right_is_quiet lev.Implication lev.Multiplicative h = refl
+right_is_quiet lev.Implication lev.Power h = refl
+right_is_quiet lev.Implication lev.Postfix h = refl
+right_is_quiet lev.Implication lev.Closed h = refl
+right_is_quiet lev.Junction lev.Quantified h = cc
+right_is_quiet lev.Junction lev.Implication h = cc
+right_is_quiet lev.Junction lev.Junction h = refl
+right_is_quiet lev.Junction lev.Relation h = refl
+right_is_quiet lev.Junction lev.Reaching h = refl
+right_is_quiet lev.Junction lev.Maplet h = refl
+right_is_quiet lev.Junction lev.Arrow h = refl
+right_is_quiet lev.Junction lev.SetOperator h = refl
+right_is_quiet lev.Junction lev.Interval h = refl
+right_is_quiet lev.Junction lev.Additive h = refl
+right_is_quiet lev.Junction lev.Multiplicative h = refl
+right_is_quiet lev.Junction lev.Power h = refl
+right_is_quiet lev.Junction lev.Postfix h = refl
+right_is_quiet lev.Junction lev.Closed h = refl
+right_is_quiet lev.Relation lev.Quantified h = cc
+right_is_quiet lev.Relation lev.Implication h = cc
+right_is_quiet lev.Relation lev.Junction h = refl
+right_is_quiet lev.Relation lev.Relation h = refl
+right_is_quiet lev.Relation lev.Reaching h = refl
+right_is_quiet lev.Relation lev.Maplet h = refl
+right_is_quiet lev.Relation lev.Arrow h = refl
+right_is_quiet lev.Relation lev.SetOperator h = refl
+right_is_quiet lev.Relation lev.Interval h = refl
+right_is_quiet lev.Relation lev.Additive h = refl
+right_is_quiet lev.Relation lev.Multiplicative h = refl
+right_is_quiet lev.Relation lev.Power h = refl
+right_is_quiet lev.Relation lev.Postfix h = refl
+right_is_quiet lev.Relation lev.Closed h = refl
+right_is_quiet lev.Reaching lev.Quantified h = cc
+right_is_quiet lev.Reaching lev.Implication h = cc
+right_is_quiet lev.Reaching lev.Junction h = cc
+right_is_quiet lev.Reaching lev.Relation h = cc
+right_is_quiet lev.Reaching lev.Reaching h = refl
+right_is_quiet lev.Reaching lev.Maplet h = refl
+right_is_quiet lev.Reaching lev.Arrow h = refl
+right_is_quiet lev.Reaching lev.SetOperator h = refl
+right_is_quiet lev.Reaching lev.Interval h = refl
+right_is_quiet lev.Reaching lev.Additive h = refl
+right_is_quiet lev.Reaching lev.Multiplicative h = refl
+right_is_quiet lev.Reaching lev.Power h = refl
+right_is_quiet lev.Reaching lev.Postfix h = refl
+right_is_quiet lev.Reaching lev.Closed h = refl
+right_is_quiet lev.Maplet lev.Quantified h = cc
+right_is_quiet lev.Maplet lev.Implication h = cc
+right_is_quiet lev.Maplet lev.Junction h = cc
+right_is_quiet lev.Maplet lev.Relation h = cc
+right_is_quiet lev.Maplet lev.Reaching h = cc
+right_is_quiet lev.Maplet lev.Maplet h = refl
+right_is_quiet lev.Maplet lev.Arrow h = refl
+right_is_quiet lev.Maplet lev.SetOperator h = refl
+right_is_quiet lev.Maplet lev.Interval h = refl
+right_is_quiet lev.Maplet lev.Additive h = refl
+right_is_quiet lev.Maplet lev.Multiplicative h = refl
+right_is_quiet lev.Maplet lev.Power h = refl
+right_is_quiet lev.Maplet lev.Postfix h = refl
+right_is_quiet lev.Maplet lev.Closed h = refl
+right_is_quiet lev.Arrow lev.Quantified h = cc
+right_is_quiet lev.Arrow lev.Implication h = cc
+right_is_quiet lev.Arrow lev.Junction h = cc
+right_is_quiet lev.Arrow lev.Relation h = cc
+right_is_quiet lev.Arrow lev.Reaching h = cc
+right_is_quiet lev.Arrow lev.Maplet h = cc
+right_is_quiet lev.Arrow lev.Arrow h = refl
+right_is_quiet lev.Arrow lev.SetOperator h = refl
+right_is_quiet lev.Arrow lev.Interval h = refl
+right_is_quiet lev.Arrow lev.Additive h = refl
+right_is_quiet lev.Arrow lev.Multiplicative h = refl
+right_is_quiet lev.Arrow lev.Power h = refl
+right_is_quiet lev.Arrow lev.Postfix h = refl
+right_is_quiet lev.Arrow lev.Closed h = refl
+right_is_quiet lev.SetOperator lev.Quantified h = cc
+right_is_quiet lev.SetOperator lev.Implication h = cc
+right_is_quiet lev.SetOperator lev.Junction h = cc
+right_is_quiet lev.SetOperator lev.Relation h = cc
+right_is_quiet lev.SetOperator lev.Reaching h = cc
+right_is_quiet lev.SetOperator lev.Maplet h = cc
+right_is_quiet lev.SetOperator lev.Arrow h = cc
+right_is_quiet lev.SetOperator lev.SetOperator h = refl
+right_is_quiet lev.SetOperator lev.Interval h = refl
+right_is_quiet lev.SetOperator lev.Additive h = refl
+right_is_quiet lev.SetOperator lev.Multiplicative h = refl
+right_is_quiet lev.SetOperator lev.Power h = refl
+right_is_quiet lev.SetOperator lev.Postfix h = refl
+right_is_quiet lev.SetOperator lev.Closed h = refl
+right_is_quiet lev.Interval lev.Quantified h = cc
+right_is_quiet lev.Interval lev.Implication h = cc
+right_is_quiet lev.Interval lev.Junction h = cc
+right_is_quiet lev.Interval lev.Relation h = cc
+right_is_quiet lev.Interval lev.Reaching h = cc
+right_is_quiet lev.Interval lev.Maplet h = cc
+right_is_quiet lev.Interval lev.Arrow h = cc
+right_is_quiet lev.Interval lev.SetOperator h = cc
+right_is_quiet lev.Interval lev.Interval h = refl
+right_is_quiet lev.Interval lev.Additive h = refl
+right_is_quiet lev.Interval lev.Multiplicative h = refl
+right_is_quiet lev.Interval lev.Power h = refl
+right_is_quiet lev.Interval lev.Postfix h = refl
+right_is_quiet lev.Interval lev.Closed h = refl
+right_is_quiet lev.Additive lev.Quantified h = cc
+right_is_quiet lev.Additive lev.Implication h = cc
+right_is_quiet lev.Additive lev.Junction h = cc
+right_is_quiet lev.Additive lev.Relation h = cc
+right_is_quiet lev.Additive lev.Reaching h = cc
+right_is_quiet lev.Additive lev.Maplet h = cc
+right_is_quiet lev.Additive lev.Arrow h = cc
+right_is_quiet lev.Additive lev.SetOperator h = cc
+right_is_quiet lev.Additive lev.Interval h = cc
+right_is_quiet lev.Additive lev.Additive h = refl
+right_is_quiet lev.Additive lev.Multiplicative h = refl
+right_is_quiet lev.Additive lev.Power h = refl
+right_is_quiet lev.Additive lev.Postfix h = refl
+right_is_quiet lev.Additive lev.Closed h = refl
+right_is_quiet lev.Multiplicative lev.Quantified h = cc
+right_is_quiet lev.Multiplicative lev.Implication h = cc
+right_is_quiet lev.Multiplicative lev.Junction h = cc
+right_is_quiet lev.Multiplicative lev.Relation h = cc
+right_is_quiet lev.Multiplicative lev.Reaching h = cc
+right_is_quiet lev.Multiplicative lev.Maplet h = cc
+right_is_quiet lev.Multiplicative lev.Arrow h = cc
+right_is_quiet lev.Multiplicative lev.SetOperator h = cc
+right_is_quiet lev.Multiplicative lev.Interval h = cc
+right_is_quiet lev.Multiplicative lev.Additive h = cc
+right_is_quiet lev.Multiplicative lev.Multiplicative h = refl
+right_is_quiet lev.Multiplicative lev.Power h = refl
+right_is_quiet lev.Multiplicative lev.Postfix h = refl
+right_is_quiet lev.Multiplicative lev.Closed h = refl
+right_is_quiet lev.Power lev.Quantified h = cc
+right_is_quiet lev.Power lev.Implication h = cc
+right_is_quiet lev.Power lev.Junction h = cc
+right_is_quiet lev.Power lev.Relation h = cc
+right_is_quiet lev.Power lev.Reaching h = cc
+right_is_quiet lev.Power lev.Maplet h = cc
+right_is_quiet lev.Power lev.Arrow h = cc
+right_is_quiet lev.Power lev.SetOperator h = cc
+right_is_quiet lev.Power lev.Interval h = cc
+right_is_quiet lev.Power lev.Additive h = cc
+right_is_quiet lev.Power lev.Multiplicative h = cc
+right_is_quiet lev.Power lev.Power h = refl
+right_is_quiet lev.Power lev.Postfix h = refl
+right_is_quiet lev.Power lev.Closed h = refl
+right_is_quiet lev.Postfix lev.Quantified h = cc
+right_is_quiet lev.Postfix lev.Implication h = cc
+right_is_quiet lev.Postfix lev.Junction h = cc
+right_is_quiet lev.Postfix lev.Relation h = cc
+right_is_quiet lev.Postfix lev.Reaching h = cc
+right_is_quiet lev.Postfix lev.Maplet h = cc
+right_is_quiet lev.Postfix lev.Arrow h = cc
+right_is_quiet lev.Postfix lev.SetOperator h = cc
+right_is_quiet lev.Postfix lev.Interval h = cc
+right_is_quiet lev.Postfix lev.Additive h = cc
+right_is_quiet lev.Postfix lev.Multiplicative h = cc
+right_is_quiet lev.Postfix lev.Power h = cc
+right_is_quiet lev.Postfix lev.Postfix h = refl
+right_is_quiet lev.Postfix lev.Closed h = refl
+right_is_quiet lev.Closed lev.Quantified h = cc
+right_is_quiet lev.Closed lev.Implication h = cc
+right_is_quiet lev.Closed lev.Junction h = cc
+right_is_quiet lev.Closed lev.Relation h = cc
+right_is_quiet lev.Closed lev.Reaching h = cc
+right_is_quiet lev.Closed lev.Maplet h = cc
+right_is_quiet lev.Closed lev.Arrow h = cc
+right_is_quiet lev.Closed lev.SetOperator h = cc
+right_is_quiet lev.Closed lev.Interval h = cc
+right_is_quiet lev.Closed lev.Additive h = cc
+right_is_quiet lev.Closed lev.Multiplicative h = cc
+right_is_quiet lev.Closed lev.Power h = cc
+right_is_quiet lev.Closed lev.Postfix h = refl
+right_is_quiet lev.Closed lev.Closed h = refl
+
+pub goes_on_chained : (o : Op) (s : Side) (x : Formula) → ((left : Op) → is_same_connective o left ≡ false) → is_chained (level_of o) ≡ false → goes_on_left o s x ≡ false
+goes_on_chained o side.Right f alone h = refl
+goes_on_chained o side.Left f alone h = go (out-Formula f)
+  where
+    go : (x : Formula-F Formula) → goes_on_at o x ≡ false
+    go (Node left parts t) = (λ i. alone left i || (h i && not (is_negative left)))
+    go _ = refl
+
+pub left_of_implication : (x : Formula-F Formula) → nat_lt 3 (rank (grade_at x)) ≡ false → is_enclosed lev.Implication (formula_level_at x) (goes_on_at op.Implies x) ≡ false → takes_left sort.Implication (grade_at x) ≡ true
+left_of_implication (Int n) e h = cc
+left_of_implication (Free m t) e h = cc
+left_of_implication (Bound i t) e h = cc
+left_of_implication (Node o parts t) e h = go o e h
+  where
+    go : (o : Op) → nat_lt 3 (rank (operator_grade o)) ≡ false → is_enclosed lev.Implication (level_of o) (goes_on_at op.Implies (Node o parts t)) ≡ false → takes_left sort.Implication (operator_grade o) ≡ true
+    go op.Top e h = refl
+    go op.Bottom e h = refl
+    go op.Not e h = refl
+    go op.And e h = refl
+    go op.Or e h = refl
+    go op.Implies e h = cc
+    go op.Equivalent e h = cc
+    go op.Equal e h = refl
+    go op.Member e h = refl
+    go op.ProperSubset e h = refl
+    go op.Subset e h = refl
+    go op.Less e h = refl
+    go op.LessOrEqual e h = refl
+    go op.Finite e h = refl
+    go _ e h = cc
+left_of_implication (Bind b types parts t) e h = go b e h
+  where
+    go : (b : Binder) → nat_lt 3 (rank (binder_grade b)) ≡ false → is_enclosed lev.Implication (formula_level_at (Bind b types parts t)) (goes_on_at op.Implies (Bind b types parts t)) ≡ false → takes_left sort.Implication (binder_grade b) ≡ true
+    go binder.ForAll e h = cc
+    go binder.Exists e h = cc
+    go binder.Comprehension e h = cc
+    go binder.QuantifiedUnion e h = cc
+    go binder.QuantifiedIntersection e h = cc
+
+pub left_of_equivalence : (x : Formula-F Formula) → nat_lt 3 (rank (grade_at x)) ≡ false → is_enclosed lev.Implication (formula_level_at x) (goes_on_at op.Equivalent x) ≡ false → takes_left sort.Implication (grade_at x) ≡ true
+left_of_equivalence (Int n) e h = cc
+left_of_equivalence (Free m t) e h = cc
+left_of_equivalence (Bound i t) e h = cc
+left_of_equivalence (Node o parts t) e h = go o e h
+  where
+    go : (o : Op) → nat_lt 3 (rank (operator_grade o)) ≡ false → is_enclosed lev.Implication (level_of o) (goes_on_at op.Equivalent (Node o parts t)) ≡ false → takes_left sort.Implication (operator_grade o) ≡ true
+    go op.Top e h = refl
+    go op.Bottom e h = refl
+    go op.Not e h = refl
+    go op.And e h = refl
+    go op.Or e h = refl
+    go op.Implies e h = cc
+    go op.Equivalent e h = cc
+    go op.Equal e h = refl
+    go op.Member e h = refl
+    go op.ProperSubset e h = refl
+    go op.Subset e h = refl
+    go op.Less e h = refl
+    go op.LessOrEqual e h = refl
+    go op.Finite e h = refl
+    go _ e h = cc
+left_of_equivalence (Bind b types parts t) e h = go b e h
+  where
+    go : (b : Binder) → nat_lt 3 (rank (binder_grade b)) ≡ false → is_enclosed lev.Implication (formula_level_at (Bind b types parts t)) (goes_on_at op.Equivalent (Bind b types parts t)) ≡ false → takes_left sort.Implication (binder_grade b) ≡ true
+    go binder.ForAll e h = cc
+    go binder.Exists e h = cc
+    go binder.Comprehension e h = cc
+    go binder.QuantifiedUnion e h = cc
+    go binder.QuantifiedIntersection e h = cc
+
+pub left_of_and : (x : Formula-F Formula) → nat_lt 3 (rank (grade_at x)) ≡ false → is_enclosed lev.Junction (formula_level_at x) (goes_on_at op.And x) ≡ false → takes_left sort.Conjunction (grade_at x) ≡ true
+left_of_and (Int n) e h = cc
+left_of_and (Free m t) e h = cc
+left_of_and (Bound i t) e h = cc
+left_of_and (Node o parts t) e h = go o e h
+  where
+    go : (o : Op) → nat_lt 3 (rank (operator_grade o)) ≡ false → is_enclosed lev.Junction (level_of o) (goes_on_at op.And (Node o parts t)) ≡ false → takes_left sort.Conjunction (operator_grade o) ≡ true
+    go op.Top e h = refl
+    go op.Bottom e h = refl
+    go op.Not e h = refl
+    go op.And e h = refl
+    go op.Or e h = cc
+    go op.Implies e h = cc
+    go op.Equivalent e h = cc
+    go op.Equal e h = refl
+    go op.Member e h = refl
+    go op.ProperSubset e h = refl
+    go op.Subset e h = refl
+    go op.Less e h = refl
+    go op.LessOrEqual e h = refl
+    go op.Finite e h = refl
+    go _ e h = cc
+left_of_and (Bind b types parts t) e h = go b e h
+  where
+    go : (b : Binder) → nat_lt 3 (rank (binder_grade b)) ≡ false → is_enclosed lev.Junction (formula_level_at (Bind b types parts t)) (goes_on_at op.And (Bind b types parts t)) ≡ false → takes_left sort.Conjunction (binder_grade b) ≡ true
+    go binder.ForAll e h = cc
+    go binder.Exists e h = cc
+    go binder.Comprehension e h = cc
+    go binder.QuantifiedUnion e h = cc
+    go binder.QuantifiedIntersection e h = cc
+
+pub left_of_or : (x : Formula-F Formula) → nat_lt 3 (rank (grade_at x)) ≡ false → is_enclosed lev.Junction (formula_level_at x) (goes_on_at op.Or x) ≡ false → takes_left sort.Disjunction (grade_at x) ≡ true
+left_of_or (Int n) e h = cc
+left_of_or (Free m t) e h = cc
+left_of_or (Bound i t) e h = cc
+left_of_or (Node o parts t) e h = go o e h
+  where
+    go : (o : Op) → nat_lt 3 (rank (operator_grade o)) ≡ false → is_enclosed lev.Junction (level_of o) (goes_on_at op.Or (Node o parts t)) ≡ false → takes_left sort.Disjunction (operator_grade o) ≡ true
+    go op.Top e h = refl
+    go op.Bottom e h = refl
+    go op.Not e h = refl
+    go op.And e h = cc
+    go op.Or e h = refl
+    go op.Implies e h = cc
+    go op.Equivalent e h = cc
+    go op.Equal e h = refl
+    go op.Member e h = refl
+    go op.ProperSubset e h = refl
+    go op.Subset e h = refl
+    go op.Less e h = refl
+    go op.LessOrEqual e h = refl
+    go op.Finite e h = refl
+    go _ e h = cc
+left_of_or (Bind b types parts t) e h = go b e h
+  where
+    go : (b : Binder) → nat_lt 3 (rank (binder_grade b)) ≡ false → is_enclosed lev.Junction (formula_level_at (Bind b types parts t)) (goes_on_at op.Or (Bind b types parts t)) ≡ false → takes_left sort.Disjunction (binder_grade b) ≡ true
+    go binder.ForAll e h = cc
+    go binder.Exists e h = cc
+    go binder.Comprehension e h = cc
+    go binder.QuantifiedUnion e h = cc
+    go binder.QuantifiedIntersection e h = cc
+
+pub right_of_implication : (x : Formula-F Formula) → nat_lt 3 (rank (grade_at x)) ≡ false → is_enclosed lev.Implication (formula_level_at x) false ≡ false → fits hole.Junction (grade_at x) ≡ true
+right_of_implication (Int n) e h = cc
+right_of_implication (Free m t) e h = cc
+right_of_implication (Bound i t) e h = cc
+right_of_implication (Node o parts t) e h = go o e h
+  where
+    go : (o : Op) → nat_lt 3 (rank (operator_grade o)) ≡ false → is_enclosed lev.Implication (level_of o) false ≡ false → fits hole.Junction (operator_grade o) ≡ true
+    go op.Top e h = refl
+    go op.Bottom e h = refl
+    go op.Not e h = refl
+    go op.And e h = refl
+    go op.Or e h = refl
+    go op.Implies e h = cc
+    go op.Equivalent e h = cc
+    go op.Equal e h = refl
+    go op.Member e h = refl
+    go op.ProperSubset e h = refl
+    go op.Subset e h = refl
+    go op.Less e h = refl
+    go op.LessOrEqual e h = refl
+    go op.Finite e h = refl
+    go _ e h = cc
+right_of_implication (Bind b types parts t) e h = go b e h
+  where
+    go : (b : Binder) → nat_lt 3 (rank (binder_grade b)) ≡ false → is_enclosed lev.Implication (formula_level_at (Bind b types parts t)) false ≡ false → fits hole.Junction (binder_grade b) ≡ true
+    go binder.ForAll e h = cc
+    go binder.Exists e h = cc
+    go binder.Comprehension e h = cc
+    go binder.QuantifiedUnion e h = cc
+    go binder.QuantifiedIntersection e h = cc
+
+pub right_of_junction : (x : Formula-F Formula) → nat_lt 3 (rank (grade_at x)) ≡ false → is_enclosed lev.Junction (formula_level_at x) false ≡ false → fits hole.Literal (grade_at x) ≡ true
+right_of_junction (Int n) e h = cc
+right_of_junction (Free m t) e h = cc
+right_of_junction (Bound i t) e h = cc
+right_of_junction (Node o parts t) e h = go o e h
+  where
+    go : (o : Op) → nat_lt 3 (rank (operator_grade o)) ≡ false → is_enclosed lev.Junction (level_of o) false ≡ false → fits hole.Literal (operator_grade o) ≡ true
+    go op.Top e h = refl
+    go op.Bottom e h = refl
+    go op.Not e h = refl
+    go op.And e h = cc
+    go op.Or e h = cc
+    go op.Implies e h = cc
+    go op.Equivalent e h = cc
+    go op.Equal e h = refl
+    go op.Member e h = refl
+    go op.ProperSubset e h = refl
+    go op.Subset e h = refl
+    go op.Less e h = refl
+    go op.LessOrEqual e h = refl
+    go op.Finite e h = refl
+    go _ e h = cc
+right_of_junction (Bind b types parts t) e h = go b e h
+  where
+    go : (b : Binder) → nat_lt 3 (rank (binder_grade b)) ≡ false → is_enclosed lev.Junction (formula_level_at (Bind b types parts t)) false ≡ false → fits hole.Literal (binder_grade b) ≡ true
+    go binder.ForAll e h = cc
+    go binder.Exists e h = cc
+    go binder.Comprehension e h = cc
+    go binder.QuantifiedUnion e h = cc
+    go binder.QuantifiedIntersection e h = cc
+
