@@ -123,7 +123,7 @@ module _ (names : List (List ℕ)) (named : (i : ℕ) → i < length names → i
       let P : Formula-F Formula → List Item → List Item → Raw → Type 0 = λ x s u t. IsReadAt x s u t in
       let q : IsReadAt (out-Formula f) (items names f false d) (items names f true d) (written names f d)
       = subst (λ x. P x (items names f false d) (items names f true d) (written names f d)) (back e)
-        (subst (λ s. P x s (items names f true d) (written names f d)) (back es) (subst (λ u. P x s u (written names f d)) (back eu) (subst (λ t. P x s u t) (back et) r))) in
+      (subst (λ s. P x s (items names f true d) (written names f d)) (back es) (subst (λ u. P x s u (written names f d)) (back eu) (subst (λ t. P x s u t) (back et) r))) in
       record { sorted = q.sorted; starts = q.starts; plain = q.plain; denied_too = q.denied_too }
 
   items-at : (x : Formula-F Formula) (f : Formula) → roll-Formula x ≡ f → (denied : Bool) (d : ℕ) → items names f denied d ≡ items_step names (map-Formula Formula Part (λ y. (y, items names y)) x) denied d
@@ -205,7 +205,7 @@ module _ (names : List (List ℕ)) (named : (i : ℕ) → i < length names → i
         let P : List Item → Type 0 = λ l. Body None binding.Set [] l (written names p deep ∷ written names e deep ∷ []) rest in
         let whole : P (body_tokens p deep ++ (bar ∷ (body_tokens e deep ++ (close_brace ∷ rest))))
         = a_value refl (rp.plain (bar ∷ (body_tokens e deep ++ (close_brace ∷ rest))) (zero_le (quiet (formula_level p)))) (fits_predicate (grade_of p) (rp.sorted ∙ v))
-          (up_to_brace refl (re.plain (close_brace ∷ rest) (zero_le (quiet (formula_level e)))) (fits_value (grade_of e) (re.sorted ∙ u))) in
+        (up_to_brace refl (re.plain (close_brace ∷ rest) (zero_le (quiet (formula_level e)))) (fits_value (grade_of e) (re.sorted ∙ u))) in
         subst P (back (append_assoc (body_tokens p deep) (bar ∷ body_tokens e deep) (close_brace ∷ rest)) ∙ back (append_assoc (body_tokens p deep ++ (bar ∷ body_tokens e deep)) (close_brace ∷ []) rest)) whole
 
     -- or as far as it reaches
@@ -216,7 +216,7 @@ module _ (names : List (List ℕ)) (named : (i : ℕ) → i < length names → i
         let g : nat_lt 3 (rank (grade_of e)) ≡ true = re.sorted ∙ u in
         let whole : P (body_tokens p deep ++ (bar ∷ (body_tokens e deep ++ rest)))
         = a_value refl (rp.plain (bar ∷ (body_tokens e deep ++ rest)) (zero_le (quiet (formula_level p)))) (fits_predicate (grade_of p) (rp.sorted ∙ v))
-          (reaching refl (re.plain rest (quieter 3 (quiet (formula_level e)) rest (quiet_at (out-Formula e) g) q)) (fits_value (grade_of e) g) (ends hole.Expression (grade_of e) 3 rest refl q)) in
+        (reaching refl (re.plain rest (quieter 3 (quiet (formula_level e)) rest (quiet_at (out-Formula e) g) q)) (fits_value (grade_of e) g) (ends hole.Expression (grade_of e) 3 rest refl q)) in
         subst P (back (append_assoc (body_tokens p deep) (bar ∷ body_tokens e deep) rest) ∙ ap (λ l. l ++ rest) (back (append-nil (body_tokens p deep ++ (bar ∷ body_tokens e deep))))) whole
 
     abbrev bind_tree : Binder → List Ty → List Formula → Raw
@@ -244,7 +244,7 @@ module _ (names : List (List ℕ)) (named : (i : ℕ) → i < length names → i
       starts = bind_starts b types parts;
       plain = plain;
       denied_too = λ h. let P : Raw → Type 0 = λ r. Whole 2 grade.Literal (bind_denied b types parts) r in
-        subst P (back (bind_denies b types parts)) (negated_form (quiet (formula_level_at (BindF b types parts t))) (binder_grade b) (bind_tokens b types parts) (bind_tree b types parts) plain g);
+          subst P (back (bind_denies b types parts)) (negated_form (quiet (formula_level_at (BindF b types parts t))) (binder_grade b) (bind_tokens b types parts) (bind_tree b types parts) plain g);
     }
 
     valued : (b : Binder) (types : List Ty) (parts : List Formula) (t : Ty) → nat_lt 3 (rank (binder_grade b)) ≡ true → is_value_type t ≡ true → Whole (quiet (formula_level_at (BindF b types parts t))) (binder_grade b) (bind_tokens b types parts) (bind_tree b types parts)
@@ -271,35 +271,35 @@ module _ (names : List (List ℕ)) (named : (i : ℕ) → i < length names → i
         → AllByRecursion (IsRead names (d + length (t0 ∷ types))) parts → BindRead b (t0 ∷ types) t parts
     bind_reads binder.ForAll t0 types parts t read all few is inner = with_predicate (BindRead binder.ForAll (t0 ∷ types) t) (d + length (t0 ∷ types)) parts is.operands_are inner
         (λ p rp v.
-            quantified binder.ForAll (t0 ∷ types) (p ∷ []) t refl is.whole_is
-            (λ rest q. names_form (binding.Quantified binder.ForAll) (binder_symbol_of binder.ForAll) (binder_sign_of binder.ForAll) refl refl t0 types read all few (body_tokens p (d + length (t0 ∷ types)) ++ []) rest
-            (written names p (d + length (t0 ∷ types)) ∷ []) (predicate_body binder.ForAll (d + length (t0 ∷ types)) p rp v rest q)))
+        quantified binder.ForAll (t0 ∷ types) (p ∷ []) t refl is.whole_is
+        (λ rest q. names_form (binding.Quantified binder.ForAll) (binder_symbol_of binder.ForAll) (binder_sign_of binder.ForAll) refl refl t0 types read all few (body_tokens p (d + length (t0 ∷ types)) ++ []) rest
+        (written names p (d + length (t0 ∷ types)) ∷ []) (predicate_body binder.ForAll (d + length (t0 ∷ types)) p rp v rest q)))
     bind_reads binder.Exists t0 types parts t read all few is inner = with_predicate (BindRead binder.Exists (t0 ∷ types) t) (d + length (t0 ∷ types)) parts is.operands_are inner
         (λ p rp v.
-            quantified binder.Exists (t0 ∷ types) (p ∷ []) t refl is.whole_is
-            (λ rest q. names_form (binding.Quantified binder.Exists) (binder_symbol_of binder.Exists) (binder_sign_of binder.Exists) refl refl t0 types read all few (body_tokens p (d + length (t0 ∷ types)) ++ []) rest
-            (written names p (d + length (t0 ∷ types)) ∷ []) (predicate_body binder.Exists (d + length (t0 ∷ types)) p rp v rest q)))
+        quantified binder.Exists (t0 ∷ types) (p ∷ []) t refl is.whole_is
+        (λ rest q. names_form (binding.Quantified binder.Exists) (binder_symbol_of binder.Exists) (binder_sign_of binder.Exists) refl refl t0 types read all few (body_tokens p (d + length (t0 ∷ types)) ++ []) rest
+        (written names p (d + length (t0 ∷ types)) ∷ []) (predicate_body binder.Exists (d + length (t0 ∷ types)) p rp v rest q)))
     bind_reads binder.Comprehension t0 types parts t read all few is inner =
         with_value (BindRead binder.Comprehension (t0 ∷ types) t) (d + length (t0 ∷ types)) (type_at is.letters alpha) (values_at is.letters is.values alpha refl) parts is.operands_are inner
         (λ p e rp re v u.
-            valued binder.Comprehension (t0 ∷ types) (p ∷ e ∷ []) t refl (ap is_value_type is.whole_is ∙ values_at is.letters is.values (power alpha) refl)
-            (λ rest q. names_form binding.Set (binder_symbol_of binder.Comprehension) (binder_sign_of binder.Comprehension) refl refl t0 types read all few
-            ((body_tokens p (d + length (t0 ∷ types)) ++ (bar ∷ body_tokens e (d + length (t0 ∷ types)))) ++ (close_brace ∷ [])) rest
-            (written names p (d + length (t0 ∷ types)) ∷ written names e (d + length (t0 ∷ types)) ∷ []) (set_body (d + length (t0 ∷ types)) p e rp re v u rest)))
+        valued binder.Comprehension (t0 ∷ types) (p ∷ e ∷ []) t refl (ap is_value_type is.whole_is ∙ values_at is.letters is.values (power alpha) refl)
+        (λ rest q. names_form binding.Set (binder_symbol_of binder.Comprehension) (binder_sign_of binder.Comprehension) refl refl t0 types read all few
+        ((body_tokens p (d + length (t0 ∷ types)) ++ (bar ∷ body_tokens e (d + length (t0 ∷ types)))) ++ (close_brace ∷ [])) rest
+        (written names p (d + length (t0 ∷ types)) ∷ written names e (d + length (t0 ∷ types)) ∷ []) (set_body (d + length (t0 ∷ types)) p e rp re v u rest)))
     bind_reads binder.QuantifiedUnion t0 types parts t read all few is inner =
         with_value (BindRead binder.QuantifiedUnion (t0 ∷ types) t) (d + length (t0 ∷ types)) (type_at is.letters (power alpha)) (values_at is.letters is.values (power alpha) refl) parts is.operands_are inner
         (λ p e rp re v u.
-            valued binder.QuantifiedUnion (t0 ∷ types) (p ∷ e ∷ []) t refl (ap is_value_type is.whole_is ∙ values_at is.letters is.values (power alpha) refl)
-            (λ rest q. names_form (binding.Reaching binder.QuantifiedUnion) (binder_symbol_of binder.QuantifiedUnion) (binder_sign_of binder.QuantifiedUnion) refl refl t0 types read all few
-            ((body_tokens p (d + length (t0 ∷ types)) ++ (bar ∷ body_tokens e (d + length (t0 ∷ types)))) ++ []) rest
-            (written names p (d + length (t0 ∷ types)) ∷ written names e (d + length (t0 ∷ types)) ∷ []) (reaching_body binder.QuantifiedUnion (d + length (t0 ∷ types)) p e rp re v u rest q)))
+        valued binder.QuantifiedUnion (t0 ∷ types) (p ∷ e ∷ []) t refl (ap is_value_type is.whole_is ∙ values_at is.letters is.values (power alpha) refl)
+        (λ rest q. names_form (binding.Reaching binder.QuantifiedUnion) (binder_symbol_of binder.QuantifiedUnion) (binder_sign_of binder.QuantifiedUnion) refl refl t0 types read all few
+        ((body_tokens p (d + length (t0 ∷ types)) ++ (bar ∷ body_tokens e (d + length (t0 ∷ types)))) ++ []) rest
+        (written names p (d + length (t0 ∷ types)) ∷ written names e (d + length (t0 ∷ types)) ∷ []) (reaching_body binder.QuantifiedUnion (d + length (t0 ∷ types)) p e rp re v u rest q)))
     bind_reads binder.QuantifiedIntersection t0 types parts t read all few is inner =
         with_value (BindRead binder.QuantifiedIntersection (t0 ∷ types) t) (d + length (t0 ∷ types)) (type_at is.letters (power alpha)) (values_at is.letters is.values (power alpha) refl) parts is.operands_are inner
         (λ p e rp re v u.
-            valued binder.QuantifiedIntersection (t0 ∷ types) (p ∷ e ∷ []) t refl (ap is_value_type is.whole_is ∙ values_at is.letters is.values (power alpha) refl)
-            (λ rest q. names_form (binding.Reaching binder.QuantifiedIntersection) (binder_symbol_of binder.QuantifiedIntersection) (binder_sign_of binder.QuantifiedIntersection) refl refl t0 types read all few
-            ((body_tokens p (d + length (t0 ∷ types)) ++ (bar ∷ body_tokens e (d + length (t0 ∷ types)))) ++ []) rest
-            (written names p (d + length (t0 ∷ types)) ∷ written names e (d + length (t0 ∷ types)) ∷ []) (reaching_body binder.QuantifiedIntersection (d + length (t0 ∷ types)) p e rp re v u rest q)))
+        valued binder.QuantifiedIntersection (t0 ∷ types) (p ∷ e ∷ []) t refl (ap is_value_type is.whole_is ∙ values_at is.letters is.values (power alpha) refl)
+        (λ rest q. names_form (binding.Reaching binder.QuantifiedIntersection) (binder_symbol_of binder.QuantifiedIntersection) (binder_sign_of binder.QuantifiedIntersection) refl refl t0 types read all few
+        ((body_tokens p (d + length (t0 ∷ types)) ++ (bar ∷ body_tokens e (d + length (t0 ∷ types)))) ++ []) rest
+        (written names p (d + length (t0 ∷ types)) ∷ written names e (d + length (t0 ∷ types)) ∷ []) (reaching_body binder.QuantifiedIntersection (d + length (t0 ∷ types)) p e rp re v u rest q)))
 
     bind_any : (b : Binder) (types : List Ty) (parts : List Formula) (t : Ty) → may_be_bound types ≡ true → AreTypesRead types → d + length types ≤ length names → IsInstance (part_schemes b) (binder_scheme b) (map type_of parts) t
         → AllByRecursion (IsRead names (d + length types)) parts → BindRead b types t parts
@@ -319,11 +319,11 @@ module _ (names : List (List ℕ)) (named : (i : ℕ) → i < length names → i
       let front : AreNames (joined (map carriers types) ++ joined (map identifiers parts)) = all_left (λ x. is_name x.0 ≡ true) (joined (map carriers types) ++ joined (map identifiers parts)) (carriers t) split in
       let inner : AllByRecursion (IsRead names (length deeper)) parts
       = each deeper (all_append (reverse types) bound (all_reverse types typed_values) values) parts all (omega (arith, deepest-Bind b types parts t, few, deep))
-        (second_true (may_be_bound types && binder_fits b (map type_of parts) t) _ tests) (all_right (λ x. is_name x.0 ≡ true) (joined (map carriers types)) (joined (map identifiers parts)) front) in
+      (second_true (may_be_bound types && binder_fits b (map type_of parts) t) _ tests) (all_right (λ x. is_name x.0 ≡ true) (joined (map carriers types)) (joined (map identifiers parts)) front) in
       let Q : ℕ → Type 0 = λ k. AllByRecursion (IsRead names k) parts in
       let read : IsReadAt (BindF b types parts t) (bind_tokens d b types parts) (bind_denied d b types parts) (bind_tree d b types parts)
       = bind_any d b types parts t may (types_read types typed_values (all_left (λ x. is_name x.0 ≡ true) (joined (map carriers types)) (joined (map identifiers parts)) front)) (omega (arith, deepest-Bind b types parts t, few))
-        ((binder_fits_exactly b (map type_of parts) t).0 (second_true (may_be_bound types) _ head)) (subst Q deep inner) in
+      ((binder_fits_exactly b (map type_of parts) t).0 (second_true (may_be_bound types) _ head)) (subst Q deep inner) in
       to_read d (Bind b types parts t) (BindF b types parts t) _ _ _ (outs-Bind b types parts t) (items-at (BindF b types parts t) (Bind b types parts t) (rolls-Bind b types parts t) false d)
       (items-at (BindF b types parts t) (Bind b types parts t) (rolls-Bind b types parts t) true d) (written-at (BindF b types parts t) (Bind b types parts t) (rolls-Bind b types parts t) d) read
 
@@ -362,7 +362,7 @@ spelled f well names counted =
     let keep : List ℕ → Bool = λ name. not (list_any (bytes_eq name) taken) in
     let inside : AllByRecursion (λ name. is_name name ≡ true) (bound_names f)
     = all_take (λ name. is_name name ≡ true) (deepest f) (filter keep (numbered_names 1 (deepest f + length taken)))
-      (all_filter (λ name. is_name name ≡ true) keep (numbered_names 1 (deepest f + length taken)) (numbered_are_names 1 (deepest f + length taken) (omega (arith, small)))) in
+    (all_filter (λ name. is_name name ≡ true) keep (numbered_names 1 (deepest f + length taken)) (numbered_are_names 1 (deepest f + length taken) (omega (arith, small)))) in
     let r : IsRead (bound_names f) 0 f = reads_back (bound_names f) (λ i short. all_at (λ name. is_name name ≡ true) (bound_names f) i short inside) f [] tt (omega (arith, are_fresh.enough)) well names in
     let P : List Item → Type 0 = λ s. Reads None (grade_of f) s (raw_of f) [] in
     record { g = grade_of f; reads = subst P (append-nil (items_of_formula f)) (r.plain [] tt); fit = fits_place (grade_of f) (is_value_type (type_of f)) r.sorted }

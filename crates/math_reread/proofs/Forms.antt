@@ -86,15 +86,15 @@ module _ (names : List (List ℕ)) (d : ℕ) (o : Op) (i : IsConnective o) where
       let after : List Item = sign_token o ∷ (right_items b ++ rest) in
       let first : Reads None ga (left_items a ++ after) (written names a d) after
       = rounded na (quiet (formula_level a)) (grade_of a) (items names a false d) (written names a d) ra.plain after (λ e.
-          le_through (top (symbol_of o)) (sign_rank (level_of o)) (quiet (formula_level a)) i.reached
-          (left_is_quiet (level_of o) (formula_level a) (goes_on_left o side.Left a) (back (needed side.Left a) ∙ e))) in
+      le_through (top (symbol_of o)) (sign_rank (level_of o)) (quiet (formula_level a)) i.reached
+      (left_is_quiet (level_of o) (formula_level a) (goes_on_left o side.Left a) (back (needed side.Left a) ∙ e))) in
       let second : Reads None gb (right_items b ++ rest) (written names b d) rest
       = rounded nb (quiet (formula_level b)) (grade_of b) (items names b false d) (written names b d) rb.plain rest (λ e.
-          quieter (quiet (level_of o)) (quiet (formula_level b)) rest (right_is_quiet (level_of o) (formula_level b) (back (needed side.Right b) ∙ e)) q) in
+      quieter (quiet (level_of o)) (quiet (formula_level b)) rest (right_is_quiet (level_of o) (formula_level b) (back (needed side.Right b) ∙ e)) q) in
       let whole : Reads None (level i.l ga) ((left_items a ++ (sign_token o ∷ right_items b)) ++ rest) (between (rawop.Plain o) (written names a d) (written names b d)) rest
       = infix_form i.l (rawop.Plain o) (symbol_of o) (sign_of o) ga gb (left_items a) (right_items b) rest (written names a d) (written names b d) i.sign
-        (left_takes a (ra.sorted ∙ va) na (back (needed side.Left a))) (right_fits b (rb.sorted ∙ vb) nb (back (needed side.Right b)))
-        (ends (right_of i.l) gb (quiet (level_of o)) rest i.calm q) first second in
+      (left_takes a (ra.sorted ∙ va) na (back (needed side.Left a))) (right_fits b (rb.sorted ∙ vb) nb (back (needed side.Right b)))
+      (ends (right_of i.l) gb (quiet (level_of o)) rest i.calm q) first second in
       let tree : between (rawop.Plain o) (written names a d) (written names b d) ≡ operator_raw o (written names a d ∷ written names b d ∷ []) t
       = ap (raw.Node (rawop.Plain o) (written names a d ∷ written names b d ∷ [])) ra.starts ∙ back (i.tree (written names a d) (written names b d) t) in
       let P : Grade → List Item → Raw → Type 0 = λ g s r. Reads None g (s ++ rest) r rest in
@@ -150,8 +150,8 @@ module _ (names : List (List ℕ)) (d : ℕ) where
       let after : List Item = item x 0 w ∷ (own b ++ rest) in
       let whole : Reads None grade.Literal ((own a ++ (item x 0 w ∷ own b)) ++ rest) (between o (written names a d) (written names b d)) rest
       = infix_form sort.Relation o x w (grade_of a) (grade_of b) (own a) (own b) rest (written names a d) (written names b d) is (takes_value (grade_of a) ea) (fits_value (grade_of b) eb)
-        (ends hole.Expression (grade_of b) 2 rest refl q) (ra.plain after (ap (λ k. nat_le k (quiet (formula_level a))) three ∙ quiet_at (out-Formula a) ea))
-        (rb.plain rest (quieter 2 (quiet (formula_level b)) rest (le_through 2 3 (quiet (formula_level b)) refl (quiet_at (out-Formula b) eb)) q)) in
+      (ends hole.Expression (grade_of b) 2 rest refl q) (ra.plain after (ap (λ k. nat_le k (quiet (formula_level a))) three ∙ quiet_at (out-Formula a) ea))
+      (rb.plain rest (quieter 2 (quiet (formula_level b)) rest (le_through 2 3 (quiet (formula_level b)) refl (quiet_at (out-Formula b) eb)) q)) in
       let P : ℕ → Type 0 = λ p. Reads None grade.Literal ((own a ++ (item x 0 w ∷ own b)) ++ rest) (raw.Node o (written names a d ∷ written names b d ∷ []) p) rest in
       subst P ra.starts whole
 
@@ -186,8 +186,8 @@ module _ (names : List (List ℕ)) (d : ℕ) where
       → Reads None (round_grade (needs_parentheses o side.Left a) (grade_of a)) (operand_items o side.Left (a, items names a) d ++ (x ∷ m)) (written names a d) (x ∷ m)
   before_suffix o is plain a ra x m low =
       rounded (needs_parentheses o side.Left a) (quiet (formula_level a)) (grade_of a) (own a) (written names a d) ra.plain (x ∷ m) (λ e.
-          le_through (top x.symbol) 14 (quiet (formula_level a)) low
-          (ap (λ l. nat_le (sign_rank l) (quiet (formula_level a))) (back is) ∙ left_is_quiet (level_of o) (formula_level a) (goes_on_left o side.Left a) (ap (λ f. f a) (back plain) ∙ e)))
+      le_through (top x.symbol) 14 (quiet (formula_level a)) low
+      (ap (λ l. nat_le (sign_rank l) (quiet (formula_level a))) (back is) ∙ left_is_quiet (level_of o) (formula_level a) (goes_on_left o side.Left a) (ap (λ f. f a) (back plain) ∙ e)))
 
   pub converse_reads : (a : Formula) → IsRead names d a → is_value_type (type_of a) ≡ true
       → Whole 14 grade.Suffixed (operand_items op.Converse side.Left (a, items names a) d ++ (sign_token op.Converse ∷ [])) (raw.Node (rawop.Plain op.Converse) (written names a d ∷ []) 0)

@@ -132,15 +132,15 @@ module _ (names : List (List ℕ)) (d : ℕ) (o : Op) (i : IsInfix o) where
       let after : List Item = sign_token o ∷ (right_items b ++ rest) in
       let first : Reads None ga (left_items a ++ after) (written names a d) after
       = rounded na (quiet (formula_level a)) (grade_of a) (items names a false d) (written names a d) ra.plain after (λ e.
-          le_through (top (symbol_of o)) (sign_rank (level_of o)) (quiet (formula_level a)) i.reached
-          (left_is_quiet (level_of o) (formula_level a) (goes_on_left o side.Left a) (back (needed side.Left a) ∙ e))) in
+      le_through (top (symbol_of o)) (sign_rank (level_of o)) (quiet (formula_level a)) i.reached
+      (left_is_quiet (level_of o) (formula_level a) (goes_on_left o side.Left a) (back (needed side.Left a) ∙ e))) in
       let second : Reads None gb (right_items b ++ rest) (written names b d) rest
       = rounded nb (quiet (formula_level b)) (grade_of b) (items names b false d) (written names b d) rb.plain rest (λ e.
-          quieter (quiet (level_of o)) (quiet (formula_level b)) rest (right_is_quiet (level_of o) (formula_level b) (back (needed side.Right b) ∙ e)) q) in
+      quieter (quiet (level_of o)) (quiet (formula_level b)) rest (right_is_quiet (level_of o) (formula_level b) (back (needed side.Right b) ∙ e)) q) in
       let whole : Reads None (level i.l ga) ((left_items a ++ (sign_token o ∷ right_items b)) ++ rest) (between (rawop.Plain o) (written names a d) (written names b d)) rest
       = infix_form i.l (rawop.Plain o) (symbol_of o) (sign_of o) ga gb (left_items a) (right_items b) rest (written names a d) (written names b d) i.sign
-        (left_takes a (ra.sorted ∙ va) na (back (needed side.Left a))) (right_fits b (rb.sorted ∙ vb) nb (back (needed side.Right b)))
-        (ends (right_of i.l) gb (quiet (level_of o)) rest i.calm q) first second in
+      (left_takes a (ra.sorted ∙ va) na (back (needed side.Left a))) (right_fits b (rb.sorted ∙ vb) nb (back (needed side.Right b)))
+      (ends (right_of i.l) gb (quiet (level_of o)) rest i.calm q) first second in
       let tree : between (rawop.Plain o) (written names a d) (written names b d) ≡ operator_raw o (written names a d ∷ written names b d ∷ []) t
       = ap (raw.Node (rawop.Plain o) (written names a d ∷ written names b d ∷ [])) ra.starts ∙ back (i.tree (written names a d) (written names b d) t) in
       let P : Grade → List Item → Raw → Type 0 = λ g s r. Reads None g (s ++ rest) r rest in
@@ -242,4 +242,3 @@ infix-Power = record { l = sort.Power; r = binary.Arithmetic; its_row = refl; fi
 
 pub infix-Minus : IsInfix op.Minus
 infix-Minus = record { l = sort.Additive; r = binary.Arithmetic; its_row = refl; first = refl; second = refl; result = refl; of_value = refl; graded = λ g. refl; sign = refl; agreeing = λ g. refl; left = refl; left_grouped = refl; right = refl; right_grouped = refl; all = refl; calm = refl; reached = refl; unrelated = refl; alone = λ left. refl; tokens = λ a b t d. refl; tree = λ a b t. refl }
-

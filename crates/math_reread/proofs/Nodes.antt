@@ -188,8 +188,8 @@ module _ (names : List (List ℕ)) (d : ℕ) where
     starts = starts;
     plain = plain;
     denied_too = λ h. let s : List Item = not_sign ∷ open_round ∷ (operator_items o (sign_token o) (with_items names parts) t d ++ close_round ∷ []) in
-      retokened 2 grade.Literal s (node_items o (with_items names parts) t true d) (denied (tree o parts t)) tokens (retreed 2 grade.Literal s (raw.Node (rawop.Plain op.Not) (tree o parts t ∷ []) 0) (denied (tree o parts t)) (back denies)
-      (negated_form (quiet (level_of o)) (operator_grade o) (operator_items o (sign_token o) (with_items names parts) t d) (tree o parts t) plain g));
+        retokened 2 grade.Literal s (node_items o (with_items names parts) t true d) (denied (tree o parts t)) tokens (retreed 2 grade.Literal s (raw.Node (rawop.Plain op.Not) (tree o parts t ∷ []) 0) (denied (tree o parts t)) (back denies)
+        (negated_form (quiet (level_of o)) (operator_grade o) (operator_items o (sign_token o) (with_items names parts) t d) (tree o parts t) plain g));
   }
 
   connective_node : (o : Op) → IsConnective o → ((ps : List Part) (t : Ty) → node_items o ps t true d ≡ not_sign ∷ open_round ∷ (operator_items o (sign_token o) ps t d ++ close_round ∷ []))
@@ -197,11 +197,11 @@ module _ (names : List (List ℕ)) (d : ℕ) where
       → (parts : List Formula) (t : Ty) → Parts parts → is_fit (row_of o) (map type_of parts) t ≡ true → NodeRead o parts t
   connective_node o i tokens denies parts t all h = with_two (λ ps. NodeRead o ps t) binary.Connective t parts (instance_of o (row.Binary binary.Connective) i.its_row parts t h) all
       (λ l v e a b ra rb ea eb.
-          let rs : List Raw = written names a d ∷ written names b d ∷ [] in
-          let same : tree o (a ∷ b ∷ []) t ≡ raw.Node (rawop.Plain o) rs 0 = i.tree (written names a d) (written names b d) t in
-          negated_node o (a ∷ b ∷ []) t i.of_predicate (truth_by t e) (ap place_of same ∙ place_node (rawop.Plain o) rs)
-          (connective_reads names d o i a b t ra rb (truth_by (type_of a) ea) (truth_by (type_of b) eb)) (tokens (with_items names (a ∷ b ∷ [])) t)
-          (ap denied same ∙ denied_node (rawop.Plain o) rs ∙ denies (raw.Node (rawop.Plain o) rs 0) rs ∙ ap (λ r. raw.Node (rawop.Plain op.Not) (r ∷ []) 0) (back same)))
+      let rs : List Raw = written names a d ∷ written names b d ∷ [] in
+      let same : tree o (a ∷ b ∷ []) t ≡ raw.Node (rawop.Plain o) rs 0 = i.tree (written names a d) (written names b d) t in
+      negated_node o (a ∷ b ∷ []) t i.of_predicate (truth_by t e) (ap place_of same ∙ place_node (rawop.Plain o) rs)
+      (connective_reads names d o i a b t ra rb (truth_by (type_of a) ea) (truth_by (type_of b) eb)) (tokens (with_items names (a ∷ b ∷ [])) t)
+      (ap denied same ∙ denied_node (rawop.Plain o) rs ∙ denies (raw.Node (rawop.Plain o) rs 0) rs ∙ ap (λ r. raw.Node (rawop.Plain op.Not) (r ∷ []) 0) (back same)))
 
   -- a function before its argument
   function_node : (o : Op) (r : UnaryRow) → row_of o ≡ row.Unary r → is_of_values (unary_scheme r).0 ≡ true → is_of_values (unary_scheme r).1 ≡ true → operator_grade o ≡ grade.Primary
@@ -210,15 +210,15 @@ module _ (names : List (List ℕ)) (d : ℕ) where
       → (parts : List Formula) (t : Ty) → Parts parts → is_fit (row_of o) (map type_of parts) t ≡ true → NodeRead o parts t
   function_node o r is first result graded tokens same parts t all h = with_one (λ ps. NodeRead o ps t) r t parts (instance_of o (row.Unary r) is parts t h) all
       (λ l v e a ra ea.
-          value_node o (a ∷ []) t (ap (λ g. nat_lt 3 (rank g)) graded) (value_by l v t (unary_scheme r).1 e result) (ap place_of (same (written names a d) t) ∙ place_node (rawop.Plain o) (written names a d ∷ []))
-          (λ rest q.
-              let P : Grade → List Item → Raw → Type 0 = λ g s u. Reads None g (s ++ rest) u rest in
-              let s : List Item = item (sym.Call call.Function (rawop.Plain o)) 0 (sign_of o) ∷ open_round ∷ (items names a false d ++ close_round ∷ []) in
-              let whole : P grade.Primary s (raw.Node (rawop.Plain o) (written names a d ∷ []) 0)
-              = call_form call.Function (rawop.Plain o) (sign_of o) (quiet (formula_level a)) (grade_of a) (items names a false d) (written names a d)
-                (fits_value (grade_of a) (ra.sorted ∙ value_by l v (type_of a) (unary_scheme r).0 ea first)) ra.plain rest in
-              subst (λ g. P g (operator_items o (sign_token o) ((a, items names a) ∷ []) t d) (operator_raw o (written names a d ∷ []) t)) (back graded)
-              (subst (λ l. P grade.Primary l (operator_raw o (written names a d ∷ []) t)) (back (tokens (a, items names a) t)) (subst (λ u. P grade.Primary s u) (back (same (written names a d) t)) whole))))
+      value_node o (a ∷ []) t (ap (λ g. nat_lt 3 (rank g)) graded) (value_by l v t (unary_scheme r).1 e result) (ap place_of (same (written names a d) t) ∙ place_node (rawop.Plain o) (written names a d ∷ []))
+      (λ rest q.
+      let P : Grade → List Item → Raw → Type 0 = λ g s u. Reads None g (s ++ rest) u rest in
+      let s : List Item = item (sym.Call call.Function (rawop.Plain o)) 0 (sign_of o) ∷ open_round ∷ (items names a false d ++ close_round ∷ []) in
+      let whole : P grade.Primary s (raw.Node (rawop.Plain o) (written names a d ∷ []) 0)
+      = call_form call.Function (rawop.Plain o) (sign_of o) (quiet (formula_level a)) (grade_of a) (items names a false d) (written names a d)
+      (fits_value (grade_of a) (ra.sorted ∙ value_by l v (type_of a) (unary_scheme r).0 ea first)) ra.plain rest in
+      subst (λ g. P g (operator_items o (sign_token o) ((a, items names a) ∷ []) t d) (operator_raw o (written names a d ∷ []) t)) (back graded)
+      (subst (λ l. P grade.Primary l (operator_raw o (written names a d ∷ []) t)) (back (tokens (a, items names a) t)) (subst (λ u. P grade.Primary s u) (back (same (written names a d) t)) whole))))
 
   -- a constant whose sign tells its type
   constant_node : (o : Op) (r : NullaryRow) → row_of o ≡ row.Nullary r → is_of_values (nullary_scheme r) ≡ true → operator_grade o ≡ grade.Primary
@@ -226,13 +226,13 @@ module _ (names : List (List ℕ)) (d : ℕ) where
       → (parts : List Formula) (t : Ty) → is_fit (row_of o) (map type_of parts) t ≡ true → NodeRead o parts t
   constant_node o r is result graded tokens same parts t h = with_none (λ ps. NodeRead o ps t) r t parts (instance_of o (row.Nullary r) is parts t h)
       (λ l v e.
-          value_node o [] t (ap (λ g. nat_lt 3 (rank g)) graded) (value_by l v t (nullary_scheme r) e result) (ap place_of (same t) ∙ place_node (rawop.Plain o) [])
-          (λ rest q.
-              let P : Grade → List Item → Raw → Type 0 = λ g s u. Reads None g (s ++ rest) u rest in
-              let s : List Item = item (sym.Constant o) 0 (sign_of o) ∷ [] in
-              let whole : P grade.Primary s (raw.Node (rawop.Plain o) [] 0) = a_constant in
-              subst (λ g. P g (operator_items o (sign_token o) [] t d) (operator_raw o [] t)) (back graded)
-              (subst (λ l. P grade.Primary l (operator_raw o [] t)) (back (tokens t)) (subst (λ u. P grade.Primary s u) (back (same t)) whole))))
+      value_node o [] t (ap (λ g. nat_lt 3 (rank g)) graded) (value_by l v t (nullary_scheme r) e result) (ap place_of (same t) ∙ place_node (rawop.Plain o) [])
+      (λ rest q.
+      let P : Grade → List Item → Raw → Type 0 = λ g s u. Reads None g (s ++ rest) u rest in
+      let s : List Item = item (sym.Constant o) 0 (sign_of o) ∷ [] in
+      let whole : P grade.Primary s (raw.Node (rawop.Plain o) [] 0) = a_constant in
+      subst (λ g. P g (operator_items o (sign_token o) [] t d) (operator_raw o [] t)) (back graded)
+      (subst (λ l. P grade.Primary l (operator_raw o [] t)) (back (tokens t)) (subst (λ u. P grade.Primary s u) (back (same t)) whole))))
 
   -- and one with its type
   typed_node : (o : Op) (r : NullaryRow) → row_of o ≡ row.Nullary r → is_of_values (nullary_scheme r) ≡ true → operator_grade o ≡ grade.Primary
@@ -240,14 +240,14 @@ module _ (names : List (List ℕ)) (d : ℕ) where
       → (parts : List Formula) (t : Ty) → (is_value_type t ≡ true → IsTypeRead t) → is_fit (row_of o) (map type_of parts) t ≡ true → NodeRead o parts t
   typed_node o r is result graded tokens same parts t read h = with_none (λ ps. NodeRead o ps t) r t parts (instance_of o (row.Nullary r) is parts t h)
       (λ l v e.
-          let value : is_value_type t ≡ true = value_by l v t (nullary_scheme r) e result in
-          value_node o [] t (ap (λ g. nat_lt 3 (rank g)) graded) value (ap place_of (same t) ∙ place_node rawop.OfType _)
-          (λ rest q.
-              let P : Grade → List Item → Raw → Type 0 = λ g s u. Reads None g (s ++ rest) u rest in
-              let s : List Item = typed_items (item (sym.Constant o) 0 (sign_of o)) t in
-              let whole : P grade.Primary s (typed_raw o t) = typed_form o (sign_of o) t (read value) rest in
-              subst (λ g. P g (operator_items o (sign_token o) [] t d) (operator_raw o [] t)) (back graded)
-              (subst (λ l. P grade.Primary l (operator_raw o [] t)) (back (tokens t)) (subst (λ u. P grade.Primary s u) (back (same t)) whole))))
+      let value : is_value_type t ≡ true = value_by l v t (nullary_scheme r) e result in
+      value_node o [] t (ap (λ g. nat_lt 3 (rank g)) graded) value (ap place_of (same t) ∙ place_node rawop.OfType _)
+      (λ rest q.
+      let P : Grade → List Item → Raw → Type 0 = λ g s u. Reads None g (s ++ rest) u rest in
+      let s : List Item = typed_items (item (sym.Constant o) 0 (sign_of o)) t in
+      let whole : P grade.Primary s (typed_raw o t) = typed_form o (sign_of o) t (read value) rest in
+      subst (λ g. P g (operator_items o (sign_token o) [] t d) (operator_raw o [] t)) (back graded)
+      (subst (λ l. P grade.Primary l (operator_raw o [] t)) (back (tokens t)) (subst (λ u. P grade.Primary s u) (back (same t)) whole))))
 
   truth_node : (o : Op) → row_of o ≡ row.Nullary nullary.Predicate → operator_grade o ≡ grade.Literal → ((t : Ty) → operator_items o (sign_token o) [] t d ≡ item (sym.Truth o) 0 (sign_of o) ∷ [])
       → ((t : Ty) → node_items o [] t true d ≡ not_sign ∷ item (sym.Truth o) 0 (sign_of o) ∷ []) → ((t : Ty) → operator_raw o [] t ≡ raw.Node (rawop.Plain o) [] 0)
@@ -255,20 +255,20 @@ module _ (names : List (List ℕ)) (d : ℕ) where
       → (parts : List Formula) (t : Ty) → is_fit (row_of o) (map type_of parts) t ≡ true → NodeRead o parts t
   truth_node o is graded tokens denied_tokens same denies parts t h = with_none (λ ps. NodeRead o ps t) nullary.Predicate t parts (instance_of o (row.Nullary nullary.Predicate) is parts t h)
       (λ l v e.
-          let s : List Item = item (sym.Truth o) 0 (sign_of o) ∷ [] in
-          let r : Raw = raw.Node (rawop.Plain o) [] 0 in
-          let whole : Whole 2 grade.Literal s r = λ rest q. a_truth in
-          record {
-            sorted = ap (λ g. nat_lt 3 (rank g)) graded ∙ back (truth_by t e);
-            starts = ap place_of (same t) ∙ place_node (rawop.Plain o) [];
-            plain = λ rest q.
-                let P : Grade → List Item → Raw → Type 0 = λ g s u. Reads None g (s ++ rest) u rest in
-                let one : P grade.Literal s r = a_truth in
-                subst (λ g. P g (operator_items o (sign_token o) [] t d) (operator_raw o [] t)) (back graded)
-                (subst (λ l. P grade.Literal l (operator_raw o [] t)) (back (tokens t)) (subst (λ u. P grade.Literal s u) (back (same t)) one));
-            denied_too = λ x. retokened 2 grade.Literal (not_sign ∷ s) (node_items o [] t true d) (denied (operator_raw o [] t)) (denied_tokens t) (retreed 2 grade.Literal (not_sign ∷ s) (raw.Node (rawop.Plain op.Not) (r ∷ []) 0) (denied (operator_raw o [] t))
-              (back (ap denied (same t) ∙ denied_node (rawop.Plain o) [] ∙ denies r [])) (bare_negated_form 2 s r refl whole));
-          })
+      let s : List Item = item (sym.Truth o) 0 (sign_of o) ∷ [] in
+      let r : Raw = raw.Node (rawop.Plain o) [] 0 in
+      let whole : Whole 2 grade.Literal s r = λ rest q. a_truth in
+      record {
+        sorted = ap (λ g. nat_lt 3 (rank g)) graded ∙ back (truth_by t e);
+        starts = ap place_of (same t) ∙ place_node (rawop.Plain o) [];
+        plain = λ rest q.
+            let P : Grade → List Item → Raw → Type 0 = λ g s u. Reads None g (s ++ rest) u rest in
+            let one : P grade.Literal s r = a_truth in
+            subst (λ g. P g (operator_items o (sign_token o) [] t d) (operator_raw o [] t)) (back graded)
+            (subst (λ l. P grade.Literal l (operator_raw o [] t)) (back (tokens t)) (subst (λ u. P grade.Literal s u) (back (same t)) one));
+        denied_too = λ x. retokened 2 grade.Literal (not_sign ∷ s) (node_items o [] t true d) (denied (operator_raw o [] t)) (denied_tokens t) (retreed 2 grade.Literal (not_sign ∷ s) (raw.Node (rawop.Plain op.Not) (r ∷ []) 0) (denied (operator_raw o [] t))
+            (back (ap denied (same t) ∙ denied_node (rawop.Plain o) [] ∙ denies r [])) (bare_negated_form 2 s r refl whole));
+      })
 
   -- a relation, with a sign of its own where it is denied ..
   signed_node : (o : Op) (r : BinaryRow) (n : RawOp) → row_of o ≡ row.Binary r → is_of_values (binary_scheme r).0 ≡ true → is_of_values (binary_scheme r).1 ≡ true → (binary_scheme r).2 ≡ truth
@@ -281,23 +281,23 @@ module _ (names : List (List ℕ)) (d : ℕ) where
   signed_node o r n is first second result graded low sign three denied_sign denied_three tokens denied_tokens same denies parts t all h =
       with_two (λ ps. NodeRead o ps t) r t parts (instance_of o (row.Binary r) is parts t h) all
       (λ l v e a b ra rb ea eb.
-          let va : is_value_type (type_of a) ≡ true = value_by l v (type_of a) (binary_scheme r).0 ea first in
-          let vb : is_value_type (type_of b) ≡ true = value_by l v (type_of b) (binary_scheme r).1 eb second in
-          let rs : List Raw = written names a d ∷ written names b d ∷ [] in
-          let pa : Part = (a, items names a) in
-          let pb : Part = (b, items names b) in
-          let W : ℕ → Grade → List Item → Raw → Type 0 = Whole in
-          record {
-            sorted = ap (λ g. nat_lt 3 (rank g)) graded ∙ back (truth_by t (e ∙ ap (type_at l) result));
-            starts = ap place_of (same (written names a d) (written names b d) t) ∙ place_node (rawop.Plain o) rs;
-            plain = subst (λ k. W k (operator_grade o) (operator_items o (sign_token o) (pa ∷ pb ∷ []) t d) (tree o (a ∷ b ∷ []) t)) (back low)
-              (subst (λ g. W 2 g (operator_items o (sign_token o) (pa ∷ pb ∷ []) t d) (tree o (a ∷ b ∷ []) t)) (back graded)
-              (retokened 2 grade.Literal (items names a false d ++ (sign_token o ∷ items names b false d)) (operator_items o (sign_token o) (pa ∷ pb ∷ []) t d) (tree o (a ∷ b ∷ []) t) (tokens pa pb t) (retreed 2 grade.Literal (items names a false d ++ (sign_token o ∷ items names b false d)) (raw.Node (rawop.Plain o) rs 0) (tree o (a ∷ b ∷ []) t) (back (same (written names a d) (written names b d) t))
-              (relation_reads names d (rawop.Plain o) (symbol_of o) (sign_of o) sign three a b ra rb va vb))));
-            denied_too = λ x. retokened 2 grade.Literal (items names a false d ++ (denied_sign_token o ∷ items names b false d)) (node_items o (pa ∷ pb ∷ []) t true d) (denied (tree o (a ∷ b ∷ []) t)) (denied_tokens pa pb t ∙ append-nil (items names a false d ++ (denied_sign_token o ∷ items names b false d)))
-              (retreed 2 grade.Literal (items names a false d ++ (denied_sign_token o ∷ items names b false d)) (raw.Node n rs 0) (denied (tree o (a ∷ b ∷ []) t)) (back (ap denied (same (written names a d) (written names b d) t) ∙ denied_node (rawop.Plain o) rs ∙ denies (raw.Node (rawop.Plain o) rs 0) rs))
-              (relation_reads names d n (denied_symbol_of o) (denied_sign_of o) denied_sign denied_three a b ra rb va vb));
-          })
+      let va : is_value_type (type_of a) ≡ true = value_by l v (type_of a) (binary_scheme r).0 ea first in
+      let vb : is_value_type (type_of b) ≡ true = value_by l v (type_of b) (binary_scheme r).1 eb second in
+      let rs : List Raw = written names a d ∷ written names b d ∷ [] in
+      let pa : Part = (a, items names a) in
+      let pb : Part = (b, items names b) in
+      let W : ℕ → Grade → List Item → Raw → Type 0 = Whole in
+      record {
+        sorted = ap (λ g. nat_lt 3 (rank g)) graded ∙ back (truth_by t (e ∙ ap (type_at l) result));
+        starts = ap place_of (same (written names a d) (written names b d) t) ∙ place_node (rawop.Plain o) rs;
+        plain = subst (λ k. W k (operator_grade o) (operator_items o (sign_token o) (pa ∷ pb ∷ []) t d) (tree o (a ∷ b ∷ []) t)) (back low)
+            (subst (λ g. W 2 g (operator_items o (sign_token o) (pa ∷ pb ∷ []) t d) (tree o (a ∷ b ∷ []) t)) (back graded)
+            (retokened 2 grade.Literal (items names a false d ++ (sign_token o ∷ items names b false d)) (operator_items o (sign_token o) (pa ∷ pb ∷ []) t d) (tree o (a ∷ b ∷ []) t) (tokens pa pb t) (retreed 2 grade.Literal (items names a false d ++ (sign_token o ∷ items names b false d)) (raw.Node (rawop.Plain o) rs 0) (tree o (a ∷ b ∷ []) t) (back (same (written names a d) (written names b d) t))
+            (relation_reads names d (rawop.Plain o) (symbol_of o) (sign_of o) sign three a b ra rb va vb))));
+        denied_too = λ x. retokened 2 grade.Literal (items names a false d ++ (denied_sign_token o ∷ items names b false d)) (node_items o (pa ∷ pb ∷ []) t true d) (denied (tree o (a ∷ b ∷ []) t)) (denied_tokens pa pb t ∙ append-nil (items names a false d ++ (denied_sign_token o ∷ items names b false d)))
+            (retreed 2 grade.Literal (items names a false d ++ (denied_sign_token o ∷ items names b false d)) (raw.Node n rs 0) (denied (tree o (a ∷ b ∷ []) t)) (back (ap denied (same (written names a d) (written names b d) t) ∙ denied_node (rawop.Plain o) rs ∙ denies (raw.Node (rawop.Plain o) rs 0) rs))
+            (relation_reads names d n (denied_symbol_of o) (denied_sign_of o) denied_sign denied_three a b ra rb va vb));
+      })
 
   -- .. and one without
   compared_node : (o : Op) → row_of o ≡ row.Binary binary.Comparison
@@ -310,71 +310,71 @@ module _ (names : List (List ℕ)) (d : ℕ) where
   compared_node o is graded low sign three tokens denied_tokens same denies parts t all h =
       with_two (λ ps. NodeRead o ps t) binary.Comparison t parts (instance_of o (row.Binary binary.Comparison) is parts t h) all
       (λ l v e a b ra rb ea eb.
-          let va : is_value_type (type_of a) ≡ true = value_by l v (type_of a) integer ea refl in
-          let vb : is_value_type (type_of b) ≡ true = value_by l v (type_of b) integer eb refl in
-          let rs : List Raw = written names a d ∷ written names b d ∷ [] in
-          let pa : Part = (a, items names a) in
-          let pb : Part = (b, items names b) in
-          let W : ℕ → Grade → List Item → Raw → Type 0 = Whole in
-          let equal : tree o (a ∷ b ∷ []) t ≡ raw.Node (rawop.Plain o) rs 0 = same (written names a d) (written names b d) t in
-          negated_node o (a ∷ b ∷ []) t (ap (λ g. nat_lt 3 (rank g)) graded) (truth_by t e) (ap place_of equal ∙ place_node (rawop.Plain o) rs)
-          (subst (λ k. W k (operator_grade o) (operator_items o (sign_token o) (pa ∷ pb ∷ []) t d) (tree o (a ∷ b ∷ []) t)) (back low)
-          (subst (λ g. W 2 g (operator_items o (sign_token o) (pa ∷ pb ∷ []) t d) (tree o (a ∷ b ∷ []) t)) (back graded)
-          (retokened 2 grade.Literal (items names a false d ++ (sign_token o ∷ items names b false d)) (operator_items o (sign_token o) (pa ∷ pb ∷ []) t d) (tree o (a ∷ b ∷ []) t) (tokens pa pb t) (retreed 2 grade.Literal (items names a false d ++ (sign_token o ∷ items names b false d)) (raw.Node (rawop.Plain o) rs 0) (tree o (a ∷ b ∷ []) t) (back equal)
-          (relation_reads names d (rawop.Plain o) (symbol_of o) (sign_of o) sign three a b ra rb va vb)))))
-          (denied_tokens (pa ∷ pb ∷ []) t)
-          (ap denied equal ∙ denied_node (rawop.Plain o) rs ∙ denies (raw.Node (rawop.Plain o) rs 0) rs ∙ ap (λ r. raw.Node (rawop.Plain op.Not) (r ∷ []) 0) (back equal)))
+      let va : is_value_type (type_of a) ≡ true = value_by l v (type_of a) integer ea refl in
+      let vb : is_value_type (type_of b) ≡ true = value_by l v (type_of b) integer eb refl in
+      let rs : List Raw = written names a d ∷ written names b d ∷ [] in
+      let pa : Part = (a, items names a) in
+      let pb : Part = (b, items names b) in
+      let W : ℕ → Grade → List Item → Raw → Type 0 = Whole in
+      let equal : tree o (a ∷ b ∷ []) t ≡ raw.Node (rawop.Plain o) rs 0 = same (written names a d) (written names b d) t in
+      negated_node o (a ∷ b ∷ []) t (ap (λ g. nat_lt 3 (rank g)) graded) (truth_by t e) (ap place_of equal ∙ place_node (rawop.Plain o) rs)
+      (subst (λ k. W k (operator_grade o) (operator_items o (sign_token o) (pa ∷ pb ∷ []) t d) (tree o (a ∷ b ∷ []) t)) (back low)
+      (subst (λ g. W 2 g (operator_items o (sign_token o) (pa ∷ pb ∷ []) t d) (tree o (a ∷ b ∷ []) t)) (back graded)
+      (retokened 2 grade.Literal (items names a false d ++ (sign_token o ∷ items names b false d)) (operator_items o (sign_token o) (pa ∷ pb ∷ []) t d) (tree o (a ∷ b ∷ []) t) (tokens pa pb t) (retreed 2 grade.Literal (items names a false d ++ (sign_token o ∷ items names b false d)) (raw.Node (rawop.Plain o) rs 0) (tree o (a ∷ b ∷ []) t) (back equal)
+      (relation_reads names d (rawop.Plain o) (symbol_of o) (sign_of o) sign three a b ra rb va vb)))))
+      (denied_tokens (pa ∷ pb ∷ []) t)
+      (ap denied equal ∙ denied_node (rawop.Plain o) rs ∙ denies (raw.Node (rawop.Plain o) rs 0) rs ∙ ap (λ r. raw.Node (rawop.Plain op.Not) (r ∷ []) 0) (back equal)))
 
   not_node : (parts : List Formula) (t : Ty) → Parts parts → is_fit (row_of op.Not) (map type_of parts) t ≡ true → NodeRead op.Not parts t
   not_node parts t all h = with_one (λ ps. NodeRead op.Not ps t) unary.Negation t parts (instance_of op.Not (row.Unary unary.Negation) refl parts t h) all
       (λ l v e a ra ea.
-          negated_node op.Not (a ∷ []) t refl (truth_by t e) (place_denied (written names a d)) (ra.denied_too (truth_by (type_of a) ea)) refl (twice (written names a d)))
+      negated_node op.Not (a ∷ []) t refl (truth_by t e) (place_denied (written names a d)) (ra.denied_too (truth_by (type_of a) ea)) refl (twice (written names a d)))
 
   finite_node : (parts : List Formula) (t : Ty) → Parts parts → is_fit (row_of op.Finite) (map type_of parts) t ≡ true → NodeRead op.Finite parts t
   finite_node parts t all h = with_one (λ ps. NodeRead op.Finite ps t) unary.Finiteness t parts (instance_of op.Finite (row.Unary unary.Finiteness) refl parts t h) all
       (λ l v e a ra ea.
-          let s : List Item = sign_token op.Finite ∷ open_round ∷ (items names a false d ++ close_round ∷ []) in
-          let r : Raw = raw.Node (rawop.Plain op.Finite) (written names a d ∷ []) 0 in
-          let whole : (n : ℕ) → Whole n grade.Literal s r
-          = λ n rest q. call_form call.Finite (rawop.Plain op.Finite) (sign_of op.Finite) (quiet (formula_level a)) (grade_of a) (items names a false d) (written names a d)
-            (fits_value (grade_of a) (ra.sorted ∙ value_by l v (type_of a) (power alpha) ea refl)) ra.plain rest in
-          record {
-            sorted = back (truth_by t e);
-            starts = place_node (rawop.Plain op.Finite) (written names a d ∷ []);
-            plain = whole 14;
-            denied_too = λ x. retokened 2 grade.Literal (not_sign ∷ s) (not_sign ∷ (s ++ [])) (denied r) (ap (λ l. not_sign ∷ l) (append-nil s)) (retreed 2 grade.Literal (not_sign ∷ s) (raw.Node (rawop.Plain op.Not) (r ∷ []) 0) (denied r) (back (denied_node (rawop.Plain op.Finite) (written names a d ∷ []))) (bare_negated_form 2 s r refl (whole 2)));
-          })
+      let s : List Item = sign_token op.Finite ∷ open_round ∷ (items names a false d ++ close_round ∷ []) in
+      let r : Raw = raw.Node (rawop.Plain op.Finite) (written names a d ∷ []) 0 in
+      let whole : (n : ℕ) → Whole n grade.Literal s r
+      = λ n rest q. call_form call.Finite (rawop.Plain op.Finite) (sign_of op.Finite) (quiet (formula_level a)) (grade_of a) (items names a false d) (written names a d)
+      (fits_value (grade_of a) (ra.sorted ∙ value_by l v (type_of a) (power alpha) ea refl)) ra.plain rest in
+      record {
+        sorted = back (truth_by t e);
+        starts = place_node (rawop.Plain op.Finite) (written names a d ∷ []);
+        plain = whole 14;
+        denied_too = λ x. retokened 2 grade.Literal (not_sign ∷ s) (not_sign ∷ (s ++ [])) (denied r) (ap (λ l. not_sign ∷ l) (append-nil s)) (retreed 2 grade.Literal (not_sign ∷ s) (raw.Node (rawop.Plain op.Not) (r ∷ []) 0) (denied r) (back (denied_node (rawop.Plain op.Finite) (written names a d ∷ []))) (bare_negated_form 2 s r refl (whole 2)));
+      })
 
   bool_node : (parts : List Formula) (t : Ty) → Parts parts → is_fit (row_of op.BoolOf) (map type_of parts) t ≡ true → NodeRead op.BoolOf parts t
   bool_node parts t all h = with_one (λ ps. NodeRead op.BoolOf ps t) unary.TruthOf t parts (instance_of op.BoolOf (row.Unary unary.TruthOf) refl parts t h) all
       (λ l v e a ra ea.
-          value_node op.BoolOf (a ∷ []) t refl (value_by l v t boolean e refl) (place_node (rawop.Plain op.BoolOf) (written names a d ∷ []))
-          (λ rest q. call_form call.Bool (rawop.Plain op.BoolOf) (sign_of op.BoolOf) (quiet (formula_level a)) (grade_of a) (items names a false d) (written names a d)
-          (fits_predicate (grade_of a) (ra.sorted ∙ truth_by (type_of a) ea)) ra.plain rest))
+      value_node op.BoolOf (a ∷ []) t refl (value_by l v t boolean e refl) (place_node (rawop.Plain op.BoolOf) (written names a d ∷ []))
+      (λ rest q. call_form call.Bool (rawop.Plain op.BoolOf) (sign_of op.BoolOf) (quiet (formula_level a)) (grade_of a) (items names a false d) (written names a d)
+      (fits_predicate (grade_of a) (ra.sorted ∙ truth_by (type_of a) ea)) ra.plain rest))
 
   negate_node : (parts : List Formula) (t : Ty) → Parts parts → is_fit (row_of op.Negate) (map type_of parts) t ≡ true → NodeRead op.Negate parts t
   negate_node parts t all h = with_one (λ ps. NodeRead op.Negate ps t) unary.Opposite t parts (instance_of op.Negate (row.Unary unary.Opposite) refl parts t h) all
       (λ l v e a ra ea.
-          value_node op.Negate (a ∷ []) t refl (value_by l v t integer e refl) (place_node (rawop.Plain op.Negate) (written names a d ∷ []))
-          (negative_reads names d a ra (value_by l v (type_of a) integer ea refl)))
+      value_node op.Negate (a ∷ []) t refl (value_by l v t integer e refl) (place_node (rawop.Plain op.Negate) (written names a d ∷ []))
+      (negative_reads names d a ra (value_by l v (type_of a) integer ea refl)))
 
   converse_node : (parts : List Formula) (t : Ty) → Parts parts → is_fit (row_of op.Converse) (map type_of parts) t ≡ true → NodeRead op.Converse parts t
   converse_node parts t all h = with_one (λ ps. NodeRead op.Converse ps t) unary.Converse t parts (instance_of op.Converse (row.Unary unary.Converse) refl parts t h) all
       (λ l v e a ra ea.
-          value_node op.Converse (a ∷ []) t refl (value_by l v t (unary_scheme unary.Converse).1 e refl) (place_node (rawop.Plain op.Converse) (written names a d ∷ []))
-          (converse_reads names d a ra (value_by l v (type_of a) (unary_scheme unary.Converse).0 ea refl)))
+      value_node op.Converse (a ∷ []) t refl (value_by l v t (unary_scheme unary.Converse).1 e refl) (place_node (rawop.Plain op.Converse) (written names a d ∷ []))
+      (converse_reads names d a ra (value_by l v (type_of a) (unary_scheme unary.Converse).0 ea refl)))
 
   apply_node : (parts : List Formula) (t : Ty) → Parts parts → is_fit (row_of op.Apply) (map type_of parts) t ≡ true → NodeRead op.Apply parts t
   apply_node parts t all h = with_two (λ ps. NodeRead op.Apply ps t) binary.Application t parts (instance_of op.Apply (row.Binary binary.Application) refl parts t h) all
       (λ l v e a b ra rb ea eb.
-          value_node op.Apply (a ∷ b ∷ []) t refl (value_by l v t (binary_scheme binary.Application).2 e refl) (place_node (rawop.Plain op.Apply) (written names a d ∷ written names b d ∷ []))
-          (apply_reads names d a b ra rb (value_by l v (type_of a) (binary_scheme binary.Application).0 ea refl) (value_by l v (type_of b) (binary_scheme binary.Application).1 eb refl)))
+      value_node op.Apply (a ∷ b ∷ []) t refl (value_by l v t (binary_scheme binary.Application).2 e refl) (place_node (rawop.Plain op.Apply) (written names a d ∷ written names b d ∷ []))
+      (apply_reads names d a b ra rb (value_by l v (type_of a) (binary_scheme binary.Application).0 ea refl) (value_by l v (type_of b) (binary_scheme binary.Application).1 eb refl)))
 
   image_node : (parts : List Formula) (t : Ty) → Parts parts → is_fit (row_of op.Image) (map type_of parts) t ≡ true → NodeRead op.Image parts t
   image_node parts t all h = with_two (λ ps. NodeRead op.Image ps t) binary.Image t parts (instance_of op.Image (row.Binary binary.Image) refl parts t h) all
       (λ l v e a b ra rb ea eb.
-          value_node op.Image (a ∷ b ∷ []) t refl (value_by l v t (binary_scheme binary.Image).2 e refl) (place_node (rawop.Plain op.Image) (written names a d ∷ written names b d ∷ []))
-          (image_reads names d a b ra rb (value_by l v (type_of a) (binary_scheme binary.Image).0 ea refl) (value_by l v (type_of b) (binary_scheme binary.Image).1 eb refl)))
+      value_node op.Image (a ∷ b ∷ []) t refl (value_by l v t (binary_scheme binary.Image).2 e refl) (place_node (rawop.Plain op.Image) (written names a d ∷ written names b d ∷ []))
+      (image_reads names d a b ra rb (value_by l v (type_of a) (binary_scheme binary.Image).0 ea refl) (value_by l v (type_of b) (binary_scheme binary.Image).1 eb refl)))
 
   -- the members of a set
   are_values : (l : Letters) → AreLetters l → (k : ℕ) (parts : List Formula) → map type_of parts ≡ map (type_at l) (replicate k alpha) → Parts parts

@@ -115,7 +115,7 @@ parts_form before n s t (u ∷ ss) (v ∷ ts) value (one_more next more) rest =
     let tail : List Item = u ++ separated_after (suc n + 1) ss in
     let later : Parts None hole.Expression None bracket.Brace (before ++ t ∷ []) (tail ++ (close_brace ∷ rest)) ((before ++ t ∷ []) ++ (v ∷ ts)) rest
     = let Q : ℕ → Type 0 = λ k. Parts None hole.Expression None bracket.Brace (before ++ t ∷ []) ((u ++ separated_after k ss) ++ (close_brace ∷ rest)) ((before ++ t ∷ []) ++ (v ∷ ts)) rest in
-      subst Q (omega arith) (parts_form (before ++ t ∷ []) (suc n) u v ss ts next more rest) in
+    subst Q (omega arith) (parts_form (before ++ t ∷ []) (suc n) u v ss ts next more rest) in
     let P : List Raw → Type 0 = λ l. Parts None hole.Expression None bracket.Brace before (s ++ (comma ∷ (tail ++ (close_brace ∷ rest)))) l rest in
     let all : Parts None hole.Expression None bracket.Brace before (s ++ (comma ∷ (tail ++ (close_brace ∷ rest)))) (before ++ (t ∷ v ∷ ts)) rest
     = subst P (append_assoc before (t ∷ []) (v ∷ ts)) (next_one refl (value.whole (comma ∷ (tail ++ (close_brace ∷ rest))) (zero_le value.least)) value.fit later) in

@@ -1246,4 +1246,3 @@ right_of_junction (Bind b types parts t) e h = go b e h
     go binder.Comprehension e h = cc
     go binder.QuantifiedUnion e h = cc
     go binder.QuantifiedIntersection e h = cc
-

@@ -120,8 +120,8 @@ at_pow t is v names =
     record {
       g = grade.Primary;
       whole = same_tokens 7 grade.Primary (sign_token op.PowerSet ∷ open_round ∷ (type_items t ++ close_round ∷ [])) _ (raw.Node (rawop.Plain op.PowerSet) (type_raw t ∷ []) 0) _
-        (at (PowF t) (ty.Pow t) (rolls-Pow t)) (type_fold type_raw_step (PowF t) (ty.Pow t) (rolls-Pow t))
-        (λ rest q. call_form call.Function (rawop.Plain op.PowerSet) (sign_of op.PowerSet) 7 part.g (type_items t) (type_raw t) (fits_value part.g (above_three part.g part.loose)) part.whole rest);
+          (at (PowF t) (ty.Pow t) (rolls-Pow t)) (type_fold type_raw_step (PowF t) (ty.Pow t) (rolls-Pow t))
+          (λ rest q. call_form call.Function (rawop.Plain op.PowerSet) (sign_of op.PowerSet) 7 part.g (type_items t) (type_raw t) (fits_value part.g (above_three part.g part.loose)) part.whole rest);
       starts = ap place_of (type_fold type_raw_step (PowF t) (ty.Pow t) (rolls-Pow t)) ∙ place_node (rawop.Plain op.PowerSet) (type_raw t ∷ []);
       loose = refl;
       tight = λ h. refl;
@@ -150,11 +150,11 @@ at_pair t u is is' v names =
     record {
       g = grade.Set;
       whole = same_tokens 7 grade.Set (type_items t ++ (sign_token op.Product ∷ right_items (u, type_items u))) _ (between (rawop.Plain op.Product) (type_raw t) (type_raw u)) _
-        (at (PairF t u) (ty.Pair t u) (rolls-Pair t u)) (written ∙ ap (raw.Node (rawop.Plain op.Product) (type_raw t ∷ type_raw u ∷ [])) (back left.starts))
-        (λ rest q. infix_form lev.SetOperator (rawop.Plain op.Product) (sym.Infix lev.SetOperator (rawop.Plain op.Product)) (sign_of op.Product) left.g (round_grade needed right.g)
-        (type_items t) (right_items (u, type_items u)) rest (type_raw t) (type_raw u) refl (both_true _ _ left.loose refl) (right_fits right.g needed right.loose right.tight)
-        (ends hole.Range (round_grade needed right.g) 7 rest refl q) (left.whole (sign_token op.Product ∷ (right_items (u, type_items u) ++ rest)) refl)
-        (rounded needed 7 right.g (type_items u) (type_raw u) right.whole rest (λ e. q)));
+          (at (PairF t u) (ty.Pair t u) (rolls-Pair t u)) (written ∙ ap (raw.Node (rawop.Plain op.Product) (type_raw t ∷ type_raw u ∷ [])) (back left.starts))
+          (λ rest q. infix_form lev.SetOperator (rawop.Plain op.Product) (sym.Infix lev.SetOperator (rawop.Plain op.Product)) (sign_of op.Product) left.g (round_grade needed right.g)
+          (type_items t) (right_items (u, type_items u)) rest (type_raw t) (type_raw u) refl (both_true _ _ left.loose refl) (right_fits right.g needed right.loose right.tight)
+          (ends hole.Range (round_grade needed right.g) 7 rest refl q) (left.whole (sign_token op.Product ∷ (right_items (u, type_items u) ++ rest)) refl)
+          (rounded needed 7 right.g (type_items u) (type_raw u) right.whole rest (λ e. q)));
       starts = ap place_of written ∙ place_node (rawop.Plain op.Product) (type_raw t ∷ type_raw u ∷ []);
       loose = refl;
       tight = λ h. let pair : is_some (components (ty.Pair t u)) ≡ true = ap (λ x. is_some (components_at x)) (outs-Pair t u) in cc;
@@ -175,7 +175,7 @@ typed_form o w t is rest =
     let c : Item = item (sym.Constant o) 0 w in
     let inner : Reads None grade.Typed (c ∷ typing ∷ (type_items t ++ (close_round ∷ rest))) (between rawop.OfType (constant o) (type_raw t)) (close_round ∷ rest)
     = infix_form lev.Typing rawop.OfType (sym.Infix lev.Typing rawop.OfType) (bytes "⦂") grade.Primary is.g (c ∷ []) (type_items t) (close_round ∷ rest) (constant o) (type_raw t) refl refl
-      (fits_pair is.g is.loose) (ends hole.Pair is.g 4 (close_round ∷ rest) refl refl) a_constant (is.whole (close_round ∷ rest) refl) in
+    (fits_pair is.g is.loose) (ends hole.Pair is.g 4 (close_round ∷ rest) refl refl) a_constant (is.whole (close_round ∷ rest) refl) in
     let P : List Item → Raw → Type 0 = λ l r. Reads None grade.Primary (open_round ∷ c ∷ typing ∷ l) r rest in
     let whole : P (type_items t ++ (close_round ∷ rest)) (between rawop.OfType (constant o) (type_raw t)) = in_parentheses inner refl in
     subst (λ l. P l (typed_raw o t)) (back (append_assoc (type_items t) (close_round ∷ []) rest))

@@ -1,10 +1,19 @@
-//! The law of reading back what is printed. The call does nothing.
-ghost use Rattle.std.specs.Prelude.{IsTrue};
+//! The laws of reading back what is printed. The calls do nothing.
+ghost use Rattle.std.specs.Prelude.{◌≡◌, None, IsTrue};
 ghost use Rattle.formula_core.specs.declared.formula.Formula.{Formula};
+ghost use Rattle.formula_core.specs.declared.raw.Raw.{Raw};
 ghost use Rattle.formula_core.specs.Wellness.{is_well};
-ghost use Rattle.math_reread.specs.Grades.{HasNames, IsCounted, IsSpelled};
+ghost use Rattle.math_grammar.specs.Grammar.{Spells};
+ghost use Rattle.math_print.specs.Written.{raw_of};
+ghost use Rattle.math_reread.specs.Items.{items_of_formula};
+ghost use Rattle.math_reread.specs.Grades.{HasNames, IsCounted, IsSpelled, place_for};
 
 /// The tokens of a well formula's printed text are a sentence, and its tree is the formula as it is written.
 pub fn written_is_spelled()
     ensures { (f : Formula) → IsTrue (is_well f) → HasNames f → IsCounted f → IsSpelled f }
+{}
+
+/// They are no other sentence.
+pub fn spelled_one_way()
+    ensures { (f : Formula) (t : Raw) → IsTrue (is_well f) → HasNames f → IsCounted f → Spells None (place_for f) (items_of_formula f) t → t ≡ raw_of f }
 {}

@@ -3,4 +3,4 @@
 
 mod laws;
 
-pub use laws::written_is_spelled;
+pub use laws::{spelled_one_way, written_is_spelled};
