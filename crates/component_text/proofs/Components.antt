@@ -1,5 +1,5 @@
 -- The parts of components.
-use Rattle.std.proofs.Common.{◌≡◌, ◌∙◌, ap, ℕ, suc, ◌<◌, ◌≤◌, List, [], ◌∷◌, ◌++◌, Bool, true, false, Some, None, Ok, Err, cond, ◌==◌, inl, inr, length, refl, sym, subst, arith, append_assoc, append-nil}
+use Rattle.std.proofs.Common.{◌≡◌, ◌∙◌, ap, ℕ, suc, ◌<◌, ◌≤◌, List, [], ◌∷◌, ◌++◌, Bool, true, false, Some, None, Ok, Err, cond, ◌==◌, inl, inr, length, refl, sym, subst, arith, append_assoc, append-nil, bytes_eq}
 use Rattle.std.specs.Prelude.{Option, Result, codes}
 use Rattle.std.specs.Result.{IsErrAnd}
 use Rattle.std.proofs.lemmas.Result.{err_from_is_err_and}
@@ -10,6 +10,7 @@ use Rattle.formula_core.specs.declared.raw.RawOp.TheVariants as rawop
 use Rattle.formula_core.specs.declared.raw.Ref.{Ref}
 use Rattle.formula_core.specs.declared.op.Op.TheVariants as op
 use Rattle.math_grammar.specs.declared.holes.Grade.TheVariants as grade
+use Rattle.math_grammar.specs.declared.holes.Hole.{Hole}
 use Rattle.math_grammar.specs.declared.holes.Hole.TheVariants as hole
 use Rattle.math_grammar.specs.declared.symbols.Symbol.TheVariants as sym_
 use Rattle.math_grammar.specs.Tokens.{Item}
@@ -20,13 +21,15 @@ use Rattle.model_core.specs.declared.component.RawComponent.{RawComponent}
 use Rattle.component_text.specs.declared.stop.Stop.{Stop}
 use Rattle.component_text.specs.declared.stop.Stop.TheVariants as stop
 use Rattle.component_text.specs.Marks.{Mark, word, label, plain, behind_run, is_word, is_at}
-use Rattle.component_text.specs.Forms.{Bounds, limits, parts, One, Run, Nothing, Then, Choice, taken, other, no_more, one_more}
+use Rattle.component_text.specs.Forms.{Bounds, limits, parts, none, One, Run, Nothing, Then, Choice, taken, other, no_more, one_more}
 use Rattle.component_text.specs.Grammar.{IsFormula, reference, is_reference, label_at, Names, SomeNames, labelled, Labelled, Line, begins_line, Lines, NamesBehind, SomeNamesBehind, LinesBehind, context_of, ContextBody, IsContext}
 use Rattle.component_text.specs.Reading.{end_mark, Begins, Refuses, Passes, Reads, Takes, Lacks, ReadsFormula, AddsNames, Ends, ReadsWhole}
 use Rattle.component_text.proofs.Parts.{Good, good_one, good_run, good_nothing, good_then, good_of, good_choice, good_many}
 use Rattle.component_text.proofs.Refusing.{CanSkip, skip_begins, left_out, one_refused, one_then_refused, one_then_passes, first_refused, first_passes, both_skip, second_refused, second_passes, of_refused, of_passes, taken_refused, taken_passes, other_refused, other_passes, other_skip, many_skip, many_here, many_here_passes, many_later, many_later_passes}
 use Rattle.component_text.proofs.Formulas.{label_refused, label_passes}
-use Rattle.component_text.specs.Reading.{NoLabel, all_plain, behind_word}
+use Rattle.component_text.specs.Reading.{NoFormula, all_plain, behind_word}
+use Rattle.component_text.proofs.Looser.{formula_looser}
+use Rattle.std.proofs.lemmas.Slice.Eq.{bytes_eq-Decides}
 use Rattle.component_text.proofs.Placed.{Leaves, leaves_one, leaves_nothing, leaves_formula, leaves_of, leaves_then, leaves_choice, leaves_many, placed_behind}
 use Rattle.component_text.proofs.Whole.{word_is, whole, body_unexpected, body_too_large, head_unexpected, head_wrong, body_wrong, after_body, after_end, end_wrong}
 use Rattle.std.proofs.lemmas.Bool.Decides.{nat_tests}
@@ -42,24 +45,24 @@ pub some_name_is : reference some_name ≡ Some some_ref
 unfolding some_ref some_name
 some_name_is = refl
 
-some_label : Mark
+pub some_label : Mark
 some_label = label (codes "x") 0
 
-some_label_is : label_at some_label ≡ Some (codes "x", 0)
+pub some_label_is : label_at some_label ≡ Some (codes "x", 0)
 unfolding some_label
 some_label_is = refl
 
-top_item : Item
+pub top_item : Item
 top_item = item (sym_.Truth op.Top) 0 (codes "x")
 
-abbrev top : Raw
+abbrev pub top : Raw
 top = raw.Node (rawop.Plain op.Top) [] 0
 
-top_spelled : Spells most_parts hole.Predicate (top_item ∷ []) top
+pub top_spelled : Spells most_parts hole.Predicate (top_item ∷ []) top
 unfolding top_item
 top_spelled = record { g = grade.Literal; reads = a_truth; fit = refl }
 
-predicate_begins : Begins (Run (IsFormula hole.Predicate)) []
+pub predicate_begins : Begins (Run (IsFormula hole.Predicate)) []
 predicate_begins = record { more = plain top_item ∷ []; value = top; goes_on = λ tail. record { spelled = top_spelled; behind = refl } }
 
 -- names
@@ -95,12 +98,12 @@ has_name (plain x) r e = go (is_identifier x.text) e
 pub one_name_more : (s m : List Mark) (x : Ref) (xs : List Ref) (rest : List Mark) → One reference limits s x m → Names limits m xs rest → Names limits s (x ∷ xs) rest
 one_name_more s m x xs rest h hs = one_more (ap (is_at is_reference) h.there ∙ has_name h.mark x h.is) h hs
 
-good_some_names : Good SomeNames
+pub good_some_names : Good SomeNames
 good_some_names = good_of (λ p. p.0 ∷ p.1) (Then (One reference) Names) (good_then (One reference) Names (good_one reference) good_names)
 
 pub some_names_refused : (s : List Mark) → Lacks reference s → Refuses SomeNames s s
 some_names_refused s h =
-    of_refused (λ p. p.0 ∷ p.1) (Then (One reference) Names) s s (one_refused reference Names s some_name some_ref h some_name_is (skip_begins Names names_skip))
+    of_refused (λ p. p.0 ∷ p.1) (Then (One reference) Names) s s (one_refused reference Names s some_name some_ref h some_name_is (skip_begins Names names_skip parts))
 
 pub some_names_read : (s m rest : List Mark) (x : Ref) (all : List Ref) → One reference limits s x m → AddsNames (x ∷ []) all m rest → SomeNames limits s all rest
 some_names_read s m rest x all h k = record { from = (x, k.0); is = sym k.1; part = record { middle = m; first = h; second = k.2 } }
@@ -109,12 +112,14 @@ pub names_read : (s rest : List Mark) (all : List Ref) → AddsNames [] all s re
 names_read s rest all k = subst (λ xs. Names limits s xs rest) (sym k.1) k.2
 
 -- labelled predicates
-loose : (f : List Item) (t : Raw) → IsFormula hole.Predicate limits f t → IsFormula hole.Predicate parts f t
-loose f t h = h.0
+pub loose : (h : Hole) (b : Bounds) (f : List Item) (t : Raw) → IsFormula h limits f t → IsFormula h b f t
+loose h limits f t k = k
+loose h parts f t k = k.0
+loose h none f t k = formula_looser h f t k.0
 
-good_labelled : (theorem : Bool) → Good (Labelled theorem)
+pub good_labelled : (theorem : Bool) → Good (Labelled theorem)
 good_labelled theorem = good_of (labelled theorem) (Then (One label_at) (Run (IsFormula hole.Predicate)))
-    (good_then (One label_at) (Run (IsFormula hole.Predicate)) (good_one label_at) (good_run (IsFormula hole.Predicate) loose))
+    (good_then (One label_at) (Run (IsFormula hole.Predicate)) (good_one label_at) (good_run (IsFormula hole.Predicate) (loose hole.Predicate)))
 
 pub labelled_refused : (theorem : Bool) (s : List Mark) → Lacks label_at s → Refuses (Labelled theorem) s s
 labelled_refused theorem s h =
@@ -124,42 +129,42 @@ labelled_refused theorem s h =
 pub labelled_read : (theorem : Bool) (s m rest : List Mark) (x : List ℕ × ℕ) (t : Raw) → One label_at limits s x m → Run (IsFormula hole.Predicate) limits m t rest → Labelled theorem limits s (labelled theorem (x, t)) rest
 labelled_read theorem s m rest x t o h = record { from = (x, t); is = refl; part = record { middle = m; first = o; second = h } }
 
-pub labelled_stops : (theorem : Bool) (s m rest : List Mark) (x : List ℕ × ℕ) (e : Stop) → One label_at limits s x m → ReadsFormula hole.Predicate m (Err e) rest → Reads (Labelled theorem) s (Err e) rest
+pub labelled_stops : (theorem : Bool) (s m rest : List Mark) (x : List ℕ × ℕ) (e : Stop) → One label_at limits s x m → ReadsFormula (IsFormula hole.Predicate) m (Err e) rest → Reads (Labelled theorem) s (Err e) rest
 labelled_stops theorem s m rest x stop.Unexpected o h =
     of_refused (labelled theorem) (Then (One label_at) (Run (IsFormula hole.Predicate))) s rest
-    (label_refused s m rest x h.0 o h.1 h.3 h.2)
+    (label_refused (IsFormula hole.Predicate) s m x o rest h.0 h.1 h.2)
 labelled_stops theorem s m rest x stop.TooLarge o h =
-    of_passes (labelled theorem) (Then (One label_at) (Run (IsFormula hole.Predicate))) s rest (label_passes s m rest x h.0 o h.1 h.3 h.2)
+    of_passes (labelled theorem) (Then (One label_at) (Run (IsFormula hole.Predicate))) s rest (label_passes (IsFormula hole.Predicate) s m x o rest h.0 h.1 h.2)
 labelled_stops theorem s m rest x stop.OutOfMemory o h = tt
 
 -- what stands behind names and lines
-name_alone : (y : Mark) (r : Ref) → reference y ≡ Some r → NoLabel (y ∷ [])
-name_alone (word w p) r e = behind_word [] w p [] refl
+pub name_alone : (y : Mark) (r : Ref) → reference y ≡ Some r → NoFormula (y ∷ [])
+name_alone (word w p) r e = cc
 name_alone (label l p) r e = cc
 name_alone (plain x) r e = all_plain (x ∷ []) refl
 
-pub word_alone : (w : List ℕ) (y : Mark) → is_word w y ≡ true → NoLabel (y ∷ [])
-word_alone w (word v p) e = behind_word [] v p [] refl
-word_alone w (label l p) e = cc
-word_alone w (plain x) e = cc
+pub word_alone : (w : List ℕ) → bytes_eq w (codes "variant") ≡ false → (y : Mark) → is_word w y ≡ true → NoFormula (y ∷ [])
+word_alone w isnt (word v p) e = behind_word [] v p [] refl (ap (λ u. bytes_eq u (codes "variant")) ((bytes_eq-Decides v w).0 e) ∙ isnt)
+word_alone w isnt (label l p) e = cc
+word_alone w isnt (plain x) e = cc
 
-leaves_name : Leaves (One reference)
+pub leaves_name : Leaves (One reference)
 leaves_name = leaves_one reference name_alone
 
-leaves_names : Leaves Names
+pub leaves_names : Leaves Names
 leaves_names = leaves_many is_reference (One reference) (good_one reference) good_names.split leaves_name
 
-leaves_some_names : Leaves SomeNames
+pub leaves_some_names : Leaves SomeNames
 leaves_some_names = leaves_of (λ p. p.0 ∷ p.1) (Then (One reference) Names) (leaves_then (One reference) Names (good_one reference) good_names leaves_name leaves_names)
 
-leaves_labelled : (theorem : Bool) → Leaves (Labelled theorem)
+pub leaves_labelled : (theorem : Bool) → Leaves (Labelled theorem)
 leaves_labelled theorem = leaves_formula (labelled theorem) label_at (IsFormula hole.Predicate)
 
 -- lines
 pub good_line : Good Line
 good_line = good_choice (is_word (codes "theorem")) (Labelled true) (Labelled false) (good_labelled true) (good_labelled false) refl
 
-behind_shorter : (s : List Mark) → length (behind_run s) ≤ length s
+pub behind_shorter : (s : List Mark) → length (behind_run s) ≤ length s
 behind_shorter [] = omega arith
 behind_shorter (plain x ∷ s) = omega (arith, behind_shorter s)
 behind_shorter (word w p ∷ s) = omega arith
@@ -177,7 +182,7 @@ label_is_no_theorem : is_word (codes "theorem") some_label ≡ false
 unfolding some_label
 label_is_no_theorem = refl
 
-line_begins : Begins Line []
+pub line_begins : Begins Line []
 line_begins = record {
   more = some_label ∷ (plain top_item ∷ []);
   value = labelled false ((codes "x", 0), top);
@@ -190,7 +195,7 @@ line_begins = record {
 
 pub line_reads : (s m rest : List Mark) (theorem : Bool) (r : Result RawLabelled Stop) → Takes (is_word (codes "theorem")) s theorem m → Reads (Labelled theorem) m r rest → Reads Line s r rest
 line_reads s m rest true (Ok x) k h = taken k.0 m k.1 k.2 h
-line_reads s m rest true (Err stop.Unexpected) k h = taken_refused (is_word (codes "theorem")) (Labelled true) (Labelled false) (word_alone (codes "theorem")) s m rest k.0 k.1 k.2 h
+line_reads s m rest true (Err stop.Unexpected) k h = taken_refused (is_word (codes "theorem")) (Labelled true) (Labelled false) (word_alone (codes "theorem") refl) s m rest k.0 k.1 k.2 h
 line_reads s m rest true (Err stop.TooLarge) k h = taken_passes (is_word (codes "theorem")) (Labelled true) (Labelled false) s m rest k.0 k.1 k.2 h
 line_reads s m rest true (Err stop.OutOfMemory) k h = tt
 line_reads s m rest false (Ok x) k h = other k.1 (subst (λ t. Labelled false limits t x rest) k.0 h)
@@ -198,13 +203,13 @@ line_reads s m rest false (Err stop.Unexpected) k h = other_refused (is_word (co
 line_reads s m rest false (Err stop.TooLarge) k h = other_passes (is_word (codes "theorem")) (Labelled true) (Labelled false) s rest k.1 line_begins (subst (λ t. Passes (Labelled false) t rest) k.0 h)
 line_reads s m rest false (Err stop.OutOfMemory) k h = tt
 
-leaves_line : Leaves Line
-leaves_line = leaves_choice (is_word (codes "theorem")) (Labelled true) (Labelled false) (good_labelled true) (word_alone (codes "theorem")) (leaves_labelled true) (leaves_labelled false)
+pub leaves_line : Leaves Line
+leaves_line = leaves_choice (is_word (codes "theorem")) (Labelled true) (Labelled false) (good_labelled true) (word_alone (codes "theorem") refl) (leaves_labelled true) (leaves_labelled false)
 
-good_lines : Good Lines
+pub good_lines : Good Lines
 good_lines = good_many begins_line Line good_line refl line_takes
 
-leaves_lines : Leaves Lines
+pub leaves_lines : Leaves Lines
 leaves_lines = leaves_many begins_line Line good_line good_lines.split leaves_line
 
 pub lines_skip : CanSkip Lines
@@ -223,7 +228,7 @@ pub lines_later_passes : (s m rest : List Mark) (x : RawLabelled) → is_at begi
 lines_later_passes = many_later_passes begins_line Line good_line refl line_takes
 
 -- sections
-module _ {X : Type 0} (test : Mark → Bool) (P : Bounds → List Mark → List X → List Mark → Type 0) (words : (y : Mark) → test y ≡ true → NoLabel (y ∷ [])) where
+module _ {X : Type 0} (test : Mark → Bool) (P : Bounds → List Mark → List X → List Mark → Type 0) (words : (y : Mark) → test y ≡ true → NoFormula (y ∷ [])) where
   pub section_reads : (s m rest : List Mark) (r : Result (List X) Stop) → Takes test s true m → Reads P m r rest → Reads (Choice test P (Nothing [])) s r rest
   section_reads s m rest (Ok x) k h = taken k.0 m k.1 k.2 h
   section_reads s m rest (Err stop.Unexpected) k h = taken_refused test P (Nothing []) words s m rest k.0 k.1 k.2 h
@@ -233,14 +238,14 @@ module _ {X : Type 0} (test : Mark → Bool) (P : Bounds → List Mark → List 
   pub section_absent : (s m : List Mark) → Takes test s false m → Choice test P (Nothing []) limits s [] m
   section_absent s m k = other k.1 (record { is = refl; behind = k.0 })
 
-  good_section : Good P → test end_mark ≡ false → Good (Choice test P (Nothing []))
+  pub good_section : Good P → test end_mark ≡ false → Good (Choice test P (Nothing []))
   good_section p e = good_choice test P (Nothing []) p (good_nothing []) e
 
-  leaves_section : Good P → Leaves P → Leaves (Choice test P (Nothing []))
+  pub leaves_section : Good P → Leaves P → Leaves (Choice test P (Nothing []))
   leaves_section good p = leaves_choice test P (Nothing []) good words p (leaves_nothing [])
 
-  section_skip : test end_mark ≡ false → CanSkip (Choice test P (Nothing []))
-  section_skip e = other_skip test P (Nothing []) e (left_out (Nothing []) [] (λ tail. record { is = refl; behind = refl }))
+  pub section_skip : test end_mark ≡ false → CanSkip (Choice test P (Nothing []))
+  section_skip e = other_skip test P (Nothing []) e (left_out (Nothing []) [] (λ b tail. record { is = refl; behind = refl }))
 
 -- the body of a context
 abbrev Extends : Bounds → List Mark → List Ref → List Mark → Type 0
@@ -256,28 +261,28 @@ abbrev Axioms : Bounds → List Mark → List RawLabelled → List Mark → Type
 Axioms = LinesBehind (codes "axioms")
 
 pub good_extends : Good Extends
-good_extends = good_section (is_word (codes "extends")) SomeNames (word_alone (codes "extends")) good_some_names refl
+good_extends = good_section (is_word (codes "extends")) SomeNames (word_alone (codes "extends") refl) good_some_names refl
 
 pub good_sets : Good Sets
-good_sets = good_section (is_word (codes "sets")) Names (word_alone (codes "sets")) good_names refl
+good_sets = good_section (is_word (codes "sets")) Names (word_alone (codes "sets") refl) good_names refl
 
 pub good_constants : Good Constants
-good_constants = good_section (is_word (codes "constants")) Names (word_alone (codes "constants")) good_names refl
+good_constants = good_section (is_word (codes "constants")) Names (word_alone (codes "constants") refl) good_names refl
 
 good_axioms : Good Axioms
-good_axioms = good_section (is_word (codes "axioms")) Lines (word_alone (codes "axioms")) good_lines refl
+good_axioms = good_section (is_word (codes "axioms")) Lines (word_alone (codes "axioms") refl) good_lines refl
 
 skip_extends : CanSkip Extends
-skip_extends = section_skip (is_word (codes "extends")) SomeNames (word_alone (codes "extends")) refl
+skip_extends = section_skip (is_word (codes "extends")) SomeNames (word_alone (codes "extends") refl) refl
 
 skip_sets : CanSkip Sets
-skip_sets = section_skip (is_word (codes "sets")) Names (word_alone (codes "sets")) refl
+skip_sets = section_skip (is_word (codes "sets")) Names (word_alone (codes "sets") refl) refl
 
 skip_constants : CanSkip Constants
-skip_constants = section_skip (is_word (codes "constants")) Names (word_alone (codes "constants")) refl
+skip_constants = section_skip (is_word (codes "constants")) Names (word_alone (codes "constants") refl) refl
 
 skip_axioms : CanSkip Axioms
-skip_axioms = section_skip (is_word (codes "axioms")) Lines (word_alone (codes "axioms")) refl
+skip_axioms = section_skip (is_word (codes "axioms")) Lines (word_alone (codes "axioms") refl) refl
 
 -- from each clause on
 abbrev FromConstants : Bounds → List Mark → (List Ref × List RawLabelled) → List Mark → Type 0
@@ -303,16 +308,16 @@ good_context_body = good_of context_of (Then (One reference) FromExtends)
     (good_then (One reference) FromExtends (good_one reference) (good_then Extends FromSets good_extends (good_then Sets FromConstants good_sets (good_then Constants Axioms good_constants good_axioms))))
 
 leaves_extends : Leaves Extends
-leaves_extends = leaves_section (is_word (codes "extends")) SomeNames (word_alone (codes "extends")) good_some_names leaves_some_names
+leaves_extends = leaves_section (is_word (codes "extends")) SomeNames (word_alone (codes "extends") refl) good_some_names leaves_some_names
 
 leaves_sets : Leaves Sets
-leaves_sets = leaves_section (is_word (codes "sets")) Names (word_alone (codes "sets")) good_names leaves_names
+leaves_sets = leaves_section (is_word (codes "sets")) Names (word_alone (codes "sets") refl) good_names leaves_names
 
 leaves_constants : Leaves Constants
-leaves_constants = leaves_section (is_word (codes "constants")) Names (word_alone (codes "constants")) good_names leaves_names
+leaves_constants = leaves_section (is_word (codes "constants")) Names (word_alone (codes "constants") refl) good_names leaves_names
 
 leaves_axioms : Leaves Axioms
-leaves_axioms = leaves_section (is_word (codes "axioms")) Lines (word_alone (codes "axioms")) good_lines leaves_lines
+leaves_axioms = leaves_section (is_word (codes "axioms")) Lines (word_alone (codes "axioms") refl) good_lines leaves_lines
 
 leaves_context_body : Leaves ContextBody
 leaves_context_body = leaves_of context_of (Then (One reference) FromExtends)
@@ -328,12 +333,12 @@ context_body_begins = record {
   goes_on = λ tail. record {
     from = (some_ref, skip_from_extends.value);
     is = refl;
-    part = record { middle = skip_from_extends.fill ++ end_mark ∷ tail; first = record { mark = some_name; there = refl; is = some_name_is }; second = skip_from_extends.skips tail };
+    part = record { middle = skip_from_extends.fill ++ end_mark ∷ tail; first = record { mark = some_name; there = refl; is = some_name_is }; second = skip_from_extends.skips parts tail };
   };
 }
 
 pub no_context_name : (s : List Mark) → Lacks reference s → Refuses ContextBody s s
-no_context_name s h = of_refused context_of (Then (One reference) FromExtends) s s (one_refused reference FromExtends s some_name some_ref h some_name_is (skip_begins FromExtends skip_from_extends))
+no_context_name s h = of_refused context_of (Then (One reference) FromExtends) s s (one_refused reference FromExtends s some_name some_ref h some_name_is (skip_begins FromExtends skip_from_extends parts))
 
 module _ (s a : List Mark) (n : Ref) (name : One reference limits s n a) where
   behind_name_refused : (rest : List Mark) → Refuses FromExtends a rest → Refuses ContextBody s rest
@@ -442,30 +447,30 @@ lines_stop whole s rest stop.OutOfMemory does h refused passed = tt
 -- the whole context
 pub stops_in_body : (s m rest : List Mark) (p : ℕ) (e : Stop) → s ≡ word (codes "context") p ∷ m → Reads ContextBody m (Err e) rest → ReadsWhole IsContext s (Err e) rest
 stops_in_body s m rest p stop.Unexpected e h =
-    (body_unexpected (codes "context") ContextBody s m rest p e h, body_wrong (codes "context") ContextBody s m p e h.wrong)
+    (body_unexpected (codes "context") refl ContextBody s m rest p e h, body_wrong (codes "context") refl ContextBody s m p e h.wrong)
 stops_in_body s m rest p stop.TooLarge e h =
-    (body_too_large (codes "context") ContextBody s m rest p e h, body_wrong (codes "context") ContextBody s m p e h.wrong)
+    (body_too_large (codes "context") refl ContextBody s m rest p e h, body_wrong (codes "context") refl ContextBody s m p e h.wrong)
 stops_in_body s m rest p stop.OutOfMemory e h = tt
 
 pub no_context : (s m : List Mark) → (m ≡ s) × (is_at (is_word (codes "context")) s ≡ false) → ReadsWhole IsContext s (Err stop.Unexpected) m
 no_context s m h = subst (λ t. ReadsWhole IsContext s (Err stop.Unexpected) t) (sym h.0)
-    (head_unexpected (codes "context") ContextBody s h.1 context_body_begins, head_wrong (codes "context") ContextBody s h.1)
+    (head_unexpected (codes "context") refl ContextBody s h.1 context_body_begins, head_wrong (codes "context") refl ContextBody s h.1)
 
 pub context_read : (s m k rest : List Mark) (p : ℕ) (c : RawComponent) → s ≡ word (codes "context") p ∷ m → ContextBody limits m c k → Ends k true rest → IsContext limits s c
-context_read s m k rest p c e h f = whole (codes "context") ContextBody s m k p f.0 c e h f.1
+context_read s m k rest p c e h f = whole (codes "context") refl ContextBody s m k p f.0 c e h f.1
 
 pub context_unended : (s m k rest : List Mark) (p : ℕ) (c : RawComponent) → s ≡ word (codes "context") p ∷ m → ContextBody limits m c k → Ends k false rest → ReadsWhole IsContext s (Err stop.Unexpected) rest
 context_unended s m k rest p c e h (inl f) =
     subst (λ t. ReadsWhole IsContext s (Err stop.Unexpected) t) (sym f.0) (
-      after_body (codes "context") ContextBody good_context_body leaves_context_body s m k p c e h f.1,
-      end_wrong (codes "context") ContextBody good_context_body s m k p c e h
+      after_body (codes "context") refl ContextBody good_context_body leaves_context_body s m k p c e h f.1,
+      end_wrong (codes "context") refl ContextBody good_context_body s m k p c e h
           (λ q is. let does : is_at (is_word (codes "end")) k ≡ true = ap (is_at (is_word (codes "end"))) is in let contra : true ≡ false = sym does ∙ f.1 in cc),
     )
 context_unended s m k rest p c e h (inr f) =
     let is : k ≡ word (codes "end") f.0 ∷ (f.1 ∷ f.2) = f.3 ∙ ap (λ t. word (codes "end") f.0 ∷ t) f.4 in
     subst (λ t. ReadsWhole IsContext s (Err stop.Unexpected) t) (sym f.4) (
-      after_end (codes "context") ContextBody good_context_body s m k p f.0 f.1 f.2 c e h is,
-      end_wrong (codes "context") ContextBody good_context_body s m k p c e h (λ q other. let clash : word (codes "end") q ∷ [] ≡ word (codes "end") f.0 ∷ (f.1 ∷ f.2) = sym other ∙ is in cc),
+      after_end (codes "context") refl ContextBody good_context_body s m k p f.0 f.1 f.2 c e h is,
+      end_wrong (codes "context") refl ContextBody good_context_body s m k p c e h (λ q other. let clash : word (codes "end") q ∷ [] ≡ word (codes "end") f.0 ∷ (f.1 ∷ f.2) = sym other ∙ is in cc),
     )
 
 pub whole_exit : (s rest : List Mark) (r : Result RawComponent Stop) (e : Stop) → IsErrAnd r (λ d. d ≡ e) → ReadsWhole IsContext s (Err e) rest → ReadsWhole IsContext s r rest

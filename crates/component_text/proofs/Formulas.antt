@@ -1,20 +1,16 @@
 -- Where a formula is refused, or passes a limit, in the text of a component.
-use Rattle.std.proofs.Common.{◌≡◌, ◌∙◌, ap, ℕ, zero, suc, ◌+◌, ◌<◌, ◌≤◌, inl, inr, List, [], ◌∷◌, ◌++◌, Bool, true, false, Some, None, cond, length, take, drop, map, refl, sym, subst, arith, append_assoc, append-nil, length-append}
-use Rattle.std.specs.Prelude.{Option}
+use Rattle.std.proofs.Common.{◌≡◌, ◌∙◌, ap, ℕ, zero, suc, ◌+◌, ◌<◌, ◌≤◌, inl, inr, List, [], ◌∷◌, ◌++◌, Bool, true, false, Some, None, cond, length, take, drop, map, refl, sym, subst, arith, append_assoc, append-nil}
+use Rattle.std.specs.Prelude.{Option, ◌⊎◌}
 use Rattle.std.proofs.lemmas.List.{take-append-drop}
-use Rattle.formula_core.specs.declared.raw.Raw.{Raw}
-use Rattle.math_grammar.specs.declared.holes.Hole.{Hole}
-use Rattle.math_grammar.specs.declared.holes.Hole.TheVariants as hole
-use Rattle.math_grammar.specs.Tokens.{Item}
-use Rattle.math_grammar.specs.Grammar.{Spells, HasContinuation}
-use Rattle.math_parse.specs.declared.fault.ParseFault.TheVariants as fault
-use Rattle.math_parse.specs.Limits.{most_parts, first_large, IsTooLarge, IsFault, IsSentence}
-use Rattle.component_text.specs.Marks.{Mark, word, label, plain, run, behind_run, is_at}
-use Rattle.component_text.specs.Forms.{limits, parts, One, Run, Then}
-use Rattle.component_text.specs.Grammar.{IsFormula, label_at}
-use Rattle.component_text.specs.Reading.{end_mark, Begins, NoneHas, Refuses, Passes, from_token, is_plain, all_plain, Placed, not_plain, no_formula, in_formula}
-use Rattle.component_text.proofs.Refusing.{one_then_refused}
 use Rattle.formula_core.specs.Texts.{is_label}
+use Rattle.math_grammar.specs.Tokens.{Item}
+use Rattle.math_parse.specs.Limits.{first_large}
+use Rattle.component_text.specs.Marks.{Mark, word, label, plain, run, behind_run, is_at}
+use Rattle.component_text.specs.Forms.{Bounds, limits, parts, none, One, Run, Then}
+use Rattle.component_text.specs.Grammar.{label_at}
+use Rattle.component_text.specs.Faults.{opens_formula}
+use Rattle.component_text.specs.Reading.{end_mark, BeginsIn, NoneHasIn, NoneHas, Refuses, IsLargeIn, is_long, is_wide, Passes, from_token, StartsIn, StopsAt, PassesAt, is_plain, Placed, not_plain, in_formula}
+use Rattle.component_text.proofs.Refusing.{one_begins, one_then_nowhere, one_then_wrong}
 use Rattle.component_text.proofs.Parts.{Ended, nothing_there, at_word, at_label, run_ends, run_of, behind_of}
 
 map_append : (f g : List Item) → map plain (f ++ g) ≡ map plain f ++ map plain g
@@ -53,51 +49,45 @@ no_item [] (suc i) e h = absurd (omega arith)
 no_item (x ∷ f) zero e h = cc
 no_item (x ∷ f) (suc i) e h = let later = no_item f i e (omega arith) in (omega (arith, later.0), ap (λ t. x ∷ t) later.1)
 
-module _ (h : Hole) where
-  run_begins : (b : List Item) → HasContinuation most_parts h b → Begins (Run (IsFormula h)) (map plain b)
-  run_begins b c =
-      let all : (tail : List Mark) → map plain b ++ (map plain c.0 ++ end_mark ∷ tail) ≡ map plain (b ++ c.0) ++ end_mark ∷ tail =
-      λ tail. sym (append_assoc (map plain b) (map plain c.0) (end_mark ∷ tail)) ∙ ap (λ t. t ++ end_mark ∷ tail) (sym (map_append b c.0)) in
+module _ {X : Type 0} (F : Bounds → List Item → X → Type 0) where
+  pub run_begins : (b : Bounds) (f : List Item) → StartsIn F b f → BeginsIn b (Run F) (map plain f)
+  run_begins b f c =
+      let all : (tail : List Mark) → map plain f ++ (map plain c.0 ++ end_mark ∷ tail) ≡ map plain (f ++ c.0) ++ end_mark ∷ tail =
+      λ tail. sym (append_assoc (map plain f) (map plain c.0) (end_mark ∷ tail)) ∙ ap (λ t. t ++ end_mark ∷ tail) (sym (map_append f c.0)) in
       record {
         more = map plain c.0;
         value = c.1;
         goes_on = λ tail. record {
-          spelled = subst (λ f. IsFormula h parts f c.1) (sym (ap run (all tail) ∙ run_of (b ++ c.0) (end_mark ∷ tail) at_word)) c.2;
-          behind = sym (ap behind_run (all tail) ∙ behind_of (b ++ c.0) (end_mark ∷ tail) at_word);
+          spelled = subst (λ g. F b g c.1) (sym (ap run (all tail) ∙ run_of (f ++ c.0) (end_mark ∷ tail) at_word)) c.2;
+          behind = sym (ap behind_run (all tail) ∙ behind_of (f ++ c.0) (end_mark ∷ tail) at_word);
         };
       }
 
-  ends_there : (f : List Item) (rest : List Mark) → Ended rest → ((t : Raw) → Spells None h f t → ⊥) → NoneHas (Run (IsFormula h)) (map plain f) rest
-  ends_there f [] e isnt = λ t r k. isnt t (subst (λ g. Spells None h g t) (ap run (sym (append-nil (map plain f))) ∙ run_of f [] nothing_there) k.spelled)
-  ends_there f (word w p ∷ rest) e isnt = λ more t r k. isnt t (subst (λ g. Spells None h g t) (run_of f (word w p ∷ more) at_word) k.spelled)
-  ends_there f (label l p ∷ rest) e isnt = λ more t r k. isnt t (subst (λ g. Spells None h g t) (run_of f (label l p ∷ more) at_label) k.spelled)
-  ends_there f (plain x ∷ rest) e isnt = absurd (not_plain x rest e)
+  ends_there : (f : List Item) (rest : List Mark) → Ended rest → ((t : X) → F none f t → ⊥) → NoneHas (Run F) (map plain f) rest
+  ends_there f [] e isnt = λ t r k. isnt t (subst (λ g. F none g t) (ap run (sym (append-nil (map plain f))) ∙ run_of f [] nothing_there) k.spelled)
+  ends_there f (word w p ∷ rest) e isnt = λ more t r k. isnt t (subst (λ g. F none g t) (run_of f (word w p ∷ more) at_word) k.spelled)
+  ends_there f (label l p ∷ rest) e isnt = λ more t r k. isnt t (subst (λ g. F none g t) (run_of f (label l p ∷ more) at_label) k.spelled)
+  ends_there f (plain x ∷ rest) e isnt = absurd (not_plain_there x rest e)
     where
-      not_plain : (x : Item) (rest : List Mark) → Ended (plain x ∷ rest) → ⊥
-      not_plain x rest e = elim e [ ]
+      not_plain_there : (x : Item) (rest : List Mark) → Ended (plain x ∷ rest) → ⊥
+      not_plain_there x rest e = elim e [ ]
 
-  goes_on : (b : List Item) (y : Item) (rest : List Mark) → (HasContinuation None h (b ++ y ∷ []) → ⊥) → NoneHas (Run (IsFormula h)) (map plain b) (plain y ∷ rest)
-  goes_on b y rest isnt = λ more t r k.
-      let f : run (map plain b ++ plain y ∷ more) ≡ (b ++ y ∷ []) ++ run more = run_more b (plain y ∷ more) ∙ sym (append_assoc b (y ∷ []) (run more)) in
-      isnt (run more, t, subst (λ g. Spells None h g t) f k.spelled)
+  goes_on : (b : Bounds) (f : List Item) (y : Item) (rest : List Mark) → (StartsIn F b (f ++ y ∷ []) → ⊥) → NoneHasIn b (Run F) (map plain f) (plain y ∷ rest)
+  goes_on b f y rest isnt = λ more t r k.
+      let g : run (map plain f ++ plain y ∷ more) ≡ (f ++ y ∷ []) ++ run more = run_more f (plain y ∷ more) ∙ sym (append_assoc f (y ∷ []) (run more)) in
+      isnt (run more, t, subst (λ u. F b u t) g k.spelled)
 
-  pub run_refused : (s rest : List Mark) (i : ℕ) → rest ≡ from_token i s → IsFault h (run s) (fault.Unexpected i) → ((t : Raw) → IsSentence h (run s) t → ⊥) → Refuses (Run (IsFormula h)) s rest
-  run_refused s rest i e k isnt = record {
-    before = map plain (take i (run s));
-    is = front_is s i ∙ ap (λ t. map plain (take i (run s)) ++ t) (sym e);
-    begins = run_begins (take i (run s)) k.1;
-    nowhere = subst (NoneHas (Run (IsFormula h)) (map plain (take i (run s)))) (sym e) (go (drop i (run s)) refl);
-    placed = no_formula (all_plain (take i (run s)) refl);
-    wrong = λ t r p. isnt t p.spelled;
-  }
+  -- no formula goes on with what stands at the place
+  stops_nowhere : (s rest : List Mark) (i : ℕ) → rest ≡ from_token i s → StopsAt F (run s) i → NoneHas (Run F) (map plain (take i (run s))) rest
+  stops_nowhere s rest i e k = subst (NoneHas (Run F) (map plain (take i (run s)))) (sym e) (go (drop i (run s)) refl)
     where
-      go : (g : List Item) → drop i (run s) ≡ g → NoneHas (Run (IsFormula h)) (map plain (take i (run s))) (map plain g ++ behind_run s)
+      go : (g : List Item) → drop i (run s) ≡ g → NoneHas (Run F) (map plain (take i (run s))) (map plain g ++ behind_run s)
       go [] d =
-          let last = no_item (run s) i d k.0 in
-          ends_there (take i (run s)) (behind_run s) (run_ends s) (λ t p. k.2.at_end last.0 t (subst (λ f. Spells None h f t) last.1 p))
+          let last = no_item (run s) i d k.short in
+          ends_there (take i (run s)) (behind_run s) (run_ends s) (λ t p. k.at_end last.0 t (subst (λ f. F none f t) last.1 p))
       go (y ∷ g) d =
           let next = next_item (run s) i y g d in
-          goes_on (take i (run s)) y (map plain g ++ behind_run s) (λ c. k.2.there next.0 (subst (HasContinuation None h) (sym next.1) c))
+          goes_on none (take i (run s)) y (map plain g ++ behind_run s) (λ c. k.there next.0 (subst (StartsIn F none) (sym next.1) c))
 
 -- a label with a predicate behind it: how far the predicate is within its limits
 pub label_is : (y : Mark) (x : List ℕ × ℕ) → label_at y ≡ Some x → y ≡ label x.0 x.1
@@ -109,85 +99,91 @@ label_is (label l p) x e = go (is_label l) e
     go true e = let same : (l, p) ≡ x = cc in ap (λ (z : List ℕ × ℕ). label z.0 z.1) same
     go false e = cc
 
-take_all : (n : ℕ) (f : List Item) → length f ≡ n → take n f ≡ f
-take_all zero [] e = refl
-take_all (suc n) [] e = refl
-take_all zero (x ∷ f) e = absurd (omega arith)
-take_all (suc n) (x ∷ f) e = ap (λ t. x ∷ t) (take_all n f (omega arith))
+pub label_opens : (y : Mark) (x : List ℕ × ℕ) → label_at y ≡ Some x → opens_formula y ≡ true
+label_opens y x e = ap opens_formula (label_is y x e)
 
--- the tokens up to the one at i
-up_to : (f : List Item) (i : ℕ) (y : Item) → take (i + 1) f ≡ take i f ++ y ∷ [] → take (i + 1) f ≡ take (length (take i f) + 1) (take i f ++ y ∷ [])
-up_to f i y e = e ∙ sym (take_all (length (take i f) + 1) (take i f ++ y ∷ []) (length-append (take i f) (y ∷ [])))
+ended_is : (t : List Mark) → Ended t → is_at is_plain t ≡ false
+ended_is [] nothing_there = refl
+ended_is (word w p ∷ t) at_word = refl
+ended_is (label l p ∷ t) at_label = refl
+ended_is (plain y ∷ t) x = elim x [ ]
 
-large_there : (f : List Item) (i : ℕ) (y : Item) → take (i + 1) f ≡ take i f ++ y ∷ [] → length (take i f) ≡ i → IsTooLarge hole.Predicate f i →
-    IsTooLarge hole.Predicate (take i f ++ y ∷ []) (length (take i f))
-large_there f i y e n (inl a) = inl (ap first_large (sym (up_to f i y e)) ∙ a ∙ ap Some (sym n))
-large_there f i y e n (inr a) =
-    inr (subst (HasContinuation None hole.Predicate) (up_to f i y e) a.0, λ c. a.1 (subst (HasContinuation most_parts hole.Predicate) (sym (up_to f i y e)) c))
+nothing_dropped : (f : List Item) (i : ℕ) → i < length f → drop i f ≡ [] → ⊥
+nothing_dropped [] i l d = omega arith
+nothing_dropped (z ∷ f) zero l d = cc
+nothing_dropped (z ∷ f) (suc i) l d = nothing_dropped f i (omega arith) d
 
-small_there : (f : List Item) (i : ℕ) (y : Item) → take (i + 1) f ≡ take i f ++ y ∷ [] → first_large (take (i + 1) f) ≡ None → (HasContinuation None hole.Predicate (take (i + 1) f) → ⊥) →
-    IsTooLarge hole.Predicate (take i f ++ y ∷ []) (length (take i f)) → ⊥
-small_there f i y e few isnt (inl a) = let clash : None ≡ Some (length (take i f)) = sym few ∙ ap first_large (up_to f i y e) ∙ a in cc
-small_there f i y e few isnt (inr a) = isnt (subst (HasContinuation None hole.Predicate) (sym (up_to f i y e)) a.0)
+-- a part with a formula behind the token y, which opens it
+module _ {X Z : Type 0} (F : Bounds → List Item → X → Type 0) (R : Bounds → List Mark → Z → List Mark → Type 0)
+    (lead : List Mark) (y : Mark) (s m : List Mark) (there : s ≡ lead ++ y ∷ m) (opens : opens_formula y ≡ true)
+    (begins_as : (b : Bounds) (f : List Item) → StartsIn F b f → BeginsIn b R (lead ++ y ∷ map plain f))
+    (nowhere_as : (b : Bounds) (before rest : List Mark) → m ≡ before ++ rest → NoneHasIn b (Run F) before rest → NoneHasIn b R (lead ++ y ∷ before) rest)
+    (wrong_as : ((x : X) → F limits (run m) x → ⊥) → (z : Z) (r : List Mark) → R limits s z r → ⊥) where
+  divided : (rest : List Mark) (i : ℕ) → rest ≡ from_token i m → m ≡ map plain (take i (run m)) ++ rest
+  divided rest i e = front_is m i ∙ ap (λ t. map plain (take i (run m)) ++ t) (sym e)
 
-module _ (s m rest : List Mark) (x : List ℕ × ℕ) (i : ℕ) (o : One label_at limits s x m) (e : rest ≡ from_token i m) (isnt : (t : Raw) → IsSentence hole.Predicate (run m) t → ⊥) where
-  opened_so : o.mark ∷ map plain (take i (run m)) ≡ label x.0 x.1 ∷ map plain (take i (run m))
-  opened_so = ap (λ y. y ∷ map plain (take i (run m))) (label_is o.mark x o.is)
+  all_is : (rest : List Mark) (i : ℕ) → rest ≡ from_token i m → s ≡ (lead ++ y ∷ map plain (take i (run m))) ++ rest
+  all_is rest i e = there ∙ ap (λ t. lead ++ y ∷ t) (divided rest i e) ∙ sym (append_assoc lead (y ∷ map plain (take i (run m))) rest)
 
-  placed_there : IsFault hole.Predicate (run m) (fault.Unexpected i) → (g : List Item) → drop i (run m) ≡ g → Placed (o.mark ∷ map plain (take i (run m))) rest
-  placed_there k [] d = not_plain (ap (is_at is_plain) (e ∙ ap (λ t. map plain t ++ behind_run m) d) ∙ ended_is (behind_run m) (run_ends m))
-    where
-      ended_is : (t : List Mark) → Ended t → is_at is_plain t ≡ false
-      ended_is [] nothing_there = refl
-      ended_is (word w p ∷ t) at_word = refl
-      ended_is (label l p ∷ t) at_label = refl
-      ended_is (plain y ∷ t) x = elim x [ ]
-  placed_there k (y ∷ g) d =
-      let next = next_item (run m) i y g d in
-      in_formula [] x.0 x.1 (take i (run m)) y (map plain g ++ behind_run m) opened_so (e ∙ ap (λ t. map plain t ++ behind_run m) d)
-      (small_there (run m) i y next.1 k.3 (k.2.there next.0))
+  placed_there : (rest : List Mark) (i : ℕ) → rest ≡ from_token i m → StopsAt F (run m) i → (g : List Item) → drop i (run m) ≡ g → Placed (lead ++ y ∷ map plain (take i (run m))) rest
+  placed_there rest i e k [] d = not_plain (ap (is_at is_plain) (e ∙ ap (λ t. map plain t ++ behind_run m) d) ∙ ended_is (behind_run m) (run_ends m))
+  placed_there rest i e k (x ∷ g) d =
+      let next = next_item (run m) i x g d in
+      in_formula lead y (take i (run m)) x (map plain g ++ behind_run m) refl opens (e ∙ ap (λ t. map plain t ++ behind_run m) d) (ap first_large (sym next.1) ∙ k.few)
 
-  pub label_refused : IsFault hole.Predicate (run m) (fault.Unexpected i) → Refuses (Then (One label_at) (Run (IsFormula hole.Predicate))) s rest
-  unfolding run_refused
-  label_refused k =
-      one_then_refused label_at (Run (IsFormula hole.Predicate)) s m rest x o (run_refused hole.Predicate m rest i e k isnt) (placed_there k (drop i (run m)) refl)
+  pub opened_refused : (rest : List Mark) (i : ℕ) → rest ≡ from_token i m → StopsAt F (run m) i → Refuses R s rest
+  opened_refused rest i e k = record {
+    before = lead ++ y ∷ map plain (take i (run m));
+    is = all_is rest i e;
+    begins = begins_as parts (take i (run m)) k.begins;
+    nowhere = nowhere_as none (map plain (take i (run m))) rest (divided rest i e) (stops_nowhere F m rest i e k);
+    placed = placed_there rest i e k (drop i (run m)) refl;
+    wrong = wrong_as k.wrong;
+  }
 
-  nothing_dropped : (f : List Item) (i : ℕ) → i < length f → drop i f ≡ [] → ⊥
-  nothing_dropped [] i l d = omega arith
-  nothing_dropped (z ∷ f) zero l d = cc
-  nothing_dropped (z ∷ f) (suc i) l d = nothing_dropped f i (omega arith) d
+  large_there : (i : ℕ) (x : Item) (later : List Mark) → m ≡ map plain (take i (run m)) ++ plain x ∷ later → take (i + 1) (run m) ≡ take i (run m) ++ x ∷ [] → length (take i (run m)) ≡ i →
+      ((first_large (take (i + 1) (run m)) ≡ Some i) ⊎ (StartsIn F none (take (i + 1) (run m)) × (StartsIn F parts (take (i + 1) (run m)) → ⊥))) →
+      IsLargeIn R (lead ++ y ∷ map plain (take i (run m))) (plain x) later
+  large_there i x later is e n (inl a) =
+      is_long (record { lead = lead; opening = y; formula = take i (run m); item = x; is = refl; opens = opens; token = refl; large = ap first_large (sym e) ∙ a ∙ ap Some (sym n) })
+  large_there i x later is e n (inr a) =
+      let f = take i (run m) in
+      is_wide
+      (subst (BeginsIn none R) (ap (λ t. lead ++ y ∷ t) (map_append f (x ∷ [])) ∙ sym (append_assoc lead (y ∷ map plain f) (plain x ∷ [])))
+      (begins_as none (f ++ x ∷ []) (subst (StartsIn F none) e a.0)))
+      (nowhere_as parts (map plain f) (plain x ∷ later) is (goes_on F parts f x later (λ c. a.1 (subst (StartsIn F parts) (sym e) c))))
 
-  passes_at : IsFault hole.Predicate (run m) (fault.TooLarge i) → (g : List Item) → drop i (run m) ≡ g → Passes (Then (One label_at) (Run (IsFormula hole.Predicate))) s rest
-  passes_at k [] d = absurd (nothing_dropped (run m) i k.0 d)
-  passes_at k (y ∷ g) d =
-      let next = next_item (run m) i y g d in
-      let begins = run_begins hole.Predicate (take i (run m)) k.1 in
+  passes_at : (rest : List Mark) (i : ℕ) → rest ≡ from_token i m → PassesAt F (run m) i → (g : List Item) → drop i (run m) ≡ g → Passes R s rest
+  passes_at rest i e k [] d = absurd (nothing_dropped (run m) i k.short d)
+  passes_at rest i e k (x ∷ g) d =
+      let next = next_item (run m) i x g d in
+      let later : List Mark = map plain g ++ behind_run m in
+      let rest_is : rest ≡ plain x ∷ later = e ∙ ap (λ t. map plain t ++ behind_run m) d in
       record {
-        before = o.mark ∷ map plain (take i (run m));
-        token = plain y;
-        later = map plain g ++ behind_run m;
-        is = o.there ∙ ap (λ t. o.mark ∷ t) (front_is m i ∙ ap (λ t. map plain (take i (run m)) ++ t) (sym e));
-        next = e ∙ ap (λ t. map plain t ++ behind_run m) d;
-        begins = record {
-          more = begins.more;
-          value = (x, begins.value);
-          goes_on = λ tail. record { middle = map plain (take i (run m)) ++ (begins.more ++ end_mark ∷ tail); first = record { mark = o.mark; there = refl; is = o.is }; second = begins.goes_on tail };
-        };
-        large = record {
-          lead = [];
-          name = x.0;
-          place = x.1;
-          formula = take i (run m);
-          item = y;
-          is = opened_so;
-          token = refl;
-          large = large_there (run m) i y next.1 next.2 k.3;
-        };
-        wrong = λ z r p.
-            let there : o.mark ∷ m ≡ p.first.mark ∷ p.middle = sym o.there ∙ p.first.there in
-            let tail : p.middle ≡ m = cc in
-            isnt z.1 (subst (λ t. IsSentence hole.Predicate (run t) z.1) tail p.second.spelled);
+        before = lead ++ y ∷ map plain (take i (run m));
+        token = plain x;
+        later = later;
+        is = all_is rest i e;
+        next = rest_is;
+        begins = begins_as parts (take i (run m)) k.begins;
+        large = large_there i x later (divided rest i e ∙ ap (λ t. map plain (take i (run m)) ++ t) rest_is) next.1 next.2 k.large;
+        wrong = wrong_as k.wrong;
       }
 
-  pub label_passes : IsFault hole.Predicate (run m) (fault.TooLarge i) → Passes (Then (One label_at) (Run (IsFormula hole.Predicate))) s rest
-  label_passes k = passes_at k (drop i (run m)) refl
+  pub opened_passes : (rest : List Mark) (i : ℕ) → rest ≡ from_token i m → PassesAt F (run m) i → Passes R s rest
+  opened_passes rest i e k = passes_at rest i e k (drop i (run m)) refl
+
+-- a label with a formula behind it
+module _ {X : Type 0} (F : Bounds → List Item → X → Type 0) (s m : List Mark) (x : List ℕ × ℕ) (o : One label_at limits s x m) where
+  wrong_behind : ((t : X) → F limits (run m) t → ⊥) → (z : (List ℕ × ℕ) × X) (r : List Mark) → Then (One label_at) (Run F) limits s z r → ⊥
+  wrong_behind isnt = one_then_wrong label_at (Run F) s m x o (λ t r k. isnt t k.spelled)
+
+  pub label_refused : (rest : List Mark) (i : ℕ) → rest ≡ from_token i m → StopsAt F (run m) i → Refuses (Then (One label_at) (Run F)) s rest
+  label_refused =
+      opened_refused F (Then (One label_at) (Run F)) [] o.mark s m o.there (label_opens o.mark x o.is) (λ b f c. one_begins label_at (Run F) b o.mark x (map plain f) o.is (run_begins F b f c))
+      (λ b before rest e. one_then_nowhere label_at (Run F) b o.mark before rest) wrong_behind
+
+  pub label_passes : (rest : List Mark) (i : ℕ) → rest ≡ from_token i m → PassesAt F (run m) i → Passes (Then (One label_at) (Run F)) s rest
+  label_passes =
+      opened_passes F (Then (One label_at) (Run F)) [] o.mark s m o.there (label_opens o.mark x o.is) (λ b f c. one_begins label_at (Run F) b o.mark x (map plain f) o.is (run_begins F b f c))
+      (λ b before rest e. one_then_nowhere label_at (Run F) b o.mark before rest) wrong_behind

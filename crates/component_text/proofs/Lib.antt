@@ -1,4 +1,5 @@
 pub mod Texts
+pub mod Looser
 pub mod Marks
 pub mod Parts
 pub mod Placed
@@ -6,6 +7,10 @@ pub mod Refusing
 pub mod Whole
 pub mod Formulas
 pub mod Components
+pub mod Stops
+pub mod Machines
+pub mod Wholes
 pub mod Utf8
 pub mod Unique
+pub mod Once
 pub mod Texted

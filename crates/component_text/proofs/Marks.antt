@@ -8,14 +8,17 @@ use Rattle.math_grammar.specs.declared.holes.Hole.{Hole}
 use Rattle.math_parse.specs.declared.fault.ParseFault.TheVariants as fault
 use Rattle.math_parse.specs.Limits.{IsFault, IsSentence}
 use Rattle.component_text.specs.declared.stop.Stop.TheVariants as stop
-use Rattle.component_text.specs.Forms.{limits, Run}
+use Rattle.formula_core.specs.declared.raw.RawAction.{RawAction}
+use Rattle.math_action.specs.Limits.{IsAction, IsActionFault}
+use Rattle.component_text.specs.Forms.{Bounds, limits, Run}
 use Rattle.component_text.specs.Grammar.{IsFormula}
+use Rattle.component_text.specs.Machines.{IsAct, either}
 use Rattle.formula_core.specs.Texts.{begins_with}
 use Rattle.math_tokens.specs.declared.cutting.Token.{Token}
 use Rattle.math_grammar.specs.Tokens.{Item, bytes_of, item_of, items_of}
 use Rattle.component_tokens.specs.Pieces.{at_sign}
 use Rattle.component_text.specs.Marks.{Mark, word, label, plain, is_structural, mark_by, mark_of, marks_of, run, behind_run, is_word, is_at}
-use Rattle.component_text.specs.Reading.{from_token, ReadsFormula}
+use Rattle.component_text.specs.Reading.{Takes, from_token, StopsAt, PassesAt, ReadsFormula}
 use Rattle.component_text.specs.Texts.{is_plain_text, plain_length}
 
 -- it ends a formula
@@ -147,13 +150,13 @@ at_first test text (u ∷ tokens) t e = let same : u ≡ t = cc in ap (λ v. tes
 pub rest_slice : {A : Type 0} (n : ℕ) (xs : List A) → take (length xs - n) (drop n xs) ≡ drop n xs
 rest_slice n xs = take_rest xs n
 
-module _ (h : Hole) (text : List ℕ) (tokens : List Token) (n : ℕ) (s : List Mark) (view : marks_of text tokens ≡ s) (size : n ≡ plain_length text tokens) where
+module _ {X : Type 0} (F : Bounds → List Item → X → Type 0) (text : List ℕ) (tokens : List Token) (n : ℕ) (s : List Mark) (view : marks_of text tokens ≡ s) (size : n ≡ plain_length text tokens) where
   run_is : run s ≡ items_of text (take n tokens)
   run_is = ap run (sym view) ∙ run_tokens text tokens ∙ ap (λ k. items_of text (take k tokens)) (sym size)
 
-  pub formula_read : (t : Raw) → IsSentence h (items_of text (take n tokens)) t → Run (IsFormula h) limits s t (marks_of text (take (length tokens - n) (drop n tokens)))
+  pub formula_read : (t : X) → F limits (items_of text (take n tokens)) t → Run F limits s t (marks_of text (take (length tokens - n) (drop n tokens)))
   formula_read t k = record {
-    spelled = subst (λ f. IsSentence h f t) (sym run_is) k;
+    spelled = subst (λ f. F limits f t) (sym run_is) k;
     behind =
         ap (marks_of text) (rest_slice n tokens) ∙ ap (λ m. marks_of text (drop m tokens)) size ∙ sym (behind_tokens text tokens) ∙ ap behind_run view;
   }
@@ -162,14 +165,39 @@ module _ (h : Hole) (text : List ℕ) (tokens : List Token) (n : ℕ) (s : List 
   at_token i short =
       ap (marks_of text) (rest_slice i tokens) ∙ tokens_from text tokens i (subst (λ m. i ≤ length (run m)) (sym view) short) ∙ ap (from_token i) view
 
-  pub formula_unexpected : (i : ℕ) → IsFault h (items_of text (take n tokens)) (fault.Unexpected i) → ((t : Raw) → IsSentence h (items_of text (take n tokens)) t → ⊥) →
-      ReadsFormula h s (Err stop.Unexpected) (marks_of text (take (length tokens - i) (drop i tokens)))
-  formula_unexpected i k isnt =
-      let there : IsFault h (run s) (fault.Unexpected i) = subst (λ f. IsFault h f (fault.Unexpected i)) (sym run_is) k in
-      (i, at_token i there.0, there, λ t p. isnt t (subst (λ f. IsSentence h f t) run_is p))
+  pub formula_unexpected : (i : ℕ) → StopsAt F (items_of text (take n tokens)) i → ReadsFormula F s (Err stop.Unexpected) (marks_of text (take (length tokens - i) (drop i tokens)))
+  formula_unexpected i k =
+      let there : StopsAt F (run s) i = subst (λ f. StopsAt F f i) (sym run_is) k in
+      (i, at_token i there.short, there)
 
-  pub formula_too_large : (i : ℕ) → IsFault h (items_of text (take n tokens)) (fault.TooLarge i) → ((t : Raw) → IsSentence h (items_of text (take n tokens)) t → ⊥) →
-      ReadsFormula h s (Err stop.TooLarge) (marks_of text (take (length tokens - i) (drop i tokens)))
-  formula_too_large i k isnt =
-      let there : IsFault h (run s) (fault.TooLarge i) = subst (λ f. IsFault h f (fault.TooLarge i)) (sym run_is) k in
-      (i, at_token i (omega (arith, there.0)), there, λ t p. isnt t (subst (λ f. IsSentence h f t) run_is p))
+  pub formula_too_large : (i : ℕ) → PassesAt F (items_of text (take n tokens)) i → ReadsFormula F s (Err stop.TooLarge) (marks_of text (take (length tokens - i) (drop i tokens)))
+  formula_too_large i k =
+      let there : PassesAt F (run s) i = subst (λ f. PassesAt F f i) (sym run_is) k in
+      (i, at_token i (omega (arith, there.short)), there)
+
+-- what the parsers of formulas and of actions tell
+pub formula_stops : (h : Hole) (f : List Item) (i : ℕ) → IsFault h f (fault.Unexpected i) → ((t : Raw) → IsSentence h f t → ⊥) → StopsAt (IsFormula h) f i
+formula_stops h f i k isnt = record { short = k.0; begins = k.1; there = k.2.there; at_end = k.2.at_end; few = k.3; wrong = isnt }
+
+pub formula_passes : (h : Hole) (f : List Item) (i : ℕ) → IsFault h f (fault.TooLarge i) → ((t : Raw) → IsSentence h f t → ⊥) → PassesAt (IsFormula h) f i
+formula_passes h f i k isnt = record { short = k.0; begins = k.1; large = k.3; wrong = isnt }
+
+pub action_stops : (f : List Item) (i : ℕ) → IsActionFault f (fault.Unexpected i) → ((a : RawAction) → IsAction f a → ⊥) → StopsAt IsAct f i
+action_stops f i k isnt = record { short = k.0; begins = k.1; there = k.2.there; at_end = k.2.at_end; few = k.3; wrong = isnt }
+
+pub action_passes : (f : List Item) (i : ℕ) → IsActionFault f (fault.TooLarge i) → ((a : RawAction) → IsAction f a → ⊥) → PassesAt IsAct f i
+action_passes f i k isnt = record { short = k.0; begins = k.1; large = k.3; wrong = isnt }
+
+-- one of two words
+pub either_first : (v w : List ℕ) (s m : List Mark) → Takes (is_word v) s true m → Takes (either v w) s true m
+either_first v w s m k = (k.0, k.1, ap (λ b. b || is_word w k.0) k.2)
+
+pub either_second : (v w : List ℕ) (s a m : List Mark) (b : Bool) → Takes (is_word v) s false a → Takes (is_word w) a b m → Takes (either v w) s b m
+either_second v w s a m true k h =
+    let there : s ≡ h.0 ∷ m = sym k.0 ∙ h.1 in
+    (h.0, there, ap (λ b. b || is_word w h.0) (sym (ap (is_at (is_word v)) there) ∙ k.1) ∙ h.2)
+either_second v w s a m false k h = (h.0 ∙ k.0, neither s k.1 (ap (is_at (is_word w)) (sym k.0) ∙ h.1))
+  where
+    neither : (s : List Mark) → is_at (is_word v) s ≡ false → is_at (is_word w) s ≡ false → is_at (either v w) s ≡ false
+    neither [] p q = refl
+    neither (x ∷ s) p q = ap (λ b. b || is_word w x) p ∙ q

@@ -3,9 +3,9 @@ use Rattle.std.proofs.Common.{◌≡◌, ◌∙◌, ap, ◌<◌, List, [], ◌�
 use Rattle.std.specs.Prelude.{Option}
 use Rattle.component_text.specs.Marks.{Mark, is_at}
 use Rattle.component_text.specs.Forms.{Bounds, limits, parts, none, One, Then, Choice, taken, other, Many, no_more, one_more, Of}
-use Rattle.component_text.specs.Faults.{IsLargeAt}
-use Rattle.component_text.specs.Reading.{end_mark, Begins, NoneHas, Refuses, Passes, Lacks, is_plain, NoLabel, Placed, no_formula}
-use Rattle.component_text.proofs.Placed.{no_label_none, placed_behind, Leaves}
+use Rattle.component_text.specs.Faults.{IsLong}
+use Rattle.component_text.specs.Reading.{end_mark, BeginsIn, Begins, NoneHasIn, NoneHas, IsLargeIn, is_long, is_wide, Refuses, Passes, Lacks, is_plain, NoFormula, Placed, no_formula}
+use Rattle.component_text.proofs.Placed.{none_free, placed_behind, Leaves}
 use Rattle.component_text.proofs.Parts.{SameStart, same_first, same, closing, Good, same_start_self}
 
 -- The part may begin with `end`: it is left out before it, or `end` is all of it.
@@ -14,30 +14,42 @@ pub record CanSkip {X : Type 0} (P : Bounds → List Mark → X → List Mark �
   pub value : X
   pub behind : List Mark → List Mark
   pub starts : (tail : List Mark) → fill ++ end_mark ∷ tail ≡ end_mark ∷ behind tail
-  pub skips : (tail : List Mark) → P parts (fill ++ end_mark ∷ tail) value (end_mark ∷ tail)
+  pub skips : (b : Bounds) (tail : List Mark) → P b (fill ++ end_mark ∷ tail) value (end_mark ∷ tail)
 
-pub skip_begins : {X : Type 0} (P : Bounds → List Mark → X → List Mark → Type 0) → CanSkip P → Begins P []
-skip_begins P h = record { more = h.fill; value = h.value; goes_on = h.skips }
+pub skip_begins : {X : Type 0} (P : Bounds → List Mark → X → List Mark → Type 0) → CanSkip P → (b : Bounds) → BeginsIn b P []
+skip_begins P h b = record { more = h.fill; value = h.value; goes_on = h.skips b }
 
 -- it is left out
-pub left_out : {X : Type 0} (P : Bounds → List Mark → X → List Mark → Type 0) (x : X) → ((tail : List Mark) → P parts (end_mark ∷ tail) x (end_mark ∷ tail)) → CanSkip P
+pub left_out : {X : Type 0} (P : Bounds → List Mark → X → List Mark → Type 0) (x : X) → ((b : Bounds) (tail : List Mark) → P b (end_mark ∷ tail) x (end_mark ∷ tail)) → CanSkip P
 left_out P x h = record { fill = []; value = x; behind = λ tail. tail; starts = λ tail. refl; skips = h }
 
-pub larger : (front before : List Mark) (token : Mark) → IsLargeAt before token → IsLargeAt (front ++ before) token
-larger front before token h = record {
+pub longer : (front before : List Mark) (token : Mark) → IsLong before token → IsLong (front ++ before) token
+longer front before token h = record {
   lead = front ++ h.lead;
-  name = h.name;
-  place = h.place;
+  opening = h.opening;
   formula = h.formula;
   item = h.item;
   is = ap (λ t. front ++ t) h.is ∙ sym (append_assoc front h.lead _);
+  opens = h.opens;
   token = h.token;
   large = h.large;
 }
 
+-- the same of another part
+pub large_as : {X Y : Type 0} (P : Bounds → List Mark → X → List Mark → Type 0) (Q : Bounds → List Mark → Y → List Mark → Type 0) (front before : List Mark) (token : Mark) (later : List Mark) →
+    (BeginsIn none P (before ++ token ∷ []) → BeginsIn none Q (front ++ (before ++ token ∷ []))) →
+    (NoneHasIn parts P before (token ∷ later) → NoneHasIn parts Q (front ++ before) (token ∷ later)) →
+    IsLargeIn P before token later → IsLargeIn Q (front ++ before) token later
+large_as P Q front before token later f g (is_long h) = is_long (longer front before token h)
+large_as P Q front before token later f g (is_wide h k) = is_wide (subst (BeginsIn none Q) (sym (append_assoc front before (token ∷ []))) (f h)) (g k)
+
 -- behind some that stand first
 behind_is : (front s m before rest : List Mark) → s ≡ front ++ m → m ≡ before ++ rest → s ≡ (front ++ before) ++ rest
 behind_is front s m before rest e f = e ∙ ap (λ t. front ++ t) f ∙ sym (append_assoc front before rest)
+
+-- one more stands first
+further : (m before rest : List Mark) (x : Mark) (later : List Mark) → m ≡ before ++ rest → rest ≡ x ∷ later → m ≡ (before ++ x ∷ []) ++ later
+further m before rest x later e f = e ∙ ap (λ t. before ++ t) f ∙ sym (append_assoc before (x ∷ []) later)
 
 -- a token, and then Q
 module _ {X Y : Type 0} (value : Mark → Option X) (Q : Bounds → List Mark → Y → List Mark → Type 0) where
@@ -63,24 +75,24 @@ module _ {X Y : Type 0} (value : Mark → Option X) (Q : Bounds → List Mark �
       goes_on = λ tail. record { middle = q.more ++ end_mark ∷ tail; first = record { mark = y; there = refl; is = is }; second = q.goes_on tail };
     };
     nowhere = one_nowhere s isnt;
-    placed = no_formula no_label_none;
+    placed = no_formula none_free;
     wrong = λ z r h. one_wrong limits s z.0 h.middle isnt h.first;
   }
 
   -- what follows it isn't
-  one_begins : (y : Mark) (x : X) (before : List Mark) → value y ≡ Some x → Begins Q before → Begins (Then (One value) Q) (y ∷ before)
-  one_begins y x before is q = record {
+  pub one_begins : (b : Bounds) (y : Mark) (x : X) (before : List Mark) → value y ≡ Some x → BeginsIn b Q before → BeginsIn b (Then (One value) Q) (y ∷ before)
+  one_begins b y x before is q = record {
     more = q.more;
     value = (x, q.value);
     goes_on = λ tail. record { middle = before ++ (q.more ++ end_mark ∷ tail); first = record { mark = y; there = refl; is = is }; second = q.goes_on tail };
   }
 
-  one_then_nowhere : (y : Mark) (before rest : List Mark) → NoneHas Q before rest → NoneHas (Then (One value) Q) (y ∷ before) rest
-  one_then_nowhere y before [] q = λ x r h. let tail : h.middle ≡ before = (let e = h.first.there in cc) in q x.1 r (subst (λ t. Q none t x.1 r) tail h.second)
-  one_then_nowhere y before (z ∷ rest) q = λ more x r h.
-      let tail : h.middle ≡ before ++ z ∷ more = (let e = h.first.there in cc) in q more x.1 r (subst (λ t. Q none t x.1 r) tail h.second)
+  pub one_then_nowhere : (b : Bounds) (y : Mark) (before rest : List Mark) → NoneHasIn b Q before rest → NoneHasIn b (Then (One value) Q) (y ∷ before) rest
+  one_then_nowhere b y before [] q = λ x r h. let tail : h.middle ≡ before = (let e = h.first.there in cc) in q x.1 r (subst (λ t. Q b t x.1 r) tail h.second)
+  one_then_nowhere b y before (z ∷ rest) q = λ more x r h.
+      let tail : h.middle ≡ before ++ z ∷ more = (let e = h.first.there in cc) in q more x.1 r (subst (λ t. Q b t x.1 r) tail h.second)
 
-  one_then_wrong : (s m : List Mark) (x : X) → One value limits s x m → ((y : Y) (r : List Mark) → Q limits m y r → ⊥) → (z : X × Y) (r : List Mark) → Then (One value) Q limits s z r → ⊥
+  pub one_then_wrong : (s m : List Mark) (x : X) → One value limits s x m → ((y : Y) (r : List Mark) → Q limits m y r → ⊥) → (z : X × Y) (r : List Mark) → Then (One value) Q limits s z r → ⊥
   one_then_wrong s m x h q z r k =
       let there : h.mark ∷ m ≡ k.first.mark ∷ k.middle = sym h.there ∙ k.first.there in
       let tail : k.middle ≡ m = cc in
@@ -90,8 +102,8 @@ module _ {X Y : Type 0} (value : Mark → Option X) (Q : Bounds → List Mark �
   one_then_refused s m rest x h q where_it_is = record {
     before = h.mark ∷ q.before;
     is = h.there ∙ ap (λ t. h.mark ∷ t) q.is;
-    begins = one_begins h.mark x q.before h.is q.begins;
-    nowhere = one_then_nowhere h.mark q.before rest q.nowhere;
+    begins = one_begins parts h.mark x q.before h.is q.begins;
+    nowhere = one_then_nowhere none h.mark q.before rest q.nowhere;
     placed = where_it_is;
     wrong = one_then_wrong s m x h q.wrong;
   }
@@ -103,36 +115,37 @@ module _ {X Y : Type 0} (value : Mark → Option X) (Q : Bounds → List Mark �
     later = q.later;
     is = h.there ∙ ap (λ t. h.mark ∷ t) q.is;
     next = q.next;
-    begins = one_begins h.mark x q.before h.is q.begins;
-    large = larger (h.mark ∷ []) q.before q.token q.large;
+    begins = one_begins parts h.mark x q.before h.is q.begins;
+    large = large_as Q (Then (One value) Q) (h.mark ∷ []) q.before q.token q.later (one_begins none h.mark x (q.before ++ q.token ∷ []) h.is)
+        (one_then_nowhere parts h.mark q.before (q.token ∷ q.later)) q.large;
     wrong = one_then_wrong s m x h q.wrong;
   }
 
 -- P, and then Q, which may be left out
 module _ {X Y : Type 0} (P : Bounds → List Mark → X → List Mark → Type 0) (Q : Bounds → List Mark → Y → List Mark → Type 0) where
-  first_begins : (before : List Mark) → Begins P before → CanSkip Q → Begins (Then P Q) before
-  first_begins before h q = record {
+  first_begins : (b : Bounds) (before : List Mark) → BeginsIn b P before → CanSkip Q → BeginsIn b (Then P Q) before
+  first_begins b before h q = record {
     more = h.more ++ q.fill;
     value = (h.value, q.value);
     goes_on = λ tail.
         let later : end_mark ∷ q.behind tail ≡ q.fill ++ end_mark ∷ tail = sym (q.starts tail) in
         record {
           middle = q.fill ++ end_mark ∷ tail;
-          first = subst (λ t. P parts (before ++ t) h.value (q.fill ++ end_mark ∷ tail)) (sym (append_assoc h.more q.fill (end_mark ∷ tail)))
-              (subst (λ t. P parts (before ++ (h.more ++ t)) h.value t) later (h.goes_on (q.behind tail)));
-          second = q.skips tail;
+          first = subst (λ t. P b (before ++ t) h.value (q.fill ++ end_mark ∷ tail)) (sym (append_assoc h.more q.fill (end_mark ∷ tail)))
+              (subst (λ t. P b (before ++ (h.more ++ t)) h.value t) later (h.goes_on (q.behind tail)));
+          second = q.skips b tail;
         };
   }
 
-  first_nowhere : (before rest : List Mark) → NoneHas P before rest → NoneHas (Then P Q) before rest
-  first_nowhere before [] h = λ x r k. h x.0 k.middle k.first
-  first_nowhere before (y ∷ rest) h = λ more x r k. h more x.0 k.middle k.first
+  first_nowhere : (b : Bounds) (before rest : List Mark) → NoneHasIn b P before rest → NoneHasIn b (Then P Q) before rest
+  first_nowhere b before [] h = λ x r k. h x.0 k.middle k.first
+  first_nowhere b before (y ∷ rest) h = λ more x r k. h more x.0 k.middle k.first
 
   pub first_refused : (s rest : List Mark) → Refuses P s rest → CanSkip Q → Refuses (Then P Q) s rest
-  first_refused s rest h q = record { before = h.before; is = h.is; begins = first_begins h.before h.begins q; nowhere = first_nowhere h.before rest h.nowhere; placed = h.placed; wrong = λ z r k. h.wrong z.0 k.middle k.first }
+  first_refused s rest h q = record { before = h.before; is = h.is; begins = first_begins parts h.before h.begins q; nowhere = first_nowhere none h.before rest h.nowhere; placed = h.placed; wrong = λ z r k. h.wrong z.0 k.middle k.first }
 
   pub first_passes : (s rest : List Mark) → Passes P s rest → CanSkip Q → Passes (Then P Q) s rest
-  first_passes s rest h q = record { before = h.before; token = h.token; later = h.later; is = h.is; next = h.next; begins = first_begins h.before h.begins q; large = h.large; wrong = λ z r k. h.wrong z.0 k.middle k.first }
+  first_passes s rest h q = record { before = h.before; token = h.token; later = h.later; is = h.is; next = h.next; begins = first_begins parts h.before h.begins q; large = large_as P (Then P Q) [] h.before h.token h.later (λ k. first_begins none (h.before ++ h.token ∷ []) k q) (first_nowhere parts h.before (h.token ∷ h.later)) h.large; wrong = λ z r k. h.wrong z.0 k.middle k.first }
 
   pub both_skip : CanSkip P → CanSkip Q → CanSkip (Then P Q)
   both_skip p q = record {
@@ -140,30 +153,30 @@ module _ {X Y : Type 0} (P : Bounds → List Mark → X → List Mark → Type 0
     value = (p.value, q.value);
     behind = λ tail. p.behind (q.behind tail);
     starts = λ tail. append_assoc p.fill q.fill (end_mark ∷ tail) ∙ ap (λ t. p.fill ++ t) (q.starts tail) ∙ p.starts (q.behind tail);
-    skips = λ tail.
+    skips = λ b tail.
         let later : end_mark ∷ q.behind tail ≡ q.fill ++ end_mark ∷ tail = sym (q.starts tail) in
         record {
           middle = q.fill ++ end_mark ∷ tail;
-          first = subst (λ t. P parts t p.value (q.fill ++ end_mark ∷ tail)) (sym (append_assoc p.fill q.fill (end_mark ∷ tail)))
-              (subst (λ t. P parts (p.fill ++ t) p.value t) later (p.skips (q.behind tail)));
-          second = q.skips tail;
+          first = subst (λ t. P b t p.value (q.fill ++ end_mark ∷ tail)) (sym (append_assoc p.fill q.fill (end_mark ∷ tail)))
+              (subst (λ t. P b (p.fill ++ t) p.value t) later (p.skips b (q.behind tail)));
+          second = q.skips b tail;
         };
   }
 
   module _ (p : Good P) where
-    second_begins : (front m before rest : List Mark) (x : X) → P limits (front ++ m) x m → m ≡ before ++ rest → Begins Q before → CanSkip Q → Begins (Then P Q) (front ++ before)
-    second_begins front m [] rest x h e q skip = record {
+    second_begins : (b : Bounds) (front m before rest : List Mark) (x : X) → P limits (front ++ m) x m → m ≡ before ++ rest → BeginsIn b Q before → CanSkip Q → BeginsIn b (Then P Q) (front ++ before)
+    second_begins b front m [] rest x h e q skip = record {
       more = skip.fill;
       value = (x, skip.value);
       goes_on = λ tail.
           let n : List Mark = skip.fill ++ end_mark ∷ tail in
           record {
             middle = n;
-            first = subst (λ t. P parts (t ++ n) x n) (sym (append-nil front)) (p.keeps parts front m n x (p.loosens (front ++ m) x m h) (closing (skip.behind tail) (skip.starts tail)));
-            second = skip.skips tail;
+            first = subst (λ t. P b (t ++ n) x n) (sym (append-nil front)) (p.keeps b front m n x (p.loosens b (front ++ m) x m h) (closing (skip.behind tail) (skip.starts tail)));
+            second = skip.skips b tail;
           };
     }
-    second_begins front m (y ∷ before) rest x h e q skip = record {
+    second_begins b front m (y ∷ before) rest x h e q skip = record {
       more = q.more;
       value = (x, q.value);
       goes_on = λ tail.
@@ -171,7 +184,7 @@ module _ {X Y : Type 0} (P : Bounds → List Mark → X → List Mark → Type 0
           let follows : SameStart m n = subst (λ t. SameStart t n) (sym e) same_first in
           record {
             middle = n;
-            first = subst (λ t. P parts t x n) (sym (append_assoc front (y ∷ before) (q.more ++ end_mark ∷ tail))) (p.keeps parts front m n x (p.loosens (front ++ m) x m h) (same follows));
+            first = subst (λ t. P b t x n) (sym (append_assoc front (y ∷ before) (q.more ++ end_mark ∷ tail))) (p.keeps b front m n x (p.loosens b (front ++ m) x m h) (same follows));
             second = q.goes_on tail;
           };
     }
@@ -180,17 +193,17 @@ module _ {X Y : Type 0} (P : Bounds → List Mark → X → List Mark → Type 0
     starts_alike [] y rest more = same_first
     starts_alike (x ∷ before) y rest more = same_first
 
-    second_nowhere : (front m before rest : List Mark) (x : X) → P limits (front ++ m) x m → m ≡ before ++ rest → NoneHas Q before rest → NoneHas (Then P Q) (front ++ before) rest
-    second_nowhere front m before [] x h e q = λ y r k.
+    second_nowhere : (b : Bounds) (front m before rest : List Mark) (x : X) → P limits (front ++ m) x m → m ≡ before ++ rest → NoneHasIn b Q before rest → NoneHasIn b (Then P Q) (front ++ before) rest
+    second_nowhere b front m before [] x h e q = λ y r k.
         let all : m ≡ before = e ∙ append-nil before in
-        let middle : k.middle ≡ m = p.agrees limits none front m m x y.0 k.middle h (same_start_self m) (subst (λ t. P none (front ++ t) y.0 k.middle) (sym all) k.first) in
-        q y.1 r (subst (λ t. Q none t y.1 r) (middle ∙ all) k.second)
-    second_nowhere front m before (z ∷ rest) x h e q = λ more y r k.
+        let middle : k.middle ≡ m = p.agrees limits b front m m x y.0 k.middle h (same_start_self m) (subst (λ t. P b (front ++ t) y.0 k.middle) (sym all) k.first) in
+        q y.1 r (subst (λ t. Q b t y.1 r) (middle ∙ all) k.second)
+    second_nowhere b front m before (z ∷ rest) x h e q = λ more y r k.
         let n : List Mark = before ++ z ∷ more in
         let alike : SameStart m n = subst (λ t. SameStart t n) (sym e) (starts_alike before z rest more) in
         let middle : k.middle ≡ n =
-        p.agrees limits none front m n x y.0 k.middle h alike (subst (λ t. P none t y.0 k.middle) (append_assoc front before (z ∷ more)) k.first) in
-        q more y.1 r (subst (λ t. Q none t y.1 r) middle k.second)
+        p.agrees limits b front m n x y.0 k.middle h alike (subst (λ t. P b t y.0 k.middle) (append_assoc front before (z ∷ more)) k.first) in
+        q more y.1 r (subst (λ t. Q b t y.1 r) middle k.second)
 
     second_wrong : (s m front : List Mark) (x : X) → P limits (front ++ m) x m → s ≡ front ++ m → ((y : Y) (r : List Mark) → Q limits m y r → ⊥) → (z : X × Y) (r : List Mark) → Then P Q limits s z r → ⊥
     second_wrong s m front x h e q z r k =
@@ -204,9 +217,9 @@ module _ {X Y : Type 0} (P : Bounds → List Mark → X → List Mark → Type 0
         record {
           before = front.0 ++ q.before;
           is = behind_is front.0 s m q.before rest front.1 q.is;
-          begins = second_begins front.0 m q.before rest x there q.is q.begins skip;
-          nowhere = second_nowhere front.0 m q.before rest x there q.is q.nowhere;
-          placed = placed_behind front.0 q.before rest (λ e. leaves.no_label limits front.0 m x there (ap (is_at is_plain) q.is ∙ e)) q.placed;
+          begins = second_begins parts front.0 m q.before rest x there q.is q.begins skip;
+          nowhere = second_nowhere none front.0 m q.before rest x there q.is q.nowhere;
+          placed = placed_behind front.0 q.before rest (λ e. leaves.free limits front.0 m x there (ap (is_at is_plain) q.is ∙ e)) q.placed;
           wrong = second_wrong s m front.0 x there front.1 q.wrong;
         }
 
@@ -220,58 +233,62 @@ module _ {X Y : Type 0} (P : Bounds → List Mark → X → List Mark → Type 0
           later = q.later;
           is = behind_is front.0 s m q.before rest front.1 q.is;
           next = q.next;
-          begins = second_begins front.0 m q.before rest x there q.is q.begins skip;
-          large = larger front.0 q.before q.token q.large;
+          begins = second_begins parts front.0 m q.before rest x there q.is q.begins skip;
+          large = large_as Q (Then P Q) front.0 q.before q.token q.later (λ k. second_begins none front.0 m (q.before ++ q.token ∷ []) q.later x there (further m q.before rest q.token q.later q.is q.next) k skip)
+              (second_nowhere parts front.0 m q.before (q.token ∷ q.later) x there (q.is ∙ ap (λ t. q.before ++ t) q.next)) q.large;
           wrong = second_wrong s m front.0 x there front.1 q.wrong;
         }
 
 -- another value
 module _ {X Y : Type 0} (f : X → Y) (P : Bounds → List Mark → X → List Mark → Type 0) where
-  of_begins : (before : List Mark) → Begins P before → Begins (Of f P) before
-  of_begins before h = record { more = h.more; value = f h.value; goes_on = λ tail. record { from = h.value; is = refl; part = h.goes_on tail } }
+  pub of_begins : (b : Bounds) (before : List Mark) → BeginsIn b P before → BeginsIn b (Of f P) before
+  of_begins b before h = record { more = h.more; value = f h.value; goes_on = λ tail. record { from = h.value; is = refl; part = h.goes_on tail } }
 
-  of_nowhere : (before rest : List Mark) → NoneHas P before rest → NoneHas (Of f P) before rest
-  of_nowhere before [] h = λ x r k. h k.from r k.part
-  of_nowhere before (y ∷ rest) h = λ more x r k. h more k.from r k.part
+  pub of_nowhere : (b : Bounds) (before rest : List Mark) → NoneHasIn b P before rest → NoneHasIn b (Of f P) before rest
+  of_nowhere b before [] h = λ x r k. h k.from r k.part
+  of_nowhere b before (y ∷ rest) h = λ more x r k. h more k.from r k.part
 
   pub of_refused : (s rest : List Mark) → Refuses P s rest → Refuses (Of f P) s rest
-  of_refused s rest h = record { before = h.before; is = h.is; begins = of_begins h.before h.begins; nowhere = of_nowhere h.before rest h.nowhere; placed = h.placed; wrong = λ z r k. h.wrong k.from r k.part }
+  of_refused s rest h = record { before = h.before; is = h.is; begins = of_begins parts h.before h.begins; nowhere = of_nowhere none h.before rest h.nowhere; placed = h.placed; wrong = λ z r k. h.wrong k.from r k.part }
 
   pub of_passes : (s rest : List Mark) → Passes P s rest → Passes (Of f P) s rest
-  of_passes s rest h = record { before = h.before; token = h.token; later = h.later; is = h.is; next = h.next; begins = of_begins h.before h.begins; large = h.large; wrong = λ z r k. h.wrong k.from r k.part }
+  of_passes s rest h = record { before = h.before; token = h.token; later = h.later; is = h.is; next = h.next; begins = of_begins parts h.before h.begins; large = large_as P (Of f P) [] h.before h.token h.later (of_begins none (h.before ++ h.token ∷ [])) (of_nowhere parts h.before (h.token ∷ h.later)) h.large; wrong = λ z r k. h.wrong k.from r k.part }
 
   pub of_skip : CanSkip P → CanSkip (Of f P)
-  of_skip h = record { fill = h.fill; value = f h.value; behind = h.behind; starts = h.starts; skips = λ tail. record { from = h.value; is = refl; part = h.skips tail } }
+  of_skip h = record { fill = h.fill; value = f h.value; behind = h.behind; starts = h.starts; skips = λ b tail. record { from = h.value; is = refl; part = h.skips b tail } }
 
 -- a choice by the first token
 module _ {X : Type 0} (test : Mark → Bool) (P Q : Bounds → List Mark → X → List Mark → Type 0) where
   contrary : true ≡ false → ⊥
   contrary e = cc
 
-  taken_begins : (y : Mark) (before : List Mark) → test y ≡ true → Begins P before → Begins (Choice test P Q) (y ∷ before)
-  taken_begins y before is h = record { more = h.more; value = h.value; goes_on = λ tail. taken y (before ++ (h.more ++ end_mark ∷ tail)) refl is (h.goes_on tail) }
+  pub taken_begins : (b : Bounds) (y : Mark) (before : List Mark) → test y ≡ true → BeginsIn b P before → BeginsIn b (Choice test P Q) (y ∷ before)
+  taken_begins b y before is h = record { more = h.more; value = h.value; goes_on = λ tail. taken y (before ++ (h.more ++ end_mark ∷ tail)) refl is (h.goes_on tail) }
 
-  taken_none : (y : Mark) (t : List Mark) (x : X) (r : List Mark) → test y ≡ true → (P none t x r → ⊥) → Choice test P Q none (y ∷ t) x r → ⊥
-  taken_none y t x r is h (taken z u e is' k) = let tail : u ≡ t = cc in h (subst (λ v. P none v x r) tail k)
-  taken_none y t x r is h (other isnt k) = contrary (sym is ∙ isnt)
+  taken_none : (b : Bounds) (y : Mark) (t : List Mark) (x : X) (r : List Mark) → test y ≡ true → (P b t x r → ⊥) → Choice test P Q b (y ∷ t) x r → ⊥
+  taken_none b y t x r is h (taken z u e is' k) = let tail : u ≡ t = cc in h (subst (λ v. P b v x r) tail k)
+  taken_none b y t x r is h (other isnt k) = contrary (sym is ∙ isnt)
 
-  taken_nowhere : (y : Mark) (before rest : List Mark) → test y ≡ true → NoneHas P before rest → NoneHas (Choice test P Q) (y ∷ before) rest
-  taken_nowhere y before [] is h = λ x r. taken_none y before x r is (h x r)
-  taken_nowhere y before (z ∷ rest) is h = λ more x r. taken_none y (before ++ z ∷ more) x r is (h more x r)
+  pub taken_nowhere : (b : Bounds) (y : Mark) (before rest : List Mark) → test y ≡ true → NoneHasIn b P before rest → NoneHasIn b (Choice test P Q) (y ∷ before) rest
+  taken_nowhere b y before [] is h = λ x r. taken_none b y before x r is (h x r)
+  taken_nowhere b y before (z ∷ rest) is h = λ more x r. taken_none b y (before ++ z ∷ more) x r is (h more x r)
 
-  taken_wrong : (s m : List Mark) (y : Mark) → s ≡ y ∷ m → test y ≡ true → ((x : X) (r : List Mark) → P limits m x r → ⊥) → (x : X) (r : List Mark) → Choice test P Q limits s x r → ⊥
+  pub taken_wrong : (s m : List Mark) (y : Mark) → s ≡ y ∷ m → test y ≡ true → ((x : X) (r : List Mark) → P limits m x r → ⊥) → (x : X) (r : List Mark) → Choice test P Q limits s x r → ⊥
   taken_wrong s m y e is h x r (taken z u e' is' k) = let there : y ∷ m ≡ z ∷ u = sym e ∙ e' in let tail : u ≡ m = cc in h x r (subst (λ v. P limits v x r) tail k)
   taken_wrong s m y e is h x r (other isnt k) = contrary (sym is ∙ ap (is_at test) (sym e) ∙ isnt)
 
-  pub taken_refused : ((y : Mark) → test y ≡ true → NoLabel (y ∷ [])) → (s m rest : List Mark) (y : Mark) → s ≡ y ∷ m → test y ≡ true → Refuses P m rest → Refuses (Choice test P Q) s rest
-  taken_refused words s m rest y e is h = record {
+  pub taken_refused_at : (s m rest : List Mark) (y : Mark) → s ≡ y ∷ m → test y ≡ true → (h : Refuses P m rest) → Placed (y ∷ h.before) rest → Refuses (Choice test P Q) s rest
+  taken_refused_at s m rest y e is h where_it_is = record {
     before = y ∷ h.before;
     is = e ∙ ap (λ t. y ∷ t) h.is;
-    begins = taken_begins y h.before is h.begins;
-    nowhere = taken_nowhere y h.before rest is h.nowhere;
-    placed = placed_behind (y ∷ []) h.before rest (λ _. words y is) h.placed;
+    begins = taken_begins parts y h.before is h.begins;
+    nowhere = taken_nowhere none y h.before rest is h.nowhere;
+    placed = where_it_is;
     wrong = taken_wrong s m y e is h.wrong;
   }
+
+  pub taken_refused : ((y : Mark) → test y ≡ true → NoFormula (y ∷ [])) → (s m rest : List Mark) (y : Mark) → s ≡ y ∷ m → test y ≡ true → Refuses P m rest → Refuses (Choice test P Q) s rest
+  taken_refused words s m rest y e is h = taken_refused_at s m rest y e is h (placed_behind (y ∷ []) h.before rest (λ _. words y is) h.placed)
 
   pub taken_passes : (s m rest : List Mark) (y : Mark) → s ≡ y ∷ m → test y ≡ true → Passes P m rest → Passes (Choice test P Q) s rest
   taken_passes s m rest y e is h = record {
@@ -280,29 +297,36 @@ module _ {X : Type 0} (test : Mark → Bool) (P Q : Bounds → List Mark → X �
     later = h.later;
     is = e ∙ ap (λ t. y ∷ t) h.is;
     next = h.next;
-    begins = taken_begins y h.before is h.begins;
-    large = larger (y ∷ []) h.before h.token h.large;
+    begins = taken_begins parts y h.before is h.begins;
+    large = large_as P (Choice test P Q) (y ∷ []) h.before h.token h.later (taken_begins none y (h.before ++ h.token ∷ []) is) (taken_nowhere parts y h.before (h.token ∷ h.later) is) h.large;
     wrong = taken_wrong s m y e is h.wrong;
   }
+
+  pub other_some : (b : Bounds) (y : Mark) (before : List Mark) → test y ≡ false → BeginsIn b Q (y ∷ before) → BeginsIn b (Choice test P Q) (y ∷ before)
+  other_some b y before isnt h = record { more = h.more; value = h.value; goes_on = λ tail. other isnt (h.goes_on tail) }
 
   -- the other part is refused; how it may begin is known
   other_begins : (s before rest : List Mark) → s ≡ before ++ rest → is_at test s ≡ false → Begins (Choice test P Q) [] → Begins Q before → Begins (Choice test P Q) before
   other_begins s [] rest e isnt start h = start
-  other_begins s (y ∷ before) rest e isnt start h = record { more = h.more; value = h.value; goes_on = λ tail. other (ap (is_at test) (sym e) ∙ isnt) (h.goes_on tail) }
+  other_begins s (y ∷ before) rest e isnt start h = other_some parts y before (ap (is_at test) (sym e) ∙ isnt) h
 
-  other_none : (t : List Mark) (x : X) (r : List Mark) → is_at test t ≡ false → (Q none t x r → ⊥) → Choice test P Q none t x r → ⊥
-  other_none t x r isnt h (taken z u e is k) = contrary (sym is ∙ ap (is_at test) (sym e) ∙ isnt)
-  other_none t x r isnt h (other isnt' k) = h k
+  other_wide : (s before rest : List Mark) (x : Mark) (later : List Mark) → s ≡ before ++ rest → rest ≡ x ∷ later → is_at test s ≡ false → BeginsIn none Q (before ++ x ∷ []) → BeginsIn none (Choice test P Q) (before ++ x ∷ [])
+  other_wide s [] rest x later e f isnt h = other_some none x [] (ap (is_at test) (sym (e ∙ f)) ∙ isnt) h
+  other_wide s (y ∷ before) rest x later e f isnt h = other_some none y (before ++ x ∷ []) (ap (is_at test) (sym e) ∙ isnt) h
+
+  other_none : (b : Bounds) (t : List Mark) (x : X) (r : List Mark) → is_at test t ≡ false → (Q b t x r → ⊥) → Choice test P Q b t x r → ⊥
+  other_none b t x r isnt h (taken z u e is k) = contrary (sym is ∙ ap (is_at test) (sym e) ∙ isnt)
+  other_none b t x r isnt h (other isnt' k) = h k
 
   first_alike : (before : List Mark) (z : Mark) (rest more : List Mark) → is_at test (before ++ z ∷ rest) ≡ false → is_at test (before ++ z ∷ more) ≡ false
   first_alike [] z rest more e = e
   first_alike (y ∷ before) z rest more e = e
 
-  other_nowhere : (s before rest : List Mark) → s ≡ before ++ rest → is_at test s ≡ false → NoneHas Q before rest → NoneHas (Choice test P Q) before rest
-  other_nowhere s before [] e isnt h = λ x r. other_none before x r (ap (is_at test) (sym (append-nil before) ∙ sym e) ∙ isnt) (h x r)
-  other_nowhere s before (z ∷ rest) e isnt h = λ more x r. other_none (before ++ z ∷ more) x r (first_alike before z rest more (ap (is_at test) (sym e) ∙ isnt)) (h more x r)
+  pub other_nowhere : (b : Bounds) (s before rest : List Mark) → s ≡ before ++ rest → is_at test s ≡ false → NoneHasIn b Q before rest → NoneHasIn b (Choice test P Q) before rest
+  other_nowhere b s before [] e isnt h = λ x r. other_none b before x r (ap (is_at test) (sym (append-nil before) ∙ sym e) ∙ isnt) (h x r)
+  other_nowhere b s before (z ∷ rest) e isnt h = λ more x r. other_none b (before ++ z ∷ more) x r (first_alike before z rest more (ap (is_at test) (sym e) ∙ isnt)) (h more x r)
 
-  other_wrong : (s : List Mark) → is_at test s ≡ false → ((x : X) (r : List Mark) → Q limits s x r → ⊥) → (x : X) (r : List Mark) → Choice test P Q limits s x r → ⊥
+  pub other_wrong : (s : List Mark) → is_at test s ≡ false → ((x : X) (r : List Mark) → Q limits s x r → ⊥) → (x : X) (r : List Mark) → Choice test P Q limits s x r → ⊥
   other_wrong s isnt h x r (taken z u e is k) = contrary (sym is ∙ ap (is_at test) (sym e) ∙ isnt)
   other_wrong s isnt h x r (other isnt' k) = h x r k
 
@@ -311,7 +335,7 @@ module _ {X : Type 0} (test : Mark → Bool) (P Q : Bounds → List Mark → X �
     before = h.before;
     is = h.is;
     begins = other_begins s h.before rest h.is isnt start h.begins;
-    nowhere = other_nowhere s h.before rest h.is isnt h.nowhere;
+    nowhere = other_nowhere none s h.before rest h.is isnt h.nowhere;
     placed = h.placed;
     wrong = other_wrong s isnt h.wrong;
   }
@@ -324,26 +348,27 @@ module _ {X : Type 0} (test : Mark → Bool) (P Q : Bounds → List Mark → X �
     is = h.is;
     next = h.next;
     begins = other_begins s h.before rest h.is isnt start h.begins;
-    large = h.large;
+    large = large_as Q (Choice test P Q) [] h.before h.token h.later (other_wide s h.before rest h.token h.later h.is h.next isnt)
+        (other_nowhere parts s h.before (h.token ∷ h.later) (h.is ∙ ap (λ t. h.before ++ t) h.next) isnt) h.large;
     wrong = other_wrong s isnt h.wrong;
   }
 
   pub other_skip : test end_mark ≡ false → CanSkip Q → CanSkip (Choice test P Q)
-  other_skip isnt h = record { fill = h.fill; value = h.value; behind = h.behind; starts = h.starts; skips = λ tail. other (ap (is_at test) (h.starts tail) ∙ isnt) (h.skips tail) }
+  other_skip isnt h = record { fill = h.fill; value = h.value; behind = h.behind; starts = h.starts; skips = λ b tail. other (ap (is_at test) (h.starts tail) ∙ isnt) (h.skips b tail) }
 
 -- any number of parts
 module _ {X : Type 0} (test : Mark → Bool) (P : Bounds → List Mark → X → List Mark → Type 0) (p : Good P) (not_end : test end_mark ≡ false)
     (takes : (b : Bounds) (s : List Mark) (x : X) (m : List Mark) → P b s x m → length m < length s) where
   pub many_skip : CanSkip (Many test P)
-  many_skip = left_out (Many test P) [] (λ tail. no_more not_end refl)
+  many_skip = left_out (Many test P) [] (λ b tail. no_more not_end refl)
 
   contrary' : true ≡ false → ⊥
   contrary' e = cc
 
   -- a part is refused
-  here_begins : (s before rest : List Mark) → s ≡ before ++ rest → is_at test s ≡ true → Begins P before → Begins (Many test P) before
-  here_begins s [] rest e does h = skip_begins (Many test P) many_skip
-  here_begins s (y ∷ before) rest e does h = record {
+  here_begins : (b : Bounds) (s before rest : List Mark) → s ≡ before ++ rest → is_at test s ≡ true → BeginsIn b P before → BeginsIn b (Many test P) before
+  here_begins b s [] rest e does h = skip_begins (Many test P) many_skip b
+  here_begins b s (y ∷ before) rest e does h = record {
     more = h.more;
     value = h.value ∷ [];
     goes_on = λ tail. one_more (ap (is_at test) (sym e) ∙ does) (h.goes_on tail) (no_more not_end refl);
@@ -353,24 +378,24 @@ module _ {X : Type 0} (test : Mark → Bool) (P : Bounds → List Mark → X →
   here_wrong t does h xs r (no_more isnt e) = contrary' (sym does ∙ isnt)
   here_wrong t does h xs r (one_more {m = m} {x = x} does' k ks) = h x m k
 
-  here_none : (t : List Mark) (xs : List X) (r : List Mark) → is_at test t ≡ true → ((x : X) (m : List Mark) → P none t x m → ⊥) → Many test P none t xs r → ⊥
-  here_none t xs r does h (no_more isnt e) = contrary' (sym does ∙ isnt)
-  here_none t xs r does h (one_more {m = m} {x = x} does' k ks) = h x m k
+  here_none : (b : Bounds) (t : List Mark) (xs : List X) (r : List Mark) → is_at test t ≡ true → ((x : X) (m : List Mark) → P b t x m → ⊥) → Many test P b t xs r → ⊥
+  here_none b t xs r does h (no_more isnt e) = contrary' (sym does ∙ isnt)
+  here_none b t xs r does h (one_more {m = m} {x = x} does' k ks) = h x m k
 
   yes_alike : (before : List Mark) (z : Mark) (rest more : List Mark) → is_at test (before ++ z ∷ rest) ≡ true → is_at test (before ++ z ∷ more) ≡ true
   yes_alike [] z rest more e = e
   yes_alike (y ∷ before) z rest more e = e
 
-  here_nowhere : (s before rest : List Mark) → s ≡ before ++ rest → is_at test s ≡ true → NoneHas P before rest → NoneHas (Many test P) before rest
-  here_nowhere s before [] e does h = λ xs r. here_none before xs r (ap (is_at test) (sym (append-nil before) ∙ sym e) ∙ does) h
-  here_nowhere s before (z ∷ rest) e does h = λ more xs r. here_none (before ++ z ∷ more) xs r (yes_alike before z rest more (ap (is_at test) (sym e) ∙ does)) (h more)
+  here_nowhere : (b : Bounds) (s before rest : List Mark) → s ≡ before ++ rest → is_at test s ≡ true → NoneHasIn b P before rest → NoneHasIn b (Many test P) before rest
+  here_nowhere b s before [] e does h = λ xs r. here_none b before xs r (ap (is_at test) (sym (append-nil before) ∙ sym e) ∙ does) h
+  here_nowhere b s before (z ∷ rest) e does h = λ more xs r. here_none b (before ++ z ∷ more) xs r (yes_alike before z rest more (ap (is_at test) (sym e) ∙ does)) (h more)
 
   pub many_here : (s rest : List Mark) → is_at test s ≡ true → Refuses P s rest → Refuses (Many test P) s rest
   many_here s rest does h = record {
     before = h.before;
     is = h.is;
-    begins = here_begins s h.before rest h.is does h.begins;
-    nowhere = here_nowhere s h.before rest h.is does h.nowhere;
+    begins = here_begins parts s h.before rest h.is does h.begins;
+    nowhere = here_nowhere none s h.before rest h.is does h.nowhere;
     placed = h.placed;
     wrong = here_wrong s does h.wrong;
   }
@@ -382,8 +407,9 @@ module _ {X : Type 0} (test : Mark → Bool) (P : Bounds → List Mark → X →
     later = h.later;
     is = h.is;
     next = h.next;
-    begins = here_begins s h.before rest h.is does h.begins;
-    large = h.large;
+    begins = here_begins parts s h.before rest h.is does h.begins;
+    large = large_as P (Many test P) [] h.before h.token h.later (here_begins none s (h.before ++ h.token ∷ []) h.later (further s h.before rest h.token h.later h.is h.next) does)
+        (here_nowhere parts s h.before (h.token ∷ h.later) (h.is ∙ ap (λ t. h.before ++ t) h.next) does) h.large;
     wrong = here_wrong s does h.wrong;
   }
 
@@ -399,15 +425,15 @@ module _ {X : Type 0} (test : Mark → Bool) (P : Bounds → List Mark → X →
   to_both b t xs r does h (no_more isnt e) = contrary' (sym does ∙ isnt)
   to_both b t xs r does h (one_more {m = m} {x = x} {xs = ys} does' k ks) = h (x, ys) (record { middle = m; first = k; second = ks })
 
-  later_nowhere : (s before rest : List Mark) → s ≡ before ++ rest → is_at test s ≡ true → NoneHas (Then P (Many test P)) before rest → NoneHas (Many test P) before rest
-  later_nowhere s before [] e does h = λ xs r. to_both none before xs r (ap (is_at test) (sym (append-nil before) ∙ sym e) ∙ does) (λ ys. h ys r)
-  later_nowhere s before (z ∷ rest) e does h = λ more xs r. to_both none (before ++ z ∷ more) xs r (yes_alike before z rest more (ap (is_at test) (sym e) ∙ does)) (λ ys. h more ys r)
+  later_nowhere : (b : Bounds) (s before rest : List Mark) → s ≡ before ++ rest → is_at test s ≡ true → NoneHasIn b (Then P (Many test P)) before rest → NoneHasIn b (Many test P) before rest
+  later_nowhere b s before [] e does h = λ xs r. to_both b before xs r (ap (is_at test) (sym (append-nil before) ∙ sym e) ∙ does) (λ ys. h ys r)
+  later_nowhere b s before (z ∷ rest) e does h = λ more xs r. to_both b (before ++ z ∷ more) xs r (yes_alike before z rest more (ap (is_at test) (sym e) ∙ does)) (λ ys. h more ys r)
 
-  later_begins : (s before rest : List Mark) → 0 < length before → s ≡ before ++ rest → is_at test s ≡ true → Begins (Then P (Many test P)) before → Begins (Many test P) before
-  later_begins s before rest some e does h = record {
+  later_begins : (b : Bounds) (s before rest : List Mark) → 0 < length before → s ≡ before ++ rest → is_at test s ≡ true → BeginsIn b (Then P (Many test P)) before → BeginsIn b (Many test P) before
+  later_begins b s before rest some e does h = record {
     more = h.more;
     value = h.value.0 ∷ h.value.1;
-    goes_on = λ tail. from_both parts _ h.value (end_mark ∷ tail) (at_first before (h.more ++ end_mark ∷ tail) rest some (ap (is_at test) (sym e) ∙ does)) (h.goes_on tail);
+    goes_on = λ tail. from_both b _ h.value (end_mark ∷ tail) (at_first before (h.more ++ end_mark ∷ tail) rest some (ap (is_at test) (sym e) ∙ does)) (h.goes_on tail);
   }
 
   front_some : (s m before rest front : List Mark) (x : X) → P limits s x m → s ≡ front ++ m → 0 < length (front ++ before)
@@ -421,8 +447,8 @@ module _ {X : Type 0} (test : Mark → Bool) (P : Bounds → List Mark → X →
       record {
         before = both.before;
         is = both.is;
-        begins = later_begins s both.before rest (front_some s m q.before rest front.0 x h front.1) both.is does both.begins;
-        nowhere = later_nowhere s both.before rest both.is does both.nowhere;
+        begins = later_begins parts s both.before rest (front_some s m q.before rest front.0 x h front.1) both.is does both.begins;
+        nowhere = later_nowhere none s both.before rest both.is does both.nowhere;
         placed = both.placed;
         wrong = λ xs r. to_both limits s xs r does (λ ys. both.wrong ys r);
       }
@@ -438,7 +464,10 @@ module _ {X : Type 0} (test : Mark → Bool) (P : Bounds → List Mark → X →
         later = both.later;
         is = both.is;
         next = both.next;
-        begins = later_begins s both.before rest (front_some s m q.before rest front.0 x h front.1) both.is does both.begins;
-        large = both.large;
+        begins = later_begins parts s both.before rest (front_some s m q.before rest front.0 x h front.1) both.is does both.begins;
+        large = large_as (Then P (Many test P)) (Many test P) [] both.before both.token both.later
+            (later_begins none s (both.before ++ both.token ∷ []) both.later (omega (arith, front_some s m q.before rest front.0 x h front.1, length-append both.before (both.token ∷ [])))
+            (further s both.before rest both.token both.later both.is both.next) does)
+            (later_nowhere parts s both.before (both.token ∷ both.later) (both.is ∙ ap (λ t. both.before ++ t) both.next) does) both.large;
         wrong = λ xs r. to_both limits s xs r does (λ ys. both.wrong ys r);
       }

@@ -10,15 +10,18 @@ use Rattle.component_tokens.specs.declared.piece.CutFault.TheVariants as wrong
 use Rattle.component_tokens.specs.Pieces.{Cut}
 use Rattle.model_core.specs.declared.component.RawComponent.{RawComponent}
 use Rattle.model_core.specs.Components.{heading}
-use Rattle.component_text.specs.declared.read.ReadFault.{ReadFault}
-use Rattle.component_text.specs.declared.read.ReadFault.TheVariants as fault
+use Rattle.component_text.specs.declared.pieces.ReadFault.{ReadFault}
+use Rattle.component_text.specs.declared.pieces.ReadFault.TheVariants as fault
 use Rattle.component_text.specs.Marks.{Mark, word, marks_of}
-use Rattle.component_text.specs.Forms.{Bounds, limits, parts}
-use Rattle.component_text.specs.Grammar.{reference, IsContext}
+use Rattle.component_text.specs.Forms.{Bounds, limits, parts, One, Then, Of}
+use Rattle.component_text.specs.Grammar.{reference, context_of, Headed}
+use Rattle.component_text.specs.Machines.{machine_of, IsComponent, a_context, a_machine}
 use Rattle.component_text.specs.Faults.{HasContinuation, IsUnexpectedAt, IsTooLargeAt}
 use Rattle.component_text.specs.Spelled.{Spells, Finds, place_of, text_of, other_name, misnamed_behind, misnamed, IsFirst, bad_sign, number_too_wide, unexpected, unexpected_end, too_large, comment_not_closed, wrong_name, IsReadFault, Tells, fault_kind, fault_place, TellsAtEnd, TellsUnexpected, TellsTooLarge, ReadsPieces}
 use Rattle.component_text.proofs.Components.{good_context_body}
-use Rattle.component_text.proofs.Unique.{OneFormula, context_unique}
+use Rattle.component_text.proofs.Machines.{good_machine_body}
+use Rattle.component_text.proofs.Unique.{OneFormula}
+use Rattle.component_text.proofs.Once.{OneAction, component_unique}
 
 -- a fault that is told, and that it is the first
 module _ (Whole : Bounds → List Mark → RawComponent → Type 0) (name text : List ℕ) (marks : List Mark) (cut : Option CutFault) where
@@ -64,19 +67,28 @@ module _ (Whole : Bounds → List Mark → RawComponent → Type 0) (name text :
   told_too_large answer (x ∷ later) n u isnt t = told answer 4 (place_of x) [] t (too_large n u) (λ c w i k. isnt c w)
   told_too_large answer [] n u isnt t = let e = u.next in cc
 
--- a context within the limits begins one, and its heading is its own
-pub context_loosens : (s : List Mark) (c : RawComponent) → IsContext limits s c → IsContext parts s c
-context_loosens s c h = record {
+-- a component within the limits begins one, and its heading is its own
+pub component_loosens : (s : List Mark) (c : RawComponent) → IsComponent limits s c → IsComponent parts s c
+component_loosens s c (a_context h) = a_context (record {
   place = h.place;
   behind = h.behind;
   rest = h.rest;
   head = h.head;
-  body = good_context_body.loosens h.behind c h.rest h.body;
+  body = good_context_body.loosens parts h.behind c h.rest h.body;
   end_place = h.end_place;
   end = h.end;
-}
+})
+component_loosens s c (a_machine h) = a_machine (record {
+  place = h.place;
+  behind = h.behind;
+  rest = h.rest;
+  head = h.head;
+  body = good_machine_body.loosens parts h.behind c h.rest h.body;
+  end_place = h.end_place;
+  end = h.end;
+})
 
--- the heading of a context, and the name that is wanted
+-- the heading of a component, and the name that is wanted
 named_one : (x : Mark) (r : Ref) (name : List ℕ) → reference x ≡ Some r → r.name ≡ name → other_name name (reference x) ≡ None
 named_one x r name e f =
     ap (other_name name) e ∙ ap (λ b. cond {A = Option ℕ} b None (Some r.place)) ((bytes_eq-Decides r.name name).1 f)
@@ -88,49 +100,55 @@ other_one x r name e f = go (bytes_eq r.name name) refl (sym (ap (other_name nam
     go true is k = (bytes_eq-Decides r.name name).0 is
     go false is k = cc
 
-context_misnamed : (name : List ℕ) (p : ℕ) (rest : List Mark) → misnamed name (word (codes "context") p ∷ rest) ≡ misnamed_behind name rest
-context_misnamed name p rest = refl
+module _ {Y : Type 0} (w : List ℕ) (heads : (name : List ℕ) (p : ℕ) (rest : List Mark) → misnamed name (word w p ∷ rest) ≡ misnamed_behind name rest)
+    (f : (Ref × Y) → RawComponent) (own : (x : Ref × Y) → heading (f x) ≡ x.0) (Q : Bounds → List Mark → Y → List Mark → Type 0) where
+  named : (s : List Mark) (c : RawComponent) (name : List ℕ) → Headed w (Of f (Then (One reference) Q)) limits s c → (heading c).name ≡ name → misnamed name s ≡ None
+  named s c name h e =
+      let b = h.body in
+      let first = b.part.first in
+      let is : heading c ≡ b.from.0 = ap heading (sym b.is) ∙ own b.from in
+      ap (misnamed name) h.head ∙ heads name h.place h.behind ∙ ap (misnamed_behind name) first.there ∙ named_one first.mark b.from.0 name first.is (ap (λ r. r.name) (sym is) ∙ e)
 
-pub context_named : (s : List Mark) (c : RawComponent) (name : List ℕ) → IsContext limits s c → (heading c).name ≡ name → misnamed name s ≡ None
-context_named s c name h e =
-    let b = h.body in
-    let first = b.part.first in
-    let own : heading c ≡ b.from.0 = ap heading (sym b.is) in
-    ap (misnamed name) h.head ∙ context_misnamed name h.place h.behind ∙ ap (misnamed_behind name) first.there ∙ named_one first.mark b.from.0 name first.is (ap (λ r. r.name) (sym own) ∙ e)
+  has_name : (s : List Mark) (c : RawComponent) (name : List ℕ) → Headed w (Of f (Then (One reference) Q)) limits s c → misnamed name s ≡ None → (heading c).name ≡ name
+  has_name s c name h e =
+      let b = h.body in
+      let first = b.part.first in
+      let is : heading c ≡ b.from.0 = ap heading (sym b.is) ∙ own b.from in
+      let isnt : other_name name (reference first.mark) ≡ None = sym (ap (misnamed name) h.head ∙ heads name h.place h.behind ∙ ap (misnamed_behind name) first.there) ∙ e in
+      ap (λ r. r.name) is ∙ other_one first.mark b.from.0 name first.is isnt
 
-pub context_has_name : (s : List Mark) (c : RawComponent) (name : List ℕ) → IsContext limits s c → misnamed name s ≡ None → (heading c).name ≡ name
-context_has_name s c name h e =
-    let b = h.body in
-    let first = b.part.first in
-    let own : heading c ≡ b.from.0 = ap heading (sym b.is) in
-    let isnt : other_name name (reference first.mark) ≡ None =
-    sym (ap (misnamed name) h.head ∙ context_misnamed name h.place h.behind ∙ ap (misnamed_behind name) first.there) ∙ e in
-    ap (λ r. r.name) own ∙ other_one first.mark b.from.0 name first.is isnt
+pub component_named : (s : List Mark) (c : RawComponent) (name : List ℕ) → IsComponent limits s c → (heading c).name ≡ name → misnamed name s ≡ None
+component_named s c name (a_context h) = named (codes "context") (λ n p r. refl) context_of (λ x. refl) _ s c name h
+component_named s c name (a_machine h) = named (codes "machine") (λ n p r. refl) machine_of (λ x. refl) _ s c name h
+
+component_has_name : (s : List Mark) (c : RawComponent) (name : List ℕ) → IsComponent limits s c → misnamed name s ≡ None → (heading c).name ≡ name
+component_has_name s c name (a_context h) = has_name (codes "context") (λ n p r. refl) context_of (λ x. refl) _ s c name h
+component_has_name s c name (a_machine h) = has_name (codes "machine") (λ n p r. refl) machine_of (λ x. refl) _ s c name h
 
 -- what was read of the tokens is what the text spells
-module _ (law : OneFormula) (ways : (text : List ℕ) (ts us : List Token) (o p : Option CutFault) → Cut text 0 ts o → Cut text 0 us p → (ts ≡ us) × (o ≡ p))
+module _ (law : OneFormula) (action_law : OneAction) (ways : (text : List ℕ) (ts us : List Token) (o p : Option CutFault) → Cut text 0 ts o → Cut text 0 us p → (ts ≡ us) × (o ≡ p))
     (name text : List ℕ) (tokens : List Token) (wrong_behind : Option CutFault) (cut : Cut text 0 tokens wrong_behind) where
-  pub found : (c : RawComponent) → ReadsPieces IsContext name text (marks_of text tokens) wrong_behind (Ok c) → Spells IsContext name text c
+  pub found : (c : RawComponent) → ReadsPieces IsComponent name text (marks_of text tokens) wrong_behind (Ok c) → Spells IsComponent name text c
   found c h = record {
     tokens = tokens;
     cut = subst (Cut text 0 tokens) h.2 cut;
     sentence = h.0;
-    named = context_has_name (marks_of text tokens) c name h.0 h.1;
+    named = component_has_name (marks_of text tokens) c name h.0 h.1;
   }
 
-  pub only : (r : Result RawComponent ReadFault) → ReadsPieces IsContext name text (marks_of text tokens) wrong_behind r → (c : RawComponent) → Spells IsContext name text c → Finds r c
+  pub only : (r : Result RawComponent ReadFault) → ReadsPieces IsComponent name text (marks_of text tokens) wrong_behind r → (c : RawComponent) → Spells IsComponent name text c → Finds r c
   only (Ok d) h c k =
       let same = ways text k.tokens tokens None wrong_behind k.cut cut in
-      context_unique law (marks_of text tokens) d c h.0 (subst (λ ts. IsContext limits (marks_of text ts) c) same.0 k.sentence)
+      component_unique law action_law (marks_of text tokens) d c h.0 (subst (λ ts. IsComponent limits (marks_of text ts) c) same.0 k.sentence)
   only (Err (fault.Fault f)) h c k =
       let same = ways text k.tokens tokens None wrong_behind k.cut cut in
-      h.2 c (subst (λ ts. IsContext limits (marks_of text ts) c) same.0 k.sentence) k.named (sym same.1)
+      h.2 c (subst (λ ts. IsComponent limits (marks_of text ts) c) same.0 k.sentence) k.named (sym same.1)
   only (Err fault.OutOfMemory) h c k = tt
 
-  pub at_fault : (e : ReadFault) → ReadsPieces IsContext name text (marks_of text tokens) wrong_behind (Err e) → IsReadFault IsContext name text e
+  pub at_fault : (e : ReadFault) → ReadsPieces IsComponent name text (marks_of text tokens) wrong_behind (Err e) → IsReadFault IsComponent name text e
   at_fault (fault.Fault f) h = (tokens, wrong_behind, cut, h.0, h.1)
   at_fault fault.OutOfMemory h = tt
 
-  pub found_in : (r : Result RawComponent ReadFault) → ReadsPieces IsContext name text (marks_of text tokens) wrong_behind r → IfOk r (λ c. Spells IsContext name text c)
+  pub found_in : (r : Result RawComponent ReadFault) → ReadsPieces IsComponent name text (marks_of text tokens) wrong_behind r → IfOk r (λ c. Spells IsComponent name text c)
   found_in (Ok c) h = found c h
   found_in (Err e) h = tt

@@ -23,30 +23,30 @@ ends_once P p s x y m n h k =
     let front = p.split limits s x m h in
     p.agrees limits limits front.0 m m x y n (subst (λ t. P limits t x m) front.1 h) (same_start_self m) (subst (λ t. P limits t y n) front.1 k)
 
-one_unique : {X : Type 0} (value : Mark → Option X) → Unique (One value)
+pub one_unique : {X : Type 0} (value : Mark → Option X) → Unique (One value)
 one_unique value s x y m n h k =
     let there : h.mark ∷ m ≡ k.mark ∷ n = sym h.there ∙ k.there in
     let same : h.mark ≡ k.mark = cc in
     let values : Some x ≡ Some y = sym h.is ∙ ap value same ∙ k.is in
     cc
 
-run_unique : {X : Type 0} (F : Bounds → List Item → X → Type 0) → ((f : List Item) (x y : X) → F limits f x → F limits f y → x ≡ y) → Unique (Run F)
+pub run_unique : {X : Type 0} (F : Bounds → List Item → X → Type 0) → ((f : List Item) (x y : X) → F limits f x → F limits f y → x ≡ y) → Unique (Run F)
 run_unique F one s x y m n h k = one _ x y h.spelled k.spelled
 
-nothing_unique : {X : Type 0} (absent : X) → Unique (Nothing absent)
+pub nothing_unique : {X : Type 0} (absent : X) → Unique (Nothing absent)
 nothing_unique absent s x y m n h k = h.is ∙ sym k.is
 
-then_unique : {X Y : Type 0} (P : Bounds → List Mark → X → List Mark → Type 0) (Q : Bounds → List Mark → Y → List Mark → Type 0) → Good P → Unique P → Unique Q → Unique (Then P Q)
+pub then_unique : {X Y : Type 0} (P : Bounds → List Mark → X → List Mark → Type 0) (Q : Bounds → List Mark → Y → List Mark → Type 0) → Good P → Unique P → Unique Q → Unique (Then P Q)
 then_unique {X} {Y} P Q p u v s x y m n h k =
     let middle : k.middle ≡ h.middle = ends_once P p s x.0 y.0 h.middle k.middle h.first k.first in
     let first : x.0 ≡ y.0 = u s x.0 y.0 h.middle k.middle h.first k.first in
     let second : x.1 ≡ y.1 = v h.middle x.1 y.1 m n h.second (subst (λ t. Q limits t y.1 n) middle k.second) in
     ap (λ (z : X). (z, x.1)) first ∙ ap (λ (z : Y). (y.0, z)) second
 
-of_unique : {X Y : Type 0} (f : X → Y) (P : Bounds → List Mark → X → List Mark → Type 0) → Unique P → Unique (Of f P)
+pub of_unique : {X Y : Type 0} (f : X → Y) (P : Bounds → List Mark → X → List Mark → Type 0) → Unique P → Unique (Of f P)
 of_unique f P u s x y m n h k = sym h.is ∙ ap f (u s h.from k.from m n h.part k.part) ∙ k.is
 
-choice_unique : {X : Type 0} (test : Mark → Bool) (P Q : Bounds → List Mark → X → List Mark → Type 0) → Unique P → Unique Q → Unique (Choice test P Q)
+pub choice_unique : {X : Type 0} (test : Mark → Bool) (P Q : Bounds → List Mark → X → List Mark → Type 0) → Unique P → Unique Q → Unique (Choice test P Q)
 choice_unique test P Q u v s x y m n (taken a t d is h) (taken b w e it k) =
     let there : a ∷ t ≡ b ∷ w = sym d ∙ e in
     let tail : w ≡ t = cc in
@@ -55,7 +55,7 @@ choice_unique test P Q u v s x y m n (taken a t d is h) (other isnt k) = let con
 choice_unique test P Q u v s x y m n (other isnt h) (taken b w e it k) = let contra : true ≡ false = sym it ∙ ap (is_at test) (sym e) ∙ isnt in cc
 choice_unique test P Q u v s x y m n (other isnt h) (other isnt' k) = v s x y m n h k
 
-many_unique : {X : Type 0} (test : Mark → Bool) (P : Bounds → List Mark → X → List Mark → Type 0) → Good P → Unique P → Unique (Many test P)
+pub many_unique : {X : Type 0} (test : Mark → Bool) (P : Bounds → List Mark → X → List Mark → Type 0) → Good P → Unique P → Unique (Many test P)
 many_unique test P p u s xs ys m n (no_more isnt e) (no_more isnt' e') = refl
 many_unique test P p u s xs ys m n (no_more isnt e) (one_more does k ks) = let contra : true ≡ false = sym does ∙ isnt in cc
 many_unique test P p u s xs ys m n (one_more does h hs) (no_more isnt e) = let contra : true ≡ false = sym does ∙ isnt in cc
@@ -73,23 +73,23 @@ module _ (law : OneFormula) where
   predicate_unique : Unique (Run (IsFormula hole.Predicate))
   predicate_unique = run_unique (IsFormula hole.Predicate) (λ f x y h k. law _ hole.Predicate f x y h.0 k.0)
 
-  labelled_unique : (theorem : Bool) → Unique (Labelled theorem)
+  pub labelled_unique : (theorem : Bool) → Unique (Labelled theorem)
   labelled_unique theorem = of_unique (labelled theorem) (Then (One label_at) (Run (IsFormula hole.Predicate)))
       (then_unique (One label_at) (Run (IsFormula hole.Predicate)) (good_one label_at) (one_unique label_at) predicate_unique)
 
   line_unique : Unique Line
   line_unique = choice_unique (is_word (codes "theorem")) (Labelled true) (Labelled false) (labelled_unique true) (labelled_unique false)
 
-  lines_unique : Unique Lines
+  pub lines_unique : Unique Lines
   lines_unique = many_unique begins_line Line good_line line_unique
 
-  names_unique : Unique Names
+  pub names_unique : Unique Names
   names_unique = many_unique is_reference (One reference) (good_one reference) (one_unique reference)
 
-  some_names_unique : Unique SomeNames
+  pub some_names_unique : Unique SomeNames
   some_names_unique = of_unique (λ p. p.0 ∷ p.1) (Then (One reference) Names) (then_unique (One reference) Names (good_one reference) (one_unique reference) names_unique)
 
-  section_unique : {X : Type 0} (test : Mark → Bool) (P : Bounds → List Mark → List X → List Mark → Type 0) → Unique P → Unique (Choice test P (Nothing []))
+  pub section_unique : {X : Type 0} (test : Mark → Bool) (P : Bounds → List Mark → List X → List Mark → Type 0) → Unique P → Unique (Choice test P (Nothing []))
   section_unique test P u = choice_unique test P (Nothing []) u (nothing_unique [])
 
   context_body_unique : Unique ContextBody

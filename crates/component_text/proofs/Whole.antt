@@ -6,11 +6,11 @@ use Rattle.model_core.specs.declared.component.RawComponent.{RawComponent}
 use Rattle.component_text.specs.Marks.{Mark, word, label, plain, is_word, is_at}
 use Rattle.component_text.specs.Forms.{Bounds, limits, parts, none}
 use Rattle.component_text.specs.Grammar.{Headed}
-use Rattle.component_text.specs.Faults.{HasContinuation, NoneGoesOn, IsUnexpectedAt, IsTooLargeAt}
-use Rattle.component_text.specs.Reading.{end_mark, Begins, NoneHas, Refuses, Passes, behind_word, no_formula}
-use Rattle.component_text.proofs.Placed.{placed_small, placed_behind, placed_after, no_label_word, no_label_none, no_label_both, Leaves}
+use Rattle.component_text.specs.Faults.{Continues, NoneGoesOn, IsLargeAt, long, wide, IsUnexpectedAt, IsTooLargeAt}
+use Rattle.component_text.specs.Reading.{end_mark, BeginsIn, Begins, NoneHasIn, NoneHas, IsLargeIn, is_long, is_wide, Refuses, Passes, behind_word, Placed, no_formula}
+use Rattle.component_text.proofs.Placed.{placed_small, placed_behind, placed_after, word_free, none_free, both_free, Leaves}
 use Rattle.component_text.proofs.Parts.{both_end, same_first, same, closing, Good, same_start_self}
-use Rattle.component_text.proofs.Refusing.{larger}
+use Rattle.component_text.proofs.Refusing.{longer}
 
 -- a mark that is the word
 pub word_is : (w : List ℕ) (x : Mark) → is_word w x ≡ true → (p : ℕ) × (x ≡ word w p)
@@ -18,34 +18,48 @@ word_is w (word v p) e = (p, ap (λ u. word u p) ((bytes_eq-Decides v w).0 e))
 word_is w (label l p) e = cc
 word_is w (plain x) e = cc
 
-same_word : (w : List ℕ) → bytes_eq w w ≡ true
+pub same_word : (w : List ℕ) → bytes_eq w w ≡ true
 same_word w = (bytes_eq-Decides w w).1 refl
 
-module _ (w : List ℕ) (Body : Bounds → List Mark → RawComponent → List Mark → Type 0) where
+-- nothing goes on with it, so it passes no limit
+pub not_large : {C : Type 0} (Whole : Bounds → List Mark → C → Type 0) (before rest : List Mark) → Placed before rest → NoneGoesOn Whole before rest →
+    (x : Mark) (later : List Mark) → rest ≡ x ∷ later → IsLargeAt Whole before x → ⊥
+not_large Whole before rest p n x later e (long h) = placed_small before rest p x later e h
+not_large Whole before rest p n x later e (wide h k) =
+    subst (NoneGoesOn Whole before) e n h.0 h.1 (subst (λ t. Whole none t h.1) (append_assoc before (x ∷ []) h.0) h.2)
+
+module _ (w : List ℕ) (no_variant : bytes_eq w (codes "variant") ≡ false) (Body : Bounds → List Mark → RawComponent → List Mark → Type 0) where
   abbrev Whole : Bounds → List Mark → RawComponent → Type 0
   Whole = Headed w Body
 
   pub whole : (s m k : List Mark) (p q : ℕ) (c : RawComponent) → s ≡ word w p ∷ m → Body limits m c k → k ≡ word (codes "end") q ∷ [] → Whole limits s c
   whole s m k p q c e h f = record { place = p; behind = m; rest = k; head = e; body = h; end_place = q; end = f }
 
-  begun : (p : ℕ) (before : List Mark) → Begins Body before → HasContinuation Whole (word w p ∷ before)
-  begun p before h =
+  begun : (b : Bounds) (p : ℕ) (before : List Mark) → BeginsIn b Body before → Continues Whole b (word w p ∷ before)
+  begun b p before h =
       (h.more ++ end_mark ∷ [], h.value, record { place = p; behind = before ++ (h.more ++ end_mark ∷ []); rest = end_mark ∷ []; head = refl; body = h.goes_on []; end_place = 0; end = refl })
 
-  in_body : (p : ℕ) (t : List Mark) (c : RawComponent) → ((r : List Mark) → Body none t c r → ⊥) → Whole none (word w p ∷ t) c → ⊥
-  in_body p t c h k = let tail : k.behind ≡ t = (let e = k.head in cc) in h k.rest (subst (λ u. Body none u c k.rest) tail k.body)
+  in_body : (b : Bounds) (p : ℕ) (t : List Mark) (c : RawComponent) → ((r : List Mark) → Body b t c r → ⊥) → Whole b (word w p ∷ t) c → ⊥
+  in_body b p t c h k = let tail : k.behind ≡ t = (let e = k.head in cc) in h k.rest (subst (λ u. Body b u c k.rest) tail k.body)
 
   nowhere_in_body : (p : ℕ) (before rest : List Mark) → NoneHas Body before rest → NoneGoesOn Whole (word w p ∷ before) rest
-  nowhere_in_body p before [] h = λ c. in_body p before c (h c)
-  nowhere_in_body p before (y ∷ rest) h = λ more c. in_body p (before ++ y ∷ more) c (h more c)
+  nowhere_in_body p before [] h = λ c. in_body none p before c (h c)
+  nowhere_in_body p before (y ∷ rest) h = λ more c. in_body none p (before ++ y ∷ more) c (h more c)
+
+  only_wider : (p : ℕ) (before : List Mark) (x : Mark) (later : List Mark) → NoneHasIn parts Body before (x ∷ later) → Continues Whole parts ((word w p ∷ before) ++ x ∷ []) → ⊥
+  only_wider p before x later h c = in_body parts p (before ++ x ∷ c.0) c.1 (h c.0 c.1) (subst (λ t. Whole parts t c.1) (append_assoc (word w p ∷ before) (x ∷ []) c.0) c.2)
+
+  large_in_body : (p : ℕ) (before : List Mark) (x : Mark) (later : List Mark) → IsLargeIn Body before x later → IsLargeAt Whole (word w p ∷ before) x
+  large_in_body p before x later (is_long h) = long (longer (word w p ∷ []) before x h)
+  large_in_body p before x later (is_wide h k) = wide (begun none p (before ++ x ∷ []) h) (only_wider p before x later k)
 
   pub body_unexpected : (s m rest : List Mark) (p : ℕ) → s ≡ word w p ∷ m → Refuses Body m rest → IsUnexpectedAt Whole s rest
   body_unexpected s m rest p e h = record {
     before = word w p ∷ h.before;
     is = e ∙ ap (λ t. word w p ∷ t) h.is;
-    begins = begun p h.before h.begins;
+    begins = begun parts p h.before h.begins;
     nowhere = nowhere_in_body p h.before rest h.nowhere;
-    small = placed_small (word w p ∷ h.before) rest (placed_behind (word w p ∷ []) h.before rest (λ _. no_label_word w p) h.placed);
+    small = not_large Whole (word w p ∷ h.before) rest (placed_behind (word w p ∷ []) h.before rest (λ _. word_free w p no_variant) h.placed) (nowhere_in_body p h.before rest h.nowhere);
   }
 
   pub body_too_large : (s m rest : List Mark) (p : ℕ) → s ≡ word w p ∷ m → Passes Body m rest → IsTooLargeAt Whole s rest
@@ -55,8 +69,8 @@ module _ (w : List ℕ) (Body : Bounds → List Mark → RawComponent → List M
     later = h.later;
     is = e ∙ ap (λ t. word w p ∷ t) h.is;
     next = h.next;
-    begins = begun p h.before h.begins;
-    large = larger (word w p ∷ []) h.before h.token h.large;
+    begins = begun parts p h.before h.begins;
+    large = large_in_body p h.before h.token h.later h.large;
   }
 
   -- the word doesn't stand first
@@ -73,7 +87,7 @@ module _ (w : List ℕ) (Body : Bounds → List Mark → RawComponent → List M
     is = refl;
     begins = (word w 0 ∷ (h.more ++ end_mark ∷ []), h.value, record { place = 0; behind = h.more ++ end_mark ∷ []; rest = end_mark ∷ []; head = refl; body = h.goes_on []; end_place = 0; end = refl });
     nowhere = no_head s e;
-    small = placed_small [] s (no_formula no_label_none);
+    small = not_large Whole [] s (no_formula none_free) (no_head s e);
   }
 
   -- what is refused is no component
@@ -126,15 +140,28 @@ module _ (w : List ℕ) (Body : Bounds → List Mark → RawComponent → List M
               behind = front.0 ++ end_mark ∷ [];
               rest = end_mark ∷ [];
               head = refl;
-              body = good.keeps parts front.0 k (end_mark ∷ []) c (good.loosens (front.0 ++ k) c k there) (closing [] refl);
+              body = good.keeps parts front.0 k (end_mark ∷ []) c (good.loosens parts (front.0 ++ k) c k there) (closing [] refl);
               end_place = 0;
               end = refl;
             },
           );
           nowhere = no_end front.0 k p c there isnt;
-          small = placed_small (word w p ∷ front.0) k
-              (placed_after (word w p ∷ front.0) k (λ d. no_label_both (word w p ∷ []) front.0 (no_label_word w p) (leaves.no_label limits front.0 k c there d)));
+          small = not_large Whole (word w p ∷ front.0) k
+              (placed_after (word w p ∷ front.0) k (λ d. both_free (word w p ∷ []) front.0 (word_free w p no_variant) (leaves.free limits front.0 k c there d)))
+              (no_end front.0 k p c there isnt);
         }
+
+    -- nothing stands behind `end`
+    none_behind : (front : List Mark) (p q : ℕ) (y : Mark) (t : List Mark) (c : RawComponent) → Body limits (front ++ word (codes "end") q ∷ (y ∷ t)) c (word (codes "end") q ∷ (y ∷ t)) →
+        NoneGoesOn Whole (word w p ∷ (front ++ word (codes "end") q ∷ [])) (y ∷ t)
+    none_behind front p q y t c there = λ more d g.
+        let last : Mark = word (codes "end") q in
+        let n : List Mark = (front ++ last ∷ []) ++ y ∷ more in
+        let tail : g.behind ≡ n = (let f = g.head in cc) in
+        let body : Body none (front ++ (last ∷ (y ∷ more))) d g.rest = subst (λ u. Body none u d g.rest) (tail ∙ append_assoc front (last ∷ []) (y ∷ more)) g.body in
+        let r_is : g.rest ≡ last ∷ (y ∷ more) = good.agrees limits none front (last ∷ (y ∷ t)) (last ∷ (y ∷ more)) c d g.rest there same_first body in
+        let f = g.end in
+        cc
 
     -- something stands behind `end`
     pub after_end : (s m k : List Mark) (p q : ℕ) (y : Mark) (t : List Mark) (c : RawComponent) → s ≡ word w p ∷ m → Body limits m c k → k ≡ word (codes "end") q ∷ (y ∷ t) → IsUnexpectedAt Whole s (y ∷ t)
@@ -154,17 +181,11 @@ module _ (w : List ℕ) (Body : Bounds → List Mark → RawComponent → List M
               rest = last ∷ [];
               head = refl;
               body = subst (λ u. Body parts u c (last ∷ [])) (sym (append-nil (front.0 ++ last ∷ [])))
-                  (good.keeps parts front.0 (last ∷ (y ∷ t)) (last ∷ []) c (good.loosens (front.0 ++ last ∷ (y ∷ t)) c (last ∷ (y ∷ t)) there) (same same_first));
+                  (good.keeps parts front.0 (last ∷ (y ∷ t)) (last ∷ []) c (good.loosens parts (front.0 ++ last ∷ (y ∷ t)) c (last ∷ (y ∷ t)) there) (same same_first));
               end_place = q;
               end = refl;
             },
           );
-          small = placed_small (word w p ∷ (front.0 ++ last ∷ [])) (y ∷ t) (no_formula (behind_word (word w p ∷ front.0) (codes "end") q [] refl));
-          nowhere = λ more d g.
-              let n : List Mark = (front.0 ++ last ∷ []) ++ y ∷ more in
-              let tail : g.behind ≡ n = (let f = g.head in cc) in
-              let body : Body none (front.0 ++ (last ∷ (y ∷ more))) d g.rest = subst (λ u. Body none u d g.rest) (tail ∙ append_assoc front.0 (last ∷ []) (y ∷ more)) g.body in
-              let r_is : g.rest ≡ last ∷ (y ∷ more) = good.agrees limits none front.0 (last ∷ (y ∷ t)) (last ∷ (y ∷ more)) c d g.rest there same_first body in
-              let f = g.end in
-              cc;
+          small = not_large Whole (word w p ∷ (front.0 ++ last ∷ [])) (y ∷ t) (no_formula (behind_word (word w p ∷ front.0) (codes "end") q [] refl refl)) (none_behind front.0 p q y t c there);
+          nowhere = none_behind front.0 p q y t c there;
         }

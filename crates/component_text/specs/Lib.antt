@@ -1,6 +1,7 @@
 pub mod Marks
 pub mod Forms
 pub mod Grammar
+pub mod Machines
 pub mod Faults
 pub mod Reading
 pub mod Texts

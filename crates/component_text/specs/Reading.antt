@@ -1,49 +1,51 @@
 -- What the calls that read parts leave. Private contracts alone cite this.
-use Rattle.std.specs.Prelude.{◌≡◌, ℕ, Bool, true, false, List, [], ◌∷◌, ◌++◌, length, drop, map, Option, Some, None, Result, Ok, Err, codes, ◌⊎◌}
-use Rattle.formula_core.specs.declared.raw.Raw.{Raw}
+use Rattle.std.specs.Prelude.{◌≡◌, ℕ, ◌+◌, ◌<◌, ◌≤◌, Bool, true, false, List, [], ◌∷◌, ◌++◌, length, drop, take, map, Option, Some, None, Result, Ok, Err, codes, ◌⊎◌}
 use Rattle.formula_core.specs.declared.raw.Ref.{Ref}
-use Rattle.math_grammar.specs.declared.holes.Hole.{Hole}
-use Rattle.math_grammar.specs.declared.holes.Hole.TheVariants as hole
 use Rattle.math_grammar.specs.Tokens.{Item}
-use Rattle.math_parse.specs.declared.fault.ParseFault.TheVariants as fault
-use Rattle.math_parse.specs.Limits.{IsFault, IsSentence, IsTooLarge}
+use Rattle.math_parse.specs.Limits.{first_large}
 use Rattle.component_text.specs.declared.stop.Stop.{Stop}
 use Rattle.component_text.specs.declared.stop.Stop.TheVariants as stop
 use Rattle.component_text.specs.Marks.{Mark, word, label, plain, run, behind_run, is_word, is_at}
 use Rattle.component_text.specs.Forms.{Bounds, limits, parts, none, One, Run}
-use Rattle.component_text.specs.Grammar.{IsFormula, Names}
-use Rattle.component_text.specs.Faults.{IsLargeAt, IsUnexpectedAt, IsTooLargeAt}
+use Rattle.component_text.specs.Grammar.{Names}
+use Rattle.component_text.specs.Faults.{opens_formula, IsLong, IsUnexpectedAt, IsTooLargeAt}
 
 abbrev pub end_mark : Mark
 end_mark = word (codes "end") 0
 
--- some sentence of the part begins so, and `end` stands behind it
-pub record Begins {X : Type 0} (P : Bounds → List Mark → X → List Mark → Type 0) (before : List Mark) : Type 0 where
+-- some sentence of the part begins so, with formulas within the bounds, and `end` stands behind it
+pub record BeginsIn {X : Type 0} (b : Bounds) (P : Bounds → List Mark → X → List Mark → Type 0) (before : List Mark) : Type 0 where
   pub more : List Mark
   pub value : X
-  pub goes_on : (tail : List Mark) → P parts (before ++ (more ++ end_mark ∷ tail)) value (end_mark ∷ tail)
+  pub goes_on : (tail : List Mark) → P b (before ++ (more ++ end_mark ∷ tail)) value (end_mark ∷ tail)
 
--- no text of the part goes on with the first of these, or ends there where there is none
+abbrev pub Begins : {X : Type 0} → (Bounds → List Mark → X → List Mark → Type 0) → List Mark → Type 0
+Begins P before = BeginsIn parts P before
+
+-- no text of the part within the bounds goes on with the first of these, or ends there where there is none
+abbrev pub NoneHasIn : {X : Type 0} → Bounds → (Bounds → List Mark → X → List Mark → Type 0) → List Mark → List Mark → Type 0
+NoneHasIn {X} b P before [] = (x : X) (r : List Mark) → P b before x r → ⊥
+NoneHasIn {X} b P before (y ∷ rest) = (more : List Mark) (x : X) (r : List Mark) → P b (before ++ y ∷ more) x r → ⊥
+
 abbrev pub NoneHas : {X : Type 0} → (Bounds → List Mark → X → List Mark → Type 0) → List Mark → List Mark → Type 0
-NoneHas {X} P before [] = (x : X) (r : List Mark) → P none before x r → ⊥
-NoneHas {X} P before (y ∷ rest) = (more : List Mark) (x : X) (r : List Mark) → P none (before ++ y ∷ more) x r → ⊥
+NoneHas P before rest = NoneHasIn none P before rest
 
 abbrev pub is_plain : Mark → Bool
 is_plain (plain x) = true
 is_plain (word w p) = false
 is_plain (label l p) = false
 
--- no label stands behind the last structural word
-pub data NoLabel (s : List Mark) : Type 0 where
-  behind_word : (lead : List Mark) (w : List ℕ) (p : ℕ) (names : List Item) → s ≡ lead ++ (word w p ∷ map plain names) → NoLabel s
-  all_plain : (names : List Item) → s ≡ map plain names → NoLabel s
+-- no formula stands behind the last structural word or label
+pub data NoFormula (s : List Mark) : Type 0 where
+  behind_word : (lead : List Mark) (w : List ℕ) (p : ℕ) (names : List Item) → s ≡ lead ++ (word w p ∷ map plain names) → opens_formula (word w p) ≡ false → NoFormula s
+  all_plain : (names : List Item) → s ≡ map plain names → NoFormula s
 
--- why the first of `rest` passes no limit: it is no token of a formula, stands in no formula, or in one within its limits
+-- why the first of `rest` passes no limit of tokens or open brackets: it is no token of a formula, stands in no formula, or in one within its limits
 pub data Placed (before rest : List Mark) : Type 0 where
   not_plain : is_at is_plain rest ≡ false → Placed before rest
-  no_formula : NoLabel before → Placed before rest
-  in_formula : (lead : List Mark) (l : List ℕ) (p : ℕ) (formula : List Item) (y : Item) (later : List Mark) →
-      before ≡ lead ++ (label l p ∷ map plain formula) → rest ≡ plain y ∷ later → (IsTooLarge hole.Predicate (formula ++ y ∷ []) (length formula) → ⊥) → Placed before rest
+  no_formula : NoFormula before → Placed before rest
+  in_formula : (lead : List Mark) (y : Mark) (formula : List Item) (x : Item) (later : List Mark) →
+      before ≡ lead ++ (y ∷ map plain formula) → opens_formula y ≡ true → rest ≡ plain x ∷ later → first_large (formula ++ x ∷ []) ≡ None → Placed before rest
 
 pub record Refuses {X : Type 0} (P : Bounds → List Mark → X → List Mark → Type 0) (old rest : List Mark) : Type 0 where
   pub before : List Mark
@@ -53,6 +55,11 @@ pub record Refuses {X : Type 0} (P : Bounds → List Mark → X → List Mark �
   pub placed : Placed before rest
   pub wrong : (x : X) (r : List Mark) → P limits old x r → ⊥
 
+-- the first of `rest` passes a limit: of tokens or open brackets, or only larger partitions go on with it
+pub data IsLargeIn {X : Type 0} (P : Bounds → List Mark → X → List Mark → Type 0) (before : List Mark) (token : Mark) (later : List Mark) : Type 0 where
+  is_long : IsLong before token → IsLargeIn P before token later
+  is_wide : BeginsIn none P (before ++ token ∷ []) → NoneHasIn parts P before (token ∷ later) → IsLargeIn P before token later
+
 pub record Passes {X : Type 0} (P : Bounds → List Mark → X → List Mark → Type 0) (old rest : List Mark) : Type 0 where
   pub before : List Mark
   pub token : Mark
@@ -60,7 +67,7 @@ pub record Passes {X : Type 0} (P : Bounds → List Mark → X → List Mark →
   pub is : old ≡ before ++ rest
   pub next : rest ≡ token ∷ later
   pub begins : Begins P before
-  pub large : IsLargeAt before token
+  pub large : IsLargeIn P before token later
   pub wrong : (x : X) (r : List Mark) → P limits old x r → ⊥
 
 -- the part was read, or what stands next is refused or passes a limit, or memory ran out
@@ -88,14 +95,32 @@ ReadsOne value old None new = (new ≡ old) × Lacks value old
 abbrev pub from_token : ℕ → List Mark → List Mark
 from_token i s = map plain (drop i (run s)) ++ behind_run s
 
+-- some formula begins so
+abbrev pub StartsIn : {X : Type 0} → (Bounds → List Item → X → Type 0) → Bounds → List Item → Type 0
+StartsIn {X} F b f = (more : List Item) × (x : X) × F b (f ++ more) x
+
+-- the token at i is the first one that no formula has there, or the end is
+pub record StopsAt {X : Type 0} (F : Bounds → List Item → X → Type 0) (s : List Item) (i : ℕ) : Type 0 where
+  pub short : i ≤ length s
+  pub begins : StartsIn F parts (take i s)
+  pub there : i < length s → StartsIn F none (take (i + 1) s) → ⊥
+  pub at_end : i ≡ length s → (x : X) → F none s x → ⊥
+  pub few : first_large (take (i + 1) s) ≡ None
+  pub wrong : (x : X) → F limits s x → ⊥
+
+-- the token at i passes a limit
+pub record PassesAt {X : Type 0} (F : Bounds → List Item → X → Type 0) (s : List Item) (i : ℕ) : Type 0 where
+  pub short : i < length s
+  pub begins : StartsIn F parts (take i s)
+  pub large : (first_large (take (i + 1) s) ≡ Some i) ⊎ (StartsIn F none (take (i + 1) s) × (StartsIn F parts (take (i + 1) s) → ⊥))
+  pub wrong : (x : X) → F limits s x → ⊥
+
 -- a formula was read, or it is refused at a token
-abbrev pub ReadsFormula : Hole → List Mark → Result Raw Stop → List Mark → Type 0
-ReadsFormula h old (Ok t) new = Run (IsFormula h) limits old t new
-ReadsFormula h old (Err stop.Unexpected) new =
-    (i : ℕ) × (new ≡ from_token i old) × IsFault h (run old) (fault.Unexpected i) × ((t : Raw) → IsSentence h (run old) t → ⊥)
-ReadsFormula h old (Err stop.TooLarge) new =
-    (i : ℕ) × (new ≡ from_token i old) × IsFault h (run old) (fault.TooLarge i) × ((t : Raw) → IsSentence h (run old) t → ⊥)
-ReadsFormula h old (Err stop.OutOfMemory) new = Unit {0}
+abbrev pub ReadsFormula : {X : Type 0} → (Bounds → List Item → X → Type 0) → List Mark → Result X Stop → List Mark → Type 0
+ReadsFormula F old (Ok t) new = Run F limits old t new
+ReadsFormula F old (Err stop.Unexpected) new = (i : ℕ) × (new ≡ from_token i old) × StopsAt F (run old) i
+ReadsFormula F old (Err stop.TooLarge) new = (i : ℕ) × (new ≡ from_token i old) × PassesAt F (run old) i
+ReadsFormula F old (Err stop.OutOfMemory) new = Unit {0}
 
 -- all names that stand next were added
 abbrev pub AddsNames : List Ref → List Ref → List Mark → List Mark → Type 0

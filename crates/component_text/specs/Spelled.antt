@@ -10,8 +10,8 @@ use Rattle.component_tokens.specs.declared.piece.CutFault.TheVariants as wrong
 use Rattle.component_tokens.specs.Pieces.{at_sign, Cut}
 use Rattle.model_core.specs.declared.component.RawComponent.{RawComponent}
 use Rattle.model_core.specs.Components.{heading}
-use Rattle.component_text.specs.declared.read.ReadFault.{ReadFault}
-use Rattle.component_text.specs.declared.read.ReadFault.TheVariants as fault
+use Rattle.component_text.specs.declared.pieces.ReadFault.{ReadFault}
+use Rattle.component_text.specs.declared.pieces.ReadFault.TheVariants as fault
 use Rattle.component_text.specs.Marks.{Mark, word, label, plain, marks_of, is_word}
 use Rattle.component_text.specs.Forms.{Bounds, limits}
 use Rattle.component_text.specs.Grammar.{reference}

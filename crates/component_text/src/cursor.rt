@@ -4,7 +4,8 @@ ghost use Rattle.std.specs.Prelude.{◌≡◌, ◌≤◌, length, IfOk, ◌==◌
 ghost use Rattle.math_grammar.specs.declared.holes.Hole.TheVariants as hole;
 ghost use Rattle.math_grammar.specs.Tokens.{bytes_of};
 ghost use Rattle.component_text.specs.Marks.{is_word, is_at, marks_of};
-ghost use Rattle.component_text.specs.Grammar.{reference, label_at, is_a_label, begins_line};
+ghost use Rattle.component_text.specs.Grammar.{IsFormula, reference, label_at, is_a_label, begins_line};
+ghost use Rattle.component_text.specs.Machines.{IsAct, either, begins_event};
 ghost use Rattle.component_text.specs.Reading.{Takes, ReadsOne, ReadsFormula};
 ghost use Rattle.component_text.specs.Texts.{IsNameOf, IsLabelOf, is_plain_text, plain_length, IsKindOf, is_word_text};
 ghost use Rattle.component_text.specs.Spelled.{IsFirstMark};
@@ -13,8 +14,9 @@ ghost use Rattle.component_tokens.specs.Pieces.{at_sign};
 
 use crate::stop::Stop;
 use crate::words::is_structural;
-use formula_core::{Label, Name, NameFault, OutOfMemory, Raw, Ref};
-use math_parse::{ParseFault, predicate};
+use formula_core::{Label, Name, NameFault, OutOfMemory, Raw, RawAction, Ref};
+use math_action::action;
+use math_parse::{ParseFault, expression, predicate};
 use math_tokens::Token;
 use std::alloc::Global;
 use std::marker::Model;
@@ -240,13 +242,85 @@ impl<'t, 'a> Cursor<'t, 'a> {
 
     /// Reads the predicate before the next structural word or label.
     pub fn predicate(&mut self, alloc: Global) -> Result<Raw, Stop>
-        ensures { ReadsFormula hole.Predicate self.old result self.new }
+        ensures { ReadsFormula (IsFormula hole.Predicate) self.old result self.new }
     {
         let length = plain_length(self.text, self.rest);
         match predicate(alloc, self.text, &self.rest[..length]) {
             Ok(formula) => {
                 self.rest = &self.rest[length..];
                 Ok(formula)
+            }
+            Err(ParseFault::Unexpected(index)) => {
+                self.rest = &self.rest[index as usize..];
+                Err(Stop::Unexpected)
+            }
+            Err(ParseFault::TooLarge(index)) => {
+                self.rest = &self.rest[index as usize..];
+                Err(Stop::TooLarge)
+            }
+            Err(ParseFault::OutOfMemory) => Err(Stop::OutOfMemory),
+        }
+    }
+    /// Goes past a label where one stands next.
+    pub fn take_label(&mut self) -> bool
+        ensures { Takes is_a_label self.old result self.new }
+    {
+        if self.is_at_label() {
+            self.rest = &self.rest[1..];
+            true
+        } else {
+            false
+        }
+    }
+
+    /// Goes past one of two words where one stands next.
+    pub fn take_either(&mut self, one: &str, other: &str) -> bool
+        ensures { Takes (either one.now other.now) self.old result self.new }
+    {
+        self.take_word(one) || self.take_word(other)
+    }
+
+    /// Whether `event` or the convergence of an event stands next.
+    pub fn is_at_event(&self) -> bool
+        ensures { result ≡ is_at begins_event self.now }
+    {
+        self.is_at_word("event")
+            || self.is_at_word("ordinary")
+            || self.is_at_word("convergent")
+            || self.is_at_word("anticipated")
+    }
+
+    /// Reads the expression before the next structural word or label.
+    pub fn expression(&mut self, alloc: Global) -> Result<Raw, Stop>
+        ensures { ReadsFormula (IsFormula hole.Expression) self.old result self.new }
+    {
+        let length = plain_length(self.text, self.rest);
+        match expression(alloc, self.text, &self.rest[..length]) {
+            Ok(formula) => {
+                self.rest = &self.rest[length..];
+                Ok(formula)
+            }
+            Err(ParseFault::Unexpected(index)) => {
+                self.rest = &self.rest[index as usize..];
+                Err(Stop::Unexpected)
+            }
+            Err(ParseFault::TooLarge(index)) => {
+                self.rest = &self.rest[index as usize..];
+                Err(Stop::TooLarge)
+            }
+            Err(ParseFault::OutOfMemory) => Err(Stop::OutOfMemory),
+        }
+    }
+
+    /// Reads the action before the next structural word or label.
+    pub fn action(&mut self, alloc: Global) -> Result<RawAction, Stop>
+        ensures { ReadsFormula IsAct self.old result self.new }
+    {
+        let length = plain_length(self.text, self.rest);
+        match action(alloc, self.text, &self.rest[..length]) {
+            Ok(action) => {
+                self.rest = &self.rest[length..];
+                Ok(action)
             }
             Err(ParseFault::Unexpected(index)) => {
                 self.rest = &self.rest[index as usize..];

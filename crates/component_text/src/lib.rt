@@ -2,14 +2,15 @@
 #![tactic(auto)]
 
 mod cursor;
+mod machine;
 mod parse;
-mod read;
+mod pieces;
 mod reader;
 mod stop;
 #[cfg(test)]
 mod tests;
 mod words;
 
-pub use read::ReadFault;
-pub use reader::read_context;
+pub use pieces::ReadFault;
+pub use reader::read;
 pub use words::STRUCTURAL;

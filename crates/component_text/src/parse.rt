@@ -1,6 +1,6 @@
 //! The grammar of components, read from left to right: the next token decides.
 
-ghost use Rattle.std.specs.Prelude.{IfOk};
+ghost use Rattle.std.specs.Prelude.{IfOk, ◌≡◌, false, bytes_eq, codes};
 ghost use Rattle.component_text.specs.Grammar.{Names, SomeNames, NamesBehind, SomeNamesBehind, Labelled, Line, Lines, LinesBehind, ContextBody, IsContext};
 ghost use Rattle.component_text.specs.Reading.{Reads, AddsNames, Ends, ReadsWhole};
 
@@ -45,7 +45,12 @@ fn some_names(alloc: Global, cursor: &mut Cursor<'_, '_>) -> Result<List<Ref>, S
 }
 
 /// The names behind the word, where it stands next.
-fn names_behind(alloc: Global, cursor: &mut Cursor<'_, '_>, word: &str) -> Result<List<Ref>, Stop>
+pub fn names_behind(
+    alloc: Global,
+    cursor: &mut Cursor<'_, '_>,
+    word: &str,
+) -> Result<List<Ref>, Stop>
+    requires no_variant { bytes_eq word.now (codes "variant") ≡ false }
     ensures { Reads (NamesBehind word.now) cursor.old result cursor.new }
 {
     if cursor.take_word(word) {
@@ -56,11 +61,12 @@ fn names_behind(alloc: Global, cursor: &mut Cursor<'_, '_>, word: &str) -> Resul
 }
 
 /// The names behind the word, at least one, where the word stands next.
-fn some_names_behind(
+pub fn some_names_behind(
     alloc: Global,
     cursor: &mut Cursor<'_, '_>,
     word: &str,
 ) -> Result<List<Ref>, Stop>
+    requires no_variant { bytes_eq word.now (codes "variant") ≡ false }
     ensures { Reads (SomeNamesBehind word.now) cursor.old result cursor.new }
 {
     if cursor.take_word(word) {
@@ -71,7 +77,11 @@ fn some_names_behind(
 }
 
 /// A label and its predicate.
-fn labelled(alloc: Global, cursor: &mut Cursor<'_, '_>, theorem: bool) -> Result<RawLabelled, Stop>
+pub fn labelled(
+    alloc: Global,
+    cursor: &mut Cursor<'_, '_>,
+    theorem: bool,
+) -> Result<RawLabelled, Stop>
     ensures { Reads (Labelled theorem) cursor.old result cursor.new }
 {
     let Some((label, place)) = cursor.label(alloc)? else {
@@ -93,7 +103,7 @@ fn line(alloc: Global, cursor: &mut Cursor<'_, '_>) -> Result<RawLabelled, Stop>
     labelled(alloc, cursor, theorem)
 }
 
-fn lines(alloc: Global, cursor: &mut Cursor<'_, '_>) -> Result<List<RawLabelled>, Stop>
+pub fn lines(alloc: Global, cursor: &mut Cursor<'_, '_>) -> Result<List<RawLabelled>, Stop>
     ensures { Reads Lines cursor.old result cursor.new }
 {
     let mut lines = Vec::new(alloc);
@@ -105,11 +115,12 @@ fn lines(alloc: Global, cursor: &mut Cursor<'_, '_>) -> Result<List<RawLabelled>
 }
 
 /// The lines behind the word, where it stands next.
-fn lines_behind(
+pub fn lines_behind(
     alloc: Global,
     cursor: &mut Cursor<'_, '_>,
     word: &str,
 ) -> Result<List<RawLabelled>, Stop>
+    requires no_variant { bytes_eq word.now (codes "variant") ≡ false }
     ensures { Reads (LinesBehind word.now) cursor.old result cursor.new }
 {
     if cursor.take_word(word) {
@@ -140,7 +151,7 @@ fn context_body(alloc: Global, cursor: &mut Cursor<'_, '_>) -> Result<RawCompone
 }
 
 /// Goes past `end`, and looks whether nothing stands behind it.
-fn ends(cursor: &mut Cursor<'_, '_>) -> bool
+pub fn ends(cursor: &mut Cursor<'_, '_>) -> bool
     ensures { Ends cursor.old result cursor.new }
 {
     cursor.take_word("end") && cursor.is_at_end()

@@ -1,4 +1,4 @@
-use crate::{ReadFault, read_context};
+use crate::{ReadFault, read};
 use component_tokens::{Position, position_of};
 use formula_core::Name;
 use model_core::{Fault, RawComponent};
@@ -138,7 +138,7 @@ fn read_c0(alloc: Global, text: &str) -> Result<RawComponent, ReadFault> {
         return Err(ReadFault::OutOfMemory);
     }
     match Name::read(alloc, "c0") {
-        Ok(name) => read_context(alloc, &name, text),
+        Ok(name) => read(alloc, &name, text),
         Err(_) => Err(ReadFault::OutOfMemory),
     }
 }

@@ -4,10 +4,10 @@ ghost use Rattle.std.specs.Prelude.{◌≡◌, ◌^◌, ◌<◌, [], None, IfOk,
 ghost use Rattle.std.specs.List.{AllByRecursion};
 ghost use Rattle.component_text.specs.Marks.{marks_of};
 ghost use Rattle.component_text.specs.Spelled.{misnamed, HasText, FaultIs, Tells, fault_kind, fault_place, TellsUnexpected, TellsTooLarge, ReadsPieces};
-ghost use Rattle.component_text.specs.Grammar.{IsContext};
+ghost use Rattle.component_text.specs.Machines.{IsComponent};
 
 use crate::cursor::Cursor;
-use crate::parse::context;
+use crate::machine::component;
 use crate::stop::Stop;
 use component_tokens::{CutFault, Pieces};
 use formula_core::{Name, OutOfMemory, Text};
@@ -24,7 +24,7 @@ pub enum ReadFault {
 
 impl From<OutOfMemory> for ReadFault {
     ghost use Rattle.std.specs.Prelude.{◌≡◌};
-    ghost use Rattle.component_text.specs.declared.read.ReadFault.TheVariants as fault;
+    ghost use Rattle.component_text.specs.declared.pieces.ReadFault.TheVariants as fault;
 
     ghost from_gives = { λ _ e. e ≡ fault.OutOfMemory };
 
@@ -129,13 +129,13 @@ pub fn read_pieces(
 ) -> Result<RawComponent, ReadFault>
     requires fits { length text.now < 2 ^ 32 }
     requires texts { AllByRecursion HasText (marks_of text.now pieces.now.tokens.items) }
-    ensures { ReadsPieces IsContext name.now text.now (marks_of text.now pieces.now.tokens.items) pieces.now.fault result }
+    ensures { ReadsPieces IsComponent name.now text.now (marks_of text.now pieces.now.tokens.items) pieces.now.fault result }
 {
     if let Some(place) = misnamed(alloc, &mut Cursor::new(text, &pieces.tokens), name)? {
         return Err(fault(alloc, name, 6, place, ""));
     }
     let mut cursor = Cursor::new(text, &pieces.tokens);
-    match context(alloc, &mut cursor) {
+    match component(alloc, &mut cursor) {
         Ok(component) => match pieces.fault {
             None => Ok(component),
             Some(wrong) => Err(cut_fault(alloc, name, wrong)),

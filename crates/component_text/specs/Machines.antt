@@ -1,0 +1,139 @@
+-- The grammar of machines.
+use Rattle.std.specs.Prelude.{◌≡◌, ℕ, Bool, true, false, ◌||◌, List, [], ◌∷◌, Option, Some, None, codes, bytes_eq, if◌then◌else◌}
+use Rattle.formula_core.specs.declared.raw.Raw.{Raw}
+use Rattle.formula_core.specs.declared.raw.RawAction.{RawAction}
+use Rattle.formula_core.specs.declared.raw.Ref.{Ref}
+use Rattle.math_grammar.specs.declared.holes.Hole.TheVariants as hole
+use Rattle.math_grammar.specs.Tokens.{Item}
+use Rattle.math_grammar.specs.Actions.{SpellsAction}
+use Rattle.math_parse.specs.Limits.{most_parts}
+use Rattle.math_action.specs.Limits.{IsAction}
+use Rattle.model_core.specs.declared.component.Convergence.{Convergence}
+use Rattle.model_core.specs.declared.component.Convergence.TheVariants.{Ordinary, Convergent, Anticipated}
+use Rattle.model_core.specs.declared.component.RawLabelled.{RawLabelled}
+use Rattle.model_core.specs.declared.component.RawStep.{RawStep}
+use Rattle.model_core.specs.declared.component.RawEvent.{RawEvent}
+use Rattle.model_core.specs.declared.component.RawComponent.{RawComponent}
+use Rattle.model_core.specs.declared.component.RawComponent.TheVariants.{Machine}
+use Rattle.component_text.specs.declared.machine.Abstracts.{Abstracts}
+use Rattle.component_text.specs.Marks.{Mark, word, label, plain, is_word, is_at}
+use Rattle.component_text.specs.Forms.{Bounds, limits, parts, none, One, Run, Nothing, Then, Choice, Many, Of}
+use Rattle.component_text.specs.Grammar.{IsFormula, reference, label_at, is_a_label, Names, SomeNames, Labelled, Lines, NamesBehind, SomeNamesBehind, LinesBehind, Headed, IsContext}
+
+abbrev pub IsAct : Bounds → List Item → RawAction → Type 0
+IsAct limits s a = IsAction s a
+IsAct parts s a = SpellsAction most_parts s a
+IsAct none s a = SpellsAction None s a
+
+-- the word, by its place
+abbrev pub word_at : List ℕ → Mark → Option ℕ
+word_at w (word v p) = if bytes_eq v w then Some p else None
+word_at w (label l p) = None
+word_at w (plain x) = None
+
+-- ["refines" name]
+abbrev pub Refines : Bounds → List Mark → Option Ref → List Mark → Type 0
+Refines = Choice (is_word (codes "refines")) (Of Some (One reference)) (Nothing None)
+
+-- ["variant" [label] expr]
+abbrev pub Expression : Bounds → List Mark → Raw → List Mark → Type 0
+Expression = Run (IsFormula hole.Expression)
+
+abbrev pub VariantExpression : Bounds → List Mark → Raw → List Mark → Type 0
+VariantExpression = Choice is_a_label Expression Expression
+
+abbrev pub Variant : Bounds → List Mark → Option Raw → List Mark → Type 0
+Variant = Choice (is_word (codes "variant")) (Of Some VariantExpression) (Nothing None)
+
+-- {label pred}
+abbrev pub Witnesses : Bounds → List Mark → List RawLabelled → List Mark → Type 0
+Witnesses = Many is_a_label (Labelled false)
+
+-- {label action}
+abbrev pub step : ((List ℕ × ℕ) × RawAction) → RawStep
+step p = record { label = p.0.0; action = p.1; place = p.0.1 }
+
+abbrev pub Step : Bounds → List Mark → RawStep → List Mark → Type 0
+Step = Of step (Then (One label_at) (Run IsAct))
+
+abbrev pub Steps : Bounds → List Mark → List RawStep → List Mark → Type 0
+Steps = Many is_a_label Step
+
+-- ["extends" name | "refines" name {name}]
+abbrev pub extending : Ref → Abstracts
+extending n = record { extended = true; names = n ∷ [] }
+
+abbrev pub refining : List Ref → Abstracts
+refining ns = record { extended = false; names = ns }
+
+abbrev pub References : Bounds → List Mark → Abstracts → List Mark → Type 0
+References = Choice (is_word (codes "extends")) (Of extending (One reference)) (Of refining (SomeNamesBehind (codes "refines")))
+
+-- [("where"|"when") {line}] ["with" {label pred}] [("then"|"begin") {label action}] "end"
+abbrev pub either : List ℕ → List ℕ → Mark → Bool
+either v w x = is_word v x || is_word w x
+
+abbrev pub Guards : Bounds → List Mark → List RawLabelled → List Mark → Type 0
+Guards = Choice (either (codes "where") (codes "when")) Lines (Nothing [])
+
+abbrev pub With : Bounds → List Mark → List RawLabelled → List Mark → Type 0
+With = Choice (is_word (codes "with")) Witnesses (Nothing [])
+
+abbrev pub Actions : Bounds → List Mark → List RawStep → List Mark → Type 0
+Actions = Choice (either (codes "then") (codes "begin")) Steps (Nothing [])
+
+-- "event" name .. "end"
+abbrev pub EventParts : Type 0
+EventParts = ℕ × (Ref × (Abstracts × (List Ref × (List RawLabelled × (List RawLabelled × (List RawStep × ℕ))))))
+
+abbrev pub event_of : Convergence → EventParts → RawEvent
+event_of c p = record {
+  name = p.1.0;
+  convergence = c;
+  extended = p.1.1.0.extended;
+  refines = p.1.1.0.names;
+  params = p.1.1.1.0;
+  guards = p.1.1.1.1.0;
+  witnesses = p.1.1.1.1.1.0;
+  actions = p.1.1.1.1.1.1.0;
+}
+
+abbrev pub EventBody : Convergence → Bounds → List Mark → RawEvent → List Mark → Type 0
+EventBody c =
+    Of (event_of c) (Then (One (word_at (codes "event"))) (Then (One reference) (Then References (Then (NamesBehind (codes "any"))
+    (Then Guards (Then With (Then Actions (One (word_at (codes "end"))))))))))
+
+-- ["ordinary"|"convergent"|"anticipated"] "event" ..
+abbrev pub Event : Bounds → List Mark → RawEvent → List Mark → Type 0
+Event =
+    Choice (is_word (codes "ordinary")) (EventBody Ordinary)
+    (Choice (is_word (codes "convergent")) (EventBody Convergent)
+    (Choice (is_word (codes "anticipated")) (EventBody Anticipated) (EventBody Ordinary)))
+
+abbrev pub begins_event : Mark → Bool
+begins_event x = is_word (codes "event") x || (is_word (codes "ordinary") x || (is_word (codes "convergent") x || is_word (codes "anticipated") x))
+
+-- ["events" {event}]
+abbrev pub EventList : Bounds → List Mark → List RawEvent → List Mark → Type 0
+EventList = Many begins_event Event
+
+abbrev pub Events : Bounds → List Mark → List RawEvent → List Mark → Type 0
+Events = Choice (is_word (codes "events")) EventList (Nothing [])
+
+-- name ["refines" name] ["sees" name {name}] ["variables" {name}] ["invariants" {line}] ["variant" [label] expr] ["events" {event}]
+abbrev pub machine_of : (Ref × (Option Ref × (List Ref × (List Ref × (List RawLabelled × (Option Raw × List RawEvent)))))) → RawComponent
+machine_of p = Machine p.0 p.1.0 p.1.1.0 p.1.1.1.0 p.1.1.1.1.0 p.1.1.1.1.1.0 p.1.1.1.1.1.1
+
+abbrev pub MachineBody : Bounds → List Mark → RawComponent → List Mark → Type 0
+MachineBody =
+    Of machine_of (Then (One reference) (Then Refines (Then (SomeNamesBehind (codes "sees")) (Then (NamesBehind (codes "variables"))
+    (Then (LinesBehind (codes "invariants")) (Then Variant Events))))))
+
+-- "machine" name .. "end"
+abbrev pub IsMachine : Bounds → List Mark → RawComponent → Type 0
+IsMachine = Headed (codes "machine") MachineBody
+
+-- a context or a machine
+pub data IsComponent (b : Bounds) (s : List Mark) (c : RawComponent) : Type 0 where
+  a_context : IsContext b s c → IsComponent b s c
+  a_machine : IsMachine b s c → IsComponent b s c
