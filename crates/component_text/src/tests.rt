@@ -1,11 +1,42 @@
 use crate::{ReadFault, read};
 use component_tokens::{Position, position_of};
 use formula_core::Name;
-use model_core::{Fault, RawComponent};
+use model_core::{Convergence, Fault, RawComponent, RawEvent};
 use std::alloc::Global;
 
 /// Texts of the context c0 with the kind, line, column and words of their first fault.
-const FAULTS: [(&str, u8, usize, usize, &str); 61] = [
+const FAULTS: [(&str, u8, usize, usize, &str); 80] = [
+    ("machine", 3, 1, 8, ""),
+    ("machine c0", 3, 1, 11, ""),
+    ("machine c0 end end", 3, 1, 16, "end"),
+    ("machine c1 end", 6, 1, 9, ""),
+    ("machine c0 refines end", 3, 1, 20, "end"),
+    ("machine c0 refines a b end", 3, 1, 22, "b"),
+    ("machine c0 sees end", 3, 1, 17, "end"),
+    ("machine c0 extends a end", 3, 1, 12, "extends"),
+    ("context c0 variables v end", 3, 1, 12, "variables"),
+    ("machine c0 variant end", 3, 1, 20, "end"),
+    ("machine c0 variant @v end", 3, 1, 23, "end"),
+    ("machine c0 variant ⊤ end", 3, 1, 20, "⊤"),
+    ("machine c0 variant @v @w n end", 3, 1, 23, "@w"),
+    ("machine c0 events ordinary end", 3, 1, 28, "end"),
+    (
+        "machine c0 events event e then @a x := end",
+        3,
+        1,
+        40,
+        "end",
+    ),
+    ("machine c0 events event e then @a x = 1 end", 3, 1, 37, "="),
+    ("machine c0 events event e extends f g end", 3, 1, 37, "g"),
+    (
+        "machine c0 events event e with theorem @a x = 1 end",
+        3,
+        1,
+        32,
+        "theorem",
+    ),
+    ("machine c0 events event e", 3, 1, 26, ""),
     ("", 3, 1, 1, ""),
     ("  ", 3, 1, 3, ""),
     ("context", 3, 1, 8, ""),
@@ -260,5 +291,93 @@ fn has_its_axioms(alloc: Global, text: &str) -> bool {
 fn axioms_have_labels_marks_and_places(rt: HostRuntime) {
     let text = "context c0 axioms @x a ∈ S theorem @y b = 1 end";
     let read = has_its_axioms(rt.alloc(), text);
+    assert!(rt; read);
+}
+
+const MACHINE: &str =
+    "machine c0 refines m sees cd ce variables a b invariants @inv1 a ∈ ℕ theorem @inv2 b ≤ d\nvariant @v a + b\nevents\nevent INITIALISATION then @act1 a, b := 0, 1 end\nconvergent event in refines up down any x where @grd1 x > 0 theorem @grd2 ⊤ with @y y = x then @act1 a :∈ {x} @act2 b :| b' > b end\nanticipated event out extends out when @g a = 1 begin @act1 f(1) ≔ 2 end\nordinary event nothing end\nend";
+
+/// The numbers of what an event refines, its parameters, guards, witnesses and actions.
+fn sizes(event: &RawEvent) -> [usize; 5] {
+    [
+        event.refines.items().len(),
+        event.params.items().len(),
+        event.guards.items().len(),
+        event.witnesses.items().len(),
+        event.actions.items().len(),
+    ]
+}
+
+fn event_is(
+    event: Option<&RawEvent>,
+    convergence: Convergence,
+    extended: bool,
+    numbers: &[usize; 5],
+) -> bool {
+    match event {
+        Some(event) => {
+            event.convergence == convergence
+                && event.extended == extended
+                && sizes(event) == *numbers
+        }
+        None => false,
+    }
+}
+
+fn has_its_events(events: &[RawEvent]) -> bool {
+    events.len() == 4
+        && event_is(
+            events.get(0),
+            Convergence::Ordinary,
+            false,
+            &[0, 0, 0, 0, 1],
+        )
+        && event_is(
+            events.get(1),
+            Convergence::Convergent,
+            false,
+            &[2, 1, 2, 1, 2],
+        )
+        && event_is(
+            events.get(2),
+            Convergence::Anticipated,
+            true,
+            &[1, 0, 1, 0, 1],
+        )
+        && event_is(
+            events.get(3),
+            Convergence::Ordinary,
+            false,
+            &[0, 0, 0, 0, 0],
+        )
+}
+
+fn is_machine(alloc: Global, text: &str) -> bool {
+    match read_c0(alloc, text) {
+        Ok(
+            RawComponent::Machine {
+                refines,
+                sees,
+                variables,
+                invariants,
+                variant,
+                events,
+                ..
+            },
+        ) => {
+            refines.is_some()
+                && variant.is_some()
+                && sees.items().len() == 2
+                && variables.items().len() == 2
+                && invariants.items().len() == 2
+                && has_its_events(events.items())
+        }
+        _ => false,
+    }
+}
+
+#[test]
+fn a_machine_with_every_clause_is_read(rt: HostRuntime) {
+    let read = is_machine(rt.alloc(), MACHINE);
     assert!(rt; read);
 }
