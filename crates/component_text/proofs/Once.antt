@@ -10,11 +10,11 @@ use Rattle.model_core.specs.declared.component.Convergence.{Convergence}
 use Rattle.model_core.specs.declared.component.Convergence.TheVariants.{Ordinary, Convergent, Anticipated}
 use Rattle.model_core.specs.declared.component.RawComponent.{RawComponent}
 use Rattle.component_text.specs.Marks.{Mark, word, is_word, is_at}
-use Rattle.component_text.specs.Forms.{limits, One, Run, Nothing, Then, Of}
+use Rattle.component_text.specs.Forms.{Bounds, limits, parts, none, One, Run, Nothing, Then, Of}
 use Rattle.component_text.specs.Grammar.{IsFormula, reference, label_at, is_a_label, Names, SomeNames, Labelled, Lines, SomeNamesBehind, NamesBehind, LinesBehind, IsContext}
 use Rattle.component_text.specs.Machines.{IsAct, word_at, Refines, Expression, VariantExpression, Variant, Witnesses, step, Step, Steps, extending, refining, References, either, Guards, With, Actions, event_of, EventBody, Event, begins_event, EventList, Events, machine_of, MachineBody, IsMachine, IsComponent, a_context, a_machine}
 use Rattle.component_text.proofs.Parts.{good_one}
-use Rattle.component_text.proofs.Unique.{Unique, OneFormula, one_unique, run_unique, nothing_unique, then_unique, of_unique, choice_unique, many_unique, labelled_unique, lines_unique, names_unique, some_names_unique, section_unique, context_unique}
+use Rattle.component_text.proofs.Unique.{Unique, OneFormula, formula_once, one_unique, run_unique, nothing_unique, then_unique, of_unique, choice_unique, many_unique, labelled_unique, lines_unique, names_unique, some_names_unique, section_unique, context_unique}
 use Rattle.component_text.proofs.Machines.{good_refines, good_variant, good_witness, good_step, good_references, good_any, good_guards, good_with, good_actions, Unordinary, Unconvergent, good_event, good_sees, good_variables, good_invariants}
 
 abbrev pub OneAction : Type 0
@@ -25,15 +25,20 @@ module _ (law : OneFormula) (action_law : OneAction) where
   refines_unique = choice_unique (is_word (codes "refines")) (Of Some (One reference)) (Nothing None) (of_unique Some (One reference) (one_unique reference)) (nothing_unique None)
 
   expression_unique : Unique Expression
-  expression_unique = run_unique (IsFormula hole.Expression) (λ f x y h k. law _ hole.Expression f x y h.0 k.0)
+  expression_unique = run_unique (IsFormula hole.Expression) (formula_once law hole.Expression)
 
   variant_unique : Unique Variant
   variant_unique = choice_unique (is_word (codes "variant")) (Of Some VariantExpression) (Nothing None)
       (of_unique Some VariantExpression (choice_unique is_a_label Expression Expression expression_unique expression_unique)) (nothing_unique None)
 
+  action_once : (b : Bounds) (s : List Item) (x y : RawAction) → IsAct b s x → IsAct b s y → x ≡ y
+  action_once limits s x y h k = action_law _ s x y h.0 k.0
+  action_once parts s x y h k = action_law _ s x y h k
+  action_once none s x y h k = action_law _ s x y h k
+
   step_unique : Unique Step
   step_unique = of_unique step (Then (One label_at) (Run IsAct))
-      (then_unique (One label_at) (Run IsAct) (good_one label_at) (one_unique label_at) (run_unique IsAct (λ f x y h k. action_law _ f x y h.0 k.0)))
+      (then_unique (One label_at) (Run IsAct) (good_one label_at) (one_unique label_at) (run_unique IsAct action_once))
 
   references_unique : Unique References
   references_unique = choice_unique (is_word (codes "extends")) (Of extending (One reference)) (Of refining (SomeNamesBehind (codes "refines"))) (of_unique extending (One reference) (one_unique reference))
@@ -68,16 +73,16 @@ module _ (law : OneFormula) (action_law : OneAction) where
       (then_unique Variant Events good_variant variant_unique
       (section_unique law (is_word (codes "events")) EventList (many_unique begins_event Event good_event event_unique))))))))
 
-  machine_unique : (s : List Mark) (c d : RawComponent) → IsMachine limits s c → IsMachine limits s d → c ≡ d
-  machine_unique s c d h k =
+  machine_unique : (b : Bounds) (s : List Mark) (c d : RawComponent) → IsMachine b s c → IsMachine b s d → c ≡ d
+  machine_unique b s c d h k =
       let there : word (codes "machine") h.place ∷ h.behind ≡ word (codes "machine") k.place ∷ k.behind = sym h.head ∙ k.head in
       let tail : k.behind ≡ h.behind = cc in
-      machine_body_unique h.behind c d h.rest k.rest h.body (subst (λ t. MachineBody limits t d k.rest) tail k.body)
+      machine_body_unique b h.behind c d h.rest k.rest h.body (subst (λ t. MachineBody b t d k.rest) tail k.body)
 
-  pub component_unique : (s : List Mark) (c d : RawComponent) → IsComponent limits s c → IsComponent limits s d → c ≡ d
-  component_unique s c d (a_context h) (a_context k) = context_unique law s c d h k
-  component_unique s c d (a_machine h) (a_machine k) = machine_unique s c d h k
-  component_unique s c d (a_context h) (a_machine k) =
+  pub component_unique : (b : Bounds) (s : List Mark) (c d : RawComponent) → IsComponent b s c → IsComponent b s d → c ≡ d
+  component_unique b s c d (a_context h) (a_context k) = context_unique law b s c d h k
+  component_unique b s c d (a_machine h) (a_machine k) = machine_unique b s c d h k
+  component_unique b s c d (a_context h) (a_machine k) =
       let clash : false ≡ true = sym (ap (is_at (is_word (codes "machine"))) h.head) ∙ ap (is_at (is_word (codes "machine"))) k.head in cc
-  component_unique s c d (a_machine h) (a_context k) =
+  component_unique b s c d (a_machine h) (a_context k) =
       let clash : false ≡ true = sym (ap (is_at (is_word (codes "machine"))) k.head) ∙ ap (is_at (is_word (codes "machine"))) h.head in cc

@@ -102,12 +102,12 @@ other_one x r name e f = go (bytes_eq r.name name) refl (sym (ap (other_name nam
 
 module _ {Y : Type 0} (w : List ℕ) (heads : (name : List ℕ) (p : ℕ) (rest : List Mark) → misnamed name (word w p ∷ rest) ≡ misnamed_behind name rest)
     (f : (Ref × Y) → RawComponent) (own : (x : Ref × Y) → heading (f x) ≡ x.0) (Q : Bounds → List Mark → Y → List Mark → Type 0) where
-  named : (s : List Mark) (c : RawComponent) (name : List ℕ) → Headed w (Of f (Then (One reference) Q)) limits s c → (heading c).name ≡ name → misnamed name s ≡ None
-  named s c name h e =
-      let b = h.body in
-      let first = b.part.first in
-      let is : heading c ≡ b.from.0 = ap heading (sym b.is) ∙ own b.from in
-      ap (misnamed name) h.head ∙ heads name h.place h.behind ∙ ap (misnamed_behind name) first.there ∙ named_one first.mark b.from.0 name first.is (ap (λ r. r.name) (sym is) ∙ e)
+  named : (b : Bounds) (s : List Mark) (c : RawComponent) (name : List ℕ) → Headed w (Of f (Then (One reference) Q)) b s c → (heading c).name ≡ name → misnamed name s ≡ None
+  named b s c name h e =
+      let body = h.body in
+      let first = body.part.first in
+      let is : heading c ≡ body.from.0 = ap heading (sym body.is) ∙ own body.from in
+      ap (misnamed name) h.head ∙ heads name h.place h.behind ∙ ap (misnamed_behind name) first.there ∙ named_one first.mark body.from.0 name first.is (ap (λ r. r.name) (sym is) ∙ e)
 
   has_name : (s : List Mark) (c : RawComponent) (name : List ℕ) → Headed w (Of f (Then (One reference) Q)) limits s c → misnamed name s ≡ None → (heading c).name ≡ name
   has_name s c name h e =
@@ -117,9 +117,9 @@ module _ {Y : Type 0} (w : List ℕ) (heads : (name : List ℕ) (p : ℕ) (rest 
       let isnt : other_name name (reference first.mark) ≡ None = sym (ap (misnamed name) h.head ∙ heads name h.place h.behind ∙ ap (misnamed_behind name) first.there) ∙ e in
       ap (λ r. r.name) is ∙ other_one first.mark b.from.0 name first.is isnt
 
-pub component_named : (s : List Mark) (c : RawComponent) (name : List ℕ) → IsComponent limits s c → (heading c).name ≡ name → misnamed name s ≡ None
-component_named s c name (a_context h) = named (codes "context") (λ n p r. refl) context_of (λ x. refl) _ s c name h
-component_named s c name (a_machine h) = named (codes "machine") (λ n p r. refl) machine_of (λ x. refl) _ s c name h
+pub component_named : (b : Bounds) (s : List Mark) (c : RawComponent) (name : List ℕ) → IsComponent b s c → (heading c).name ≡ name → misnamed name s ≡ None
+component_named b s c name (a_context h) = named (codes "context") (λ n p r. refl) context_of (λ x. refl) _ b s c name h
+component_named b s c name (a_machine h) = named (codes "machine") (λ n p r. refl) machine_of (λ x. refl) _ b s c name h
 
 component_has_name : (s : List Mark) (c : RawComponent) (name : List ℕ) → IsComponent limits s c → misnamed name s ≡ None → (heading c).name ≡ name
 component_has_name s c name (a_context h) = has_name (codes "context") (λ n p r. refl) context_of (λ x. refl) _ s c name h
@@ -139,7 +139,7 @@ module _ (law : OneFormula) (action_law : OneAction) (ways : (text : List ℕ) (
   pub only : (r : Result RawComponent ReadFault) → ReadsPieces IsComponent name text (marks_of text tokens) wrong_behind r → (c : RawComponent) → Spells IsComponent name text c → Finds r c
   only (Ok d) h c k =
       let same = ways text k.tokens tokens None wrong_behind k.cut cut in
-      component_unique law action_law (marks_of text tokens) d c h.0 (subst (λ ts. IsComponent limits (marks_of text ts) c) same.0 k.sentence)
+      component_unique law action_law limits (marks_of text tokens) d c h.0 (subst (λ ts. IsComponent limits (marks_of text ts) c) same.0 k.sentence)
   only (Err (fault.Fault f)) h c k =
       let same = ways text k.tokens tokens None wrong_behind k.cut cut in
       h.2 c (subst (λ ts. IsComponent limits (marks_of text ts) c) same.0 k.sentence) k.named (sym same.1)

@@ -1,4 +1,4 @@
--- What stands within the limits is read in one way.
+-- What is spelled, within the limits or without them, is read in one way.
 use Rattle.std.proofs.Common.{◌≡◌, ◌∙◌, ap, ℕ, List, [], ◌∷◌, Bool, true, false, Some, refl, sym, subst}
 use Rattle.std.specs.Prelude.{Option, codes}
 use Rattle.formula_core.specs.declared.raw.Raw.{Raw}
@@ -8,61 +8,61 @@ use Rattle.math_grammar.specs.Tokens.{Item}
 use Rattle.math_grammar.specs.Grammar.{Spells}
 use Rattle.model_core.specs.declared.component.RawComponent.{RawComponent}
 use Rattle.component_text.specs.Marks.{Mark, word, is_word, is_at}
-use Rattle.component_text.specs.Forms.{Bounds, limits, One, Run, Nothing, Then, Choice, taken, other, Many, no_more, one_more, Of}
+use Rattle.component_text.specs.Forms.{Bounds, limits, parts, none, One, Run, Nothing, Then, Choice, taken, other, Many, no_more, one_more, Of}
 use Rattle.component_text.specs.Grammar.{IsFormula, reference, is_reference, label_at, Names, SomeNames, labelled, Labelled, Line, begins_line, Lines, NamesBehind, SomeNamesBehind, LinesBehind, context_of, ContextBody, IsContext}
 use Rattle.component_text.proofs.Parts.{Good, same_start_self, good_one}
 use Rattle.component_text.proofs.Components.{good_line, good_extends, good_sets, good_constants}
 
 -- one value where the part is read twice
 abbrev pub Unique : {X : Type 0} → (Bounds → List Mark → X → List Mark → Type 0) → Type 0
-Unique {X} P = (s : List Mark) (x y : X) (m n : List Mark) → P limits s x m → P limits s y n → x ≡ y
+Unique {X} P = (b : Bounds) (s : List Mark) (x y : X) (m n : List Mark) → P b s x m → P b s y n → x ≡ y
 
 -- it ends at one place
-ends_once : {X : Type 0} (P : Bounds → List Mark → X → List Mark → Type 0) → Good P → (s : List Mark) (x y : X) (m n : List Mark) → P limits s x m → P limits s y n → n ≡ m
-ends_once P p s x y m n h k =
-    let front = p.split limits s x m h in
-    p.agrees limits limits front.0 m m x y n (subst (λ t. P limits t x m) front.1 h) (same_start_self m) (subst (λ t. P limits t y n) front.1 k)
+ends_once : {X : Type 0} (P : Bounds → List Mark → X → List Mark → Type 0) → Good P → (b : Bounds) (s : List Mark) (x y : X) (m n : List Mark) → P b s x m → P b s y n → n ≡ m
+ends_once P p b s x y m n h k =
+    let front = p.split b s x m h in
+    p.agrees b b front.0 m m x y n (subst (λ t. P b t x m) front.1 h) (same_start_self m) (subst (λ t. P b t y n) front.1 k)
 
 pub one_unique : {X : Type 0} (value : Mark → Option X) → Unique (One value)
-one_unique value s x y m n h k =
+one_unique value b s x y m n h k =
     let there : h.mark ∷ m ≡ k.mark ∷ n = sym h.there ∙ k.there in
     let same : h.mark ≡ k.mark = cc in
     let values : Some x ≡ Some y = sym h.is ∙ ap value same ∙ k.is in
     cc
 
-pub run_unique : {X : Type 0} (F : Bounds → List Item → X → Type 0) → ((f : List Item) (x y : X) → F limits f x → F limits f y → x ≡ y) → Unique (Run F)
-run_unique F one s x y m n h k = one _ x y h.spelled k.spelled
+pub run_unique : {X : Type 0} (F : Bounds → List Item → X → Type 0) → ((b : Bounds) (f : List Item) (x y : X) → F b f x → F b f y → x ≡ y) → Unique (Run F)
+run_unique F one b s x y m n h k = one b _ x y h.spelled k.spelled
 
 pub nothing_unique : {X : Type 0} (absent : X) → Unique (Nothing absent)
-nothing_unique absent s x y m n h k = h.is ∙ sym k.is
+nothing_unique absent b s x y m n h k = h.is ∙ sym k.is
 
 pub then_unique : {X Y : Type 0} (P : Bounds → List Mark → X → List Mark → Type 0) (Q : Bounds → List Mark → Y → List Mark → Type 0) → Good P → Unique P → Unique Q → Unique (Then P Q)
-then_unique {X} {Y} P Q p u v s x y m n h k =
-    let middle : k.middle ≡ h.middle = ends_once P p s x.0 y.0 h.middle k.middle h.first k.first in
-    let first : x.0 ≡ y.0 = u s x.0 y.0 h.middle k.middle h.first k.first in
-    let second : x.1 ≡ y.1 = v h.middle x.1 y.1 m n h.second (subst (λ t. Q limits t y.1 n) middle k.second) in
+then_unique {X} {Y} P Q p u v b s x y m n h k =
+    let middle : k.middle ≡ h.middle = ends_once P p b s x.0 y.0 h.middle k.middle h.first k.first in
+    let first : x.0 ≡ y.0 = u b s x.0 y.0 h.middle k.middle h.first k.first in
+    let second : x.1 ≡ y.1 = v b h.middle x.1 y.1 m n h.second (subst (λ t. Q b t y.1 n) middle k.second) in
     ap (λ (z : X). (z, x.1)) first ∙ ap (λ (z : Y). (y.0, z)) second
 
 pub of_unique : {X Y : Type 0} (f : X → Y) (P : Bounds → List Mark → X → List Mark → Type 0) → Unique P → Unique (Of f P)
-of_unique f P u s x y m n h k = sym h.is ∙ ap f (u s h.from k.from m n h.part k.part) ∙ k.is
+of_unique f P u b s x y m n h k = sym h.is ∙ ap f (u b s h.from k.from m n h.part k.part) ∙ k.is
 
 pub choice_unique : {X : Type 0} (test : Mark → Bool) (P Q : Bounds → List Mark → X → List Mark → Type 0) → Unique P → Unique Q → Unique (Choice test P Q)
-choice_unique test P Q u v s x y m n (taken a t d is h) (taken b w e it k) =
-    let there : a ∷ t ≡ b ∷ w = sym d ∙ e in
+choice_unique test P Q u v b s x y m n (taken a t d is h) (taken a' w e it k) =
+    let there : a ∷ t ≡ a' ∷ w = sym d ∙ e in
     let tail : w ≡ t = cc in
-    u t x y m n h (subst (λ z. P limits z y n) tail k)
-choice_unique test P Q u v s x y m n (taken a t d is h) (other isnt k) = let contra : true ≡ false = sym is ∙ ap (is_at test) (sym d) ∙ isnt in cc
-choice_unique test P Q u v s x y m n (other isnt h) (taken b w e it k) = let contra : true ≡ false = sym it ∙ ap (is_at test) (sym e) ∙ isnt in cc
-choice_unique test P Q u v s x y m n (other isnt h) (other isnt' k) = v s x y m n h k
+    u b t x y m n h (subst (λ z. P b z y n) tail k)
+choice_unique test P Q u v b s x y m n (taken a t d is h) (other isnt k) = let contra : true ≡ false = sym is ∙ ap (is_at test) (sym d) ∙ isnt in cc
+choice_unique test P Q u v b s x y m n (other isnt h) (taken a' w e it k) = let contra : true ≡ false = sym it ∙ ap (is_at test) (sym e) ∙ isnt in cc
+choice_unique test P Q u v b s x y m n (other isnt h) (other isnt' k) = v b s x y m n h k
 
 pub many_unique : {X : Type 0} (test : Mark → Bool) (P : Bounds → List Mark → X → List Mark → Type 0) → Good P → Unique P → Unique (Many test P)
-many_unique test P p u s xs ys m n (no_more isnt e) (no_more isnt' e') = refl
-many_unique test P p u s xs ys m n (no_more isnt e) (one_more does k ks) = let contra : true ≡ false = sym does ∙ isnt in cc
-many_unique test P p u s xs ys m n (one_more does h hs) (no_more isnt e) = let contra : true ≡ false = sym does ∙ isnt in cc
-many_unique test P p u s xs ys m n (one_more {m = a} {x = x} {xs = xs'} does h hs) (one_more {m = b} {x = y} {xs = ys'} does' k ks) =
-    let middle : b ≡ a = ends_once P p s x y a b h k in
-    let first : x ≡ y = u s x y a b h k in
-    let later : xs' ≡ ys' = many_unique test P p u a xs' ys' m n hs (subst (λ t. Many test P limits t ys' n) middle ks) in
+many_unique test P p u b s xs ys m n (no_more isnt e) (no_more isnt' e') = refl
+many_unique test P p u b s xs ys m n (no_more isnt e) (one_more does k ks) = let contra : true ≡ false = sym does ∙ isnt in cc
+many_unique test P p u b s xs ys m n (one_more does h hs) (no_more isnt e) = let contra : true ≡ false = sym does ∙ isnt in cc
+many_unique test P p u b s xs ys m n (one_more {m = a} {x = x} {xs = xs'} does h hs) (one_more {m = a'} {x = y} {xs = ys'} does' k ks) =
+    let middle : a' ≡ a = ends_once P p b s x y a a' h k in
+    let first : x ≡ y = u b s x y a a' h k in
+    let later : xs' ≡ ys' = many_unique test P p u b a xs' ys' m n hs (subst (λ t. Many test P b t ys' n) middle ks) in
     ap (λ z. z ∷ xs') first ∙ ap (λ zs. y ∷ zs) later
 
 -- formulas have one tree
@@ -70,8 +70,13 @@ abbrev pub OneFormula : Type 0
 OneFormula = (limit : Option ℕ) (h : Hole) (s : List Item) (t u : Raw) → Spells limit h s t → Spells limit h s u → t ≡ u
 
 module _ (law : OneFormula) where
+  pub formula_once : (h : Hole) (b : Bounds) (s : List Item) (t u : Raw) → IsFormula h b s t → IsFormula h b s u → t ≡ u
+  formula_once h limits s t u k l = law _ h s t u k.0 l.0
+  formula_once h parts s t u k l = law _ h s t u k l
+  formula_once h none s t u k l = law _ h s t u k l
+
   predicate_unique : Unique (Run (IsFormula hole.Predicate))
-  predicate_unique = run_unique (IsFormula hole.Predicate) (λ f x y h k. law _ hole.Predicate f x y h.0 k.0)
+  predicate_unique = run_unique (IsFormula hole.Predicate) (formula_once hole.Predicate)
 
   pub labelled_unique : (theorem : Bool) → Unique (Labelled theorem)
   labelled_unique theorem = of_unique (labelled theorem) (Then (One label_at) (Run (IsFormula hole.Predicate)))
@@ -101,8 +106,8 @@ module _ (law : OneFormula) where
       (then_unique (NamesBehind (codes "constants")) (LinesBehind (codes "axioms")) good_constants (section_unique (is_word (codes "constants")) Names names_unique)
       (section_unique (is_word (codes "axioms")) Lines lines_unique)))))
 
-  pub context_unique : (s : List Mark) (c d : RawComponent) → IsContext limits s c → IsContext limits s d → c ≡ d
-  context_unique s c d h k =
+  pub context_unique : (b : Bounds) (s : List Mark) (c d : RawComponent) → IsContext b s c → IsContext b s d → c ≡ d
+  context_unique b s c d h k =
       let there : word (codes "context") h.place ∷ h.behind ≡ word (codes "context") k.place ∷ k.behind = sym h.head ∙ k.head in
       let tail : k.behind ≡ h.behind = cc in
-      context_body_unique h.behind c d h.rest k.rest h.body (subst (λ t. ContextBody limits t d k.rest) tail k.body)
+      context_body_unique b h.behind c d h.rest k.rest h.body (subst (λ t. ContextBody b t d k.rest) tail k.body)

@@ -15,7 +15,7 @@ returns-in-Some c =
     let start : c.new.result ≡ marks = c.new.ensures ∙ ap (marks_of c.args.text.now) c.deref.ensures.value in
     let is : misnamed c.args.name.now marks ≡ Some c.in-Some.place = ap (misnamed c.args.name.now) (sym start) ∙ sym c.in_ok-place.ensures ∙ c.in-Some.is in
     told_wrong_name IsComponent c.args.name.now c.args.text.now marks c.args.pieces.now.fault c.fault.result c.in-Some.place is c.fault.ensures
-    (λ d w i k. let clash : Some c.in-Some.place ≡ None = sym is ∙ component_named marks d c.args.name.now w i in cc)
+    (λ d w i k. let clash : Some c.in-Some.place ≡ None = sym is ∙ component_named limits marks d c.args.name.now w i in cc)
 
 pub unexpected-requires-clause-texts : goal.unexpected-requires-clause-texts
 unexpected-requires-clause-texts c =
