@@ -1,0 +1,4 @@
+pub mod Equations
+pub mod Tokens
+pub mod Spelled
+pub mod Actions
