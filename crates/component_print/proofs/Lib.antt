@@ -1,0 +1,11 @@
+pub mod Marked
+pub mod Made
+pub mod Again
+pub mod AgainMachines
+pub mod Laying
+pub mod Texts
+pub mod Back
+pub mod Signs
+pub mod Chains
+pub mod Derived
+pub mod Actions

@@ -1,0 +1,4 @@
+//! Prints components.
+
+/// Nothing.
+pub fn nothing() {}
