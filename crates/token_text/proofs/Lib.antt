@@ -1,0 +1,6 @@
+pub mod Cutting
+pub mod Tokens
+pub mod Signs
+pub mod Words
+pub mod Names
+pub mod Numbers
