@@ -5,3 +5,8 @@ pub mod TypeReadings
 pub mod Forms
 pub mod Nodes
 pub mod Back
+pub mod SignFits
+pub mod Printed
+pub mod TypesPrinted
+pub mod NodesPrinted
+pub mod CutBack
