@@ -10,3 +10,7 @@ pub mod Printed
 pub mod TypesPrinted
 pub mod NodesPrinted
 pub mod CutBack
+pub mod AnyLimit
+pub mod Unlimited
+pub mod Placeless
+pub mod Reread

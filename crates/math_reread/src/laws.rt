@@ -8,6 +8,7 @@ ghost use Rattle.math_print.specs.Printing.{text_of};
 ghost use Rattle.math_print.specs.Written.{raw_of};
 ghost use Rattle.token_text.specs.Spacing.{IsCutInto};
 ghost use Rattle.math_reread.specs.Grades.{HasNames, IsCounted, IsSpelled, place_for};
+ghost use Rattle.math_reread.specs.Back.{ReadsBack};
 ghost use Rattle.math_reread.specs.Items.{items_of_formula};
 ghost use Rattle.math_reread.specs.Literals.{HasNarrowNumbers};
 
@@ -24,4 +25,9 @@ pub fn spelled_one_way()
 /// The printed text is cut into these tokens, but for their places.
 pub fn text_is_cut()
     ensures { (f : Formula) → IsTrue (is_well f) → HasNames f → IsCounted f → HasNarrowNumbers f → IsCutInto (text_of f) (items_of_formula f) }
+{}
+
+/// The printed text reads back as the formula.
+pub fn read_back()
+    ensures { (f : Formula) → IsTrue (is_well f) → HasNames f → IsCounted f → HasNarrowNumbers f → ReadsBack f (text_of f) }
 {}
