@@ -14,3 +14,4 @@ pub mod AnyLimit
 pub mod Unlimited
 pub mod Placeless
 pub mod Reread
+pub mod Known

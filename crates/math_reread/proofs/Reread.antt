@@ -8,7 +8,7 @@ use Rattle.formula_core.specs.declared.ty.Ty.{Ty}
 use Rattle.formula_core.specs.declared.formula.Formula.{Formula}
 use Rattle.formula_core.specs.declared.raw.Raw.{Raw}
 use Rattle.formula_core.specs.Identifiers.{identifiers}
-use Rattle.formula_core.specs.Wellness.{is_well}
+use Rattle.formula_core.specs.Wellness.{type_of, is_well}
 use Rattle.math_grammar.specs.declared.holes.Hole.{Hole}
 use Rattle.math_grammar.specs.declared.symbols.Symbol.{Symbol}
 use Rattle.math_grammar.specs.Tokens.{Item, items_of}
@@ -18,6 +18,7 @@ use Rattle.math_parse.specs.Faults.{IsUnexpected}
 use Rattle.math_parse.specs.declared.fault.ParseFault.{ParseFault}
 use Rattle.math_parse.specs.declared.fault.ParseFault.TheVariants as fault
 use Rattle.math_parse.proofs.Place.{one_tree}
+use Rattle.math_tokens.proofs.OneWay.{cut_is_one}
 use Rattle.math_print.specs.Depths.{deepest}
 use Rattle.math_print.specs.Printing.{text_of}
 use Rattle.math_print.specs.Written.{raw_of, IsTypedBack}
@@ -30,10 +31,11 @@ use Rattle.token_text.specs.Spacing.{unplaced as without_place, IsCutInto}
 use Rattle.math_reread.specs.Items.{items_of_formula}
 use Rattle.math_reread.specs.Grades.{HasNames, IsCounted, place_for}
 use Rattle.math_reread.specs.Literals.{HasNarrowNumbers}
-use Rattle.math_reread.specs.Back.{IsAnswer, IsTreeOrLarge, ReadsBack}
+use Rattle.math_reread.specs.Back.{IsTypedAgain, IsAnswer, IsTreeOrLarge, ReadsBack}
 use Rattle.math_reread.proofs.AnyLimit.{is_limited, AreUnlimited, spelled_within}
 use Rattle.math_reread.proofs.Unlimited.{unlimited}
 use Rattle.math_reread.proofs.Placeless.{raw_placeless}
+use Rattle.math_reread.proofs.Known.{nothing_unknown}
 use Rattle.math_reread.proofs.Back.{spelled}
 use Rattle.math_reread.proofs.CutBack.{text_cut}
 
@@ -104,14 +106,17 @@ reads_back f text exact well names counted narrow =
     let all : AreUnlimited tokens = still_unlimited (items_of_formula f) tokens cut.2 (unlimited f) in
     let spells : (limit : Option ℕ) → Spells limit (place_for f) tokens plain.0 = λ limit. spelled_within limit (place_for f) tokens plain.0 all plain.1 in
     let placeless : unplaced plain.0 ≡ raw_of f = plain.2 ∙ raw_placeless f in
+    let typed : IsTypedAgain f plain.0 = λ env types expected is. formula_again (raw_of f) plain.0 (raw_placeless f ∙ sym placeless) env [] expected f (typed_again f well counted env types expected is) in
     record {
       tokens = cut.0;
       cut = cut.1;
+      cut_only = λ other o. cut_is_one text other (Ok cut.0) o cut.1;
       tree = plain.0;
       spelled = spells;
       only = λ limit t other. one_tree limit (place_for f) tokens t plain.0 other (spells limit);
       written = placeless;
-      typed = λ env types expected is. formula_again (raw_of f) plain.0 (raw_placeless f ∙ sym placeless) env [] expected f (typed_again f well counted env types expected is);
+      typed = typed;
+      known = λ env types. nothing_unknown env [] plain.0 (Some (type_of f)) f (typed env types (Some (type_of f)) refl).typed;
       found = tree_or_large (place_for f) tokens plain.0 spells;
     }
 

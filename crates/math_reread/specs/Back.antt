@@ -8,7 +8,9 @@ use Rattle.type_core.specs.Answers.{IsExpected, IsTheFormula}
 use Rattle.type_core.specs.CoreForms.{core_form}
 use Rattle.math_tokens.specs.SignForms.{sign_forms}
 use Rattle.math_tokens.specs.Texts.{Cut}
+use Rattle.type_core.specs.Unknowns.{unknown_in}
 use Rattle.math_tokens.specs.declared.cutting.Token.{Token}
+use Rattle.math_tokens.specs.declared.cutting.TokenFault.{TokenFault}
 use Rattle.math_grammar.specs.declared.holes.Hole.{Hole}
 use Rattle.math_grammar.specs.Tokens.{Item, items_of}
 use Rattle.math_grammar.specs.Grammar.{Spells}
@@ -36,15 +38,17 @@ IsTreeOrLarge tokens tree (Err fault.OutOfMemory) = Unit {0}
 
 -- The text of a formula reads back.
 pub record ReadsBack (f : Formula) (text : List ℕ) : Type 0 where
-  -- it is cut into tokens
+  -- it is cut into tokens, and in no other way
   pub tokens : List Token
   pub cut : Cut sign_forms text 0 (Ok tokens)
+  pub cut_only : (other : Result (List Token) TokenFault) → Cut sign_forms text 0 other → other ≡ Ok tokens
   -- they spell a tree, whatever the limit of the parts of a partition is, and no other
   pub tree : Raw
   pub spelled : (limit : Option ℕ) → Spells limit (place_for f) (items_of text tokens) tree
   pub only : (limit : Option ℕ) (t : Raw) → Spells limit (place_for f) (items_of text tokens) t → t ≡ tree
-  -- the tree is the formula as it is written, and is typed as the formula
-  pub written : unplaced tree ≡ raw_of f
-  pub typed : IsTypedAgain f tree
   -- the parser finds it, unless the tokens pass a limit or memory runs out
   pub found : (answer : Result Raw ParseFault) → IsAnswer (place_for f) (items_of text tokens) answer → IsTreeOrLarge (items_of text tokens) tree answer
+  -- the tree is the formula as it is written, and is typed as the formula; none of its names is unknown
+  pub written : unplaced tree ≡ raw_of f
+  pub typed : IsTypedAgain f tree
+  pub known : (env : List (List ℕ × Ty)) → TypesAll env f → unknown_in env [] tree ≡ None

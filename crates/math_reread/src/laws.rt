@@ -27,7 +27,8 @@ pub fn text_is_cut()
     ensures { (f : Formula) → IsTrue (is_well f) → HasNames f → IsCounted f → HasNarrowNumbers f → IsCutInto (text_of f) (items_of_formula f) }
 {}
 
-/// The printed text reads back as the formula.
+/// The printed text reads back: its tokens spell one tree, which is typed as the formula again, and the parser finds it, unless
+/// they pass a limit.
 pub fn read_back()
     ensures { (f : Formula) → IsTrue (is_well f) → HasNames f → IsCounted f → HasNarrowNumbers f → ReadsBack f (text_of f) }
 {}
