@@ -352,9 +352,13 @@ numbered_are_names : (n more : ℕ) → n + more ≤ 2 ^ 64 → AllByRecursion (
 numbered_are_names n zero few = tt
 numbered_are_names n (suc more) few = (numbered-is_name n (omega (arith, few)), numbered_are_names (n + 1) more (omega (arith, few)))
 
--- the law
-pub spelled : (f : Formula) → is_well f ≡ true → HasNames f → IsCounted f → IsSpelled f
-spelled f well names counted =
+-- the names of the bound identifiers
+pub record BoundNames (f : Formula) : Type 0 where
+  pub enough : length (bound_names f) ≡ deepest f
+  pub named : (i : ℕ) → i < length (bound_names f) → is_name (name_at (bound_names f) i) ≡ true
+
+pub bound_are_names : (f : Formula) → IsCounted f → BoundNames f
+bound_are_names f counted =
     let taken : List (List ℕ) = keys_of (identifiers f) in
     let same : length taken ≡ length (identifiers f) = length-map (identifiers f) (λ (e : List ℕ × Ty). e.0) in
     let small : deepest f + length taken < 2 ^ 64 = omega (arith, counted, same) in
@@ -363,6 +367,12 @@ spelled f well names counted =
     let inside : AllByRecursion (λ name. is_name name ≡ true) (bound_names f)
     = all_take (λ name. is_name name ≡ true) (deepest f) (filter keep (numbered_names 1 (deepest f + length taken)))
     (all_filter (λ name. is_name name ≡ true) keep (numbered_names 1 (deepest f + length taken)) (numbered_are_names 1 (deepest f + length taken) (omega (arith, small)))) in
-    let r : IsRead (bound_names f) 0 f = reads_back (bound_names f) (λ i short. all_at (λ name. is_name name ≡ true) (bound_names f) i short inside) f [] tt (omega (arith, are_fresh.enough)) well names in
+    record { enough = are_fresh.enough; named = λ i short. all_at (λ name. is_name name ≡ true) (bound_names f) i short inside }
+
+-- the law
+pub spelled : (f : Formula) → is_well f ≡ true → HasNames f → IsCounted f → IsSpelled f
+spelled f well names counted =
+    let b : BoundNames f = bound_are_names f counted in
+    let r : IsRead (bound_names f) 0 f = reads_back (bound_names f) b.named f [] tt (omega (arith, b.enough)) well names in
     let P : List Item → Type 0 = λ s. Reads None (grade_of f) s (raw_of f) [] in
     record { g = grade_of f; reads = subst P (append-nil (items_of_formula f)) (r.plain [] tt); fit = fits_place (grade_of f) (is_value_type (type_of f)) r.sorted }

@@ -5,3 +5,13 @@ pub mod TypeReadings
 pub mod Forms
 pub mod Nodes
 pub mod Back
+pub mod SignFits
+pub mod Printed
+pub mod TypesPrinted
+pub mod NodesPrinted
+pub mod CutBack
+pub mod AnyLimit
+pub mod Unlimited
+pub mod Placeless
+pub mod Reread
+pub mod Known

@@ -1,2 +1,4 @@
 pub mod Items
 pub mod Grades
+pub mod Literals
+pub mod Back

@@ -4,9 +4,13 @@ ghost use Rattle.formula_core.specs.declared.formula.Formula.{Formula};
 ghost use Rattle.formula_core.specs.declared.raw.Raw.{Raw};
 ghost use Rattle.formula_core.specs.Wellness.{is_well};
 ghost use Rattle.math_grammar.specs.Grammar.{Spells};
+ghost use Rattle.math_print.specs.Printing.{text_of};
 ghost use Rattle.math_print.specs.Written.{raw_of};
-ghost use Rattle.math_reread.specs.Items.{items_of_formula};
+ghost use Rattle.token_text.specs.Spacing.{IsCutInto};
 ghost use Rattle.math_reread.specs.Grades.{HasNames, IsCounted, IsSpelled, place_for};
+ghost use Rattle.math_reread.specs.Back.{ReadsBack};
+ghost use Rattle.math_reread.specs.Items.{items_of_formula};
+ghost use Rattle.math_reread.specs.Literals.{HasNarrowNumbers};
 
 /// The tokens of a well formula's printed text are a sentence, and its tree is the formula as it is written.
 pub fn written_is_spelled()
@@ -16,4 +20,15 @@ pub fn written_is_spelled()
 /// They are no other sentence.
 pub fn spelled_one_way()
     ensures { (f : Formula) (t : Raw) → IsTrue (is_well f) → HasNames f → IsCounted f → Spells None (place_for f) (items_of_formula f) t → t ≡ raw_of f }
+{}
+
+/// The printed text is cut into these tokens, but for their places.
+pub fn text_is_cut()
+    ensures { (f : Formula) → IsTrue (is_well f) → HasNames f → IsCounted f → HasNarrowNumbers f → IsCutInto (text_of f) (items_of_formula f) }
+{}
+
+/// The printed text reads back: its tokens spell one tree, which is typed as the formula again, and the parser finds it, unless
+/// they pass a limit.
+pub fn read_back()
+    ensures { (f : Formula) → IsTrue (is_well f) → HasNames f → IsCounted f → HasNarrowNumbers f → ReadsBack f (text_of f) }
 {}

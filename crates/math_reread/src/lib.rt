@@ -1,6 +1,10 @@
-//! What a printed formula is to the grammar: the tokens of its text spell it.
+//! What a printed formula is to the reader: its text is cut into tokens that spell it, and is typed as the formula again.
 #![tactic(auto)]
 
 mod laws;
+mod rereading;
+#[cfg(test)]
+mod tests;
 
-pub use laws::{spelled_one_way, written_is_spelled};
+pub use laws::{read_back, spelled_one_way, text_is_cut, written_is_spelled};
+pub use rereading::text;

@@ -1,0 +1,4 @@
+pub mod Typings
+pub mod Induction
+pub mod CoreForms
+pub mod OtherPlaces

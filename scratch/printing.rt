@@ -1,0 +1,72 @@
+//! The text of components.
+
+ghost use Rattle.std.specs.Prelude.{◌≡◌, ◌++◌, string_bytes, OnOk, IfOk};
+ghost use Rattle.component_print.specs.Printed.{component_text};
+ghost use Rattle.component_print.specs.Back.{IsReadable, ReadsBack};
+
+use crate::machine::{print_events, print_variant};
+use crate::sections::{print_names, print_section};
+use formula_core::{OutOfMemory, Ref};
+use model_core::RawComponent;
+use std::alloc::Global;
+
+fn print_onto(component: &RawComponent, out: &mut String) -> Result<(), OutOfMemory>
+    ensures { OnOk result (string_bytes out.new ≡ string_bytes out.old ++ component_text component.now) }
+{
+    match component {
+        RawComponent::Context {
+            name,
+            extends,
+            sets,
+            constants,
+            axioms,
+        } => {
+            print_heading("context ", name, out)?;
+            print_names("extends", extends.items(), out)?;
+            print_names("sets", sets.items(), out)?;
+            print_names("constants", constants.items(), out)?;
+            print_section("axioms", "  ", axioms.items(), out)?;
+        }
+        RawComponent::Machine {
+            name,
+            refines,
+            sees,
+            variables,
+            invariants,
+            variant,
+            events,
+        } => {
+            print_heading("machine ", name, out)?;
+            print_names("refines", refines.as_slice(), out)?;
+            print_names("sees", sees.items(), out)?;
+            print_names("variables", variables.items(), out)?;
+            print_section("invariants", "  ", invariants.items(), out)?;
+            print_variant(variant, out)?;
+            print_events(events.items(), out)?;
+        }
+    }
+    out.push_str("end\n")?;
+    Ok(())
+}
+
+fn print_heading(word: &str, name: &Ref, out: &mut String) -> Result<(), OutOfMemory>
+    ensures { OnOk result (string_bytes out.new ≡ string_bytes out.old ++ (word.now ++ (name.now.name ++ codes "\n"))) }
+{
+    out.push_str(word)?;
+    out.push_str(name.name.as_text())?;
+    out.push_str("\n")?;
+    Ok(())
+}
+
+/// The text of a component, with one labelled formula a line and parentheses round each operand that doesn't stand alone.
+pub fn print(alloc: Global, component: &RawComponent) -> Result<String, OutOfMemory>
+    // It is one that `component_text::read` can give.
+    requires { IsReadable component.now }
+    ensures text { IfOk result (λ text. string_bytes text ≡ component_text component.now) }
+    // What is read of the text is the same component but for places, or that the added parentheses make a formula too large.
+    ensures reads_back { IfOk result (λ text. ReadsBack component.now (string_bytes text)) }
+{
+    let mut out = String::new(alloc);
+    print_onto(component, &mut out)?;
+    Ok(out)
+}

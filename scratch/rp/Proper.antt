@@ -1,0 +1,220 @@
+-- The symbols that the tables of signs and words give, and the forms that they make.
+use Rattle.std.proofs.Common.{◌≡◌, ◌∙◌, sym as back, ap, subst, refl, ℕ, Bool, true, false, List, [], ◌∷◌, ◌++◌, map, inl, inr}
+use Rattle.std.specs.Prelude.{Option, Some, None, pos, ◌+◌, ◌^◌, ◌<◌, ◌⊎◌, drop}
+use Rattle.std.specs.List.{AllByRecursion}
+use Rattle.formula_core.specs.declared.op.Op.TheVariants as op
+use Rattle.formula_core.specs.declared.raw.RawOp.{RawOp}
+use Rattle.formula_core.specs.declared.raw.RawOp.TheVariants as rawop
+use Rattle.formula_core.specs.declared.raw.RawBound.{RawBound}
+use Rattle.formula_core.specs.declared.raw.Raw.{Raw}
+use Rattle.formula_core.specs.declared.raw.Raw.TheVariants as raw
+use Rattle.formula_core.specs.declared.raw.Raw.TheOpen.{Name as NameF, Node as NodeF}
+use Rattle.formula_core.specs.declared.raw.Raw.TheViews.{rolls-Name, rolls-Node}
+use Rattle.formula_core.specs.declared.raw.Raw.TheFolds.{para-roll-Raw, fold-roll-Raw}
+use Rattle.math_grammar.specs.declared.levels.Level.{Level}
+use Rattle.math_grammar.specs.declared.levels.Level.TheVariants as lev
+use Rattle.math_grammar.specs.declared.levels.Bracket.{Bracket}
+use Rattle.math_grammar.specs.declared.levels.Bracket.TheVariants as bracket
+use Rattle.math_grammar.specs.declared.levels.Binding.{Binding}
+use Rattle.math_grammar.specs.declared.levels.Binding.TheVariants as binding
+use Rattle.math_grammar.specs.declared.symbols.Symbol.{Symbol}
+use Rattle.math_grammar.specs.declared.symbols.Symbol.TheVariants as sym
+use Rattle.math_grammar.specs.Levels.{infix_of, suffix_of, opens, binder_of}
+use Rattle.math_grammar.specs.Tokens.{Item}
+use Rattle.raw_print.specs.Pieces.{Piece, Blank, Token, between}
+use Rattle.raw_print.specs.Signs.{sign_of, symbol_of, binder_symbol_of}
+use Rattle.raw_print.specs.Printing as printing
+use Rattle.raw_print.specs.Printing.{Part, operand, form, is_atomic, declared, pattern, pattern_step, names_in, names_in_step}
+
+-- a symbol that the tables give, or a number that is no larger than a literal
+abbrev pub IsProper : Symbol → Type 0
+IsProper (sym.Number n) = (m : ℕ) × (n ≡ pos m) × (m < 2 ^ 127)
+IsProper (sym.Truth o) = symbol_of (rawop.Plain o) ≡ sym.Truth o
+IsProper (sym.Constant o) = symbol_of (rawop.Plain o) ≡ sym.Constant o
+IsProper (sym.Call c o) = symbol_of o ≡ sym.Call c o
+IsProper (sym.Infix l o) = symbol_of o ≡ sym.Infix l o
+IsProper (sym.Binder c) = binder_symbol_of (binder_of c) ≡ sym.Binder c
+IsProper _ = Unit {0}
+
+abbrev pub IsProperItem : Item → Type 0
+IsProperItem x = IsProper x.symbol
+
+abbrev pub AllProper : List Item → Type 0
+AllProper = AllByRecursion IsProperItem
+
+abbrev op_of : {A : Type 0} → Option (A × RawOp) → RawOp
+op_of None = rawop.OfType
+op_of (Some q) = q.1
+
+abbrev level_of : Option (Level × RawOp) → Level
+level_of None = lev.Typing
+level_of (Some q) = q.0
+
+-- an operator between two operands
+abbrev pub is_infix : Symbol → Bool
+is_infix (sym.Infix l o) = true
+is_infix sym.Minus = true
+is_infix _ = false
+
+pub infix_is : (x : Symbol) (l : Level) (o : RawOp) → infix_of x ≡ Some (l, o) → is_infix x ≡ true
+infix_is sym.Word l o e = cc
+infix_is (sym.Number n) l o e = cc
+infix_is (sym.Truth q) l o e = cc
+infix_is (sym.Constant q) l o e = cc
+infix_is (sym.Call d q) l o e = cc
+infix_is sym.Not l o e = cc
+infix_is sym.Minus l o e = refl
+infix_is (sym.Infix m q) l o e = refl
+infix_is (sym.Binder d) l o e = cc
+infix_is sym.Converse l o e = cc
+infix_is sym.Dot l o e = cc
+infix_is sym.Bar l o e = cc
+infix_is sym.Comma l o e = cc
+infix_is (sym.Open bracket.Round) l o e = cc
+infix_is (sym.Open bracket.Square) l o e = cc
+infix_is (sym.Open bracket.Brace) l o e = cc
+infix_is (sym.Close d) l o e = cc
+infix_is sym.Becomes l o e = cc
+infix_is sym.BecomesIn l o e = cc
+infix_is sym.BecomesSuch l o e = cc
+
+pub infix_stands : (x : Symbol) (l : Level) (o : RawOp) → infix_of x ≡ Some (l, o) → is_atomic x ≡ false
+infix_stands sym.Word l o e = cc
+infix_stands (sym.Number n) l o e = cc
+infix_stands (sym.Truth q) l o e = cc
+infix_stands (sym.Constant q) l o e = cc
+infix_stands (sym.Call d q) l o e = cc
+infix_stands sym.Not l o e = cc
+infix_stands sym.Minus l o e = refl
+infix_stands (sym.Infix m q) l o e = refl
+infix_stands (sym.Binder d) l o e = cc
+infix_stands sym.Converse l o e = cc
+infix_stands sym.Dot l o e = cc
+infix_stands sym.Bar l o e = cc
+infix_stands sym.Comma l o e = cc
+infix_stands (sym.Open bracket.Round) l o e = cc
+infix_stands (sym.Open bracket.Square) l o e = cc
+infix_stands (sym.Open bracket.Brace) l o e = cc
+infix_stands (sym.Close d) l o e = cc
+infix_stands sym.Becomes l o e = cc
+infix_stands sym.BecomesIn l o e = cc
+infix_stands sym.BecomesSuch l o e = cc
+
+-- the class of an operator between two operands is the symbol
+pub own_symbol : (x : Symbol) (l : Level) (o : RawOp) → infix_of x ≡ Some (l, o) → IsProper x → symbol_of o ≡ x
+own_symbol sym.Word l o e is = cc
+own_symbol (sym.Number n) l o e is = cc
+own_symbol (sym.Truth q) l o e is = cc
+own_symbol (sym.Constant q) l o e is = cc
+own_symbol (sym.Call d q) l o e is = cc
+own_symbol sym.Not l o e is = cc
+own_symbol sym.Minus l o e is = ap symbol_of (back (ap op_of e))
+own_symbol (sym.Infix m q) l o e is = ap symbol_of (back (ap op_of e)) ∙ is
+own_symbol (sym.Binder d) l o e is = cc
+own_symbol sym.Converse l o e is = cc
+own_symbol sym.Dot l o e is = cc
+own_symbol sym.Bar l o e is = cc
+own_symbol sym.Comma l o e is = cc
+own_symbol (sym.Open bracket.Round) l o e is = cc
+own_symbol (sym.Open bracket.Square) l o e is = cc
+own_symbol (sym.Open bracket.Brace) l o e is = cc
+own_symbol (sym.Close d) l o e is = cc
+own_symbol sym.Becomes l o e is = cc
+own_symbol sym.BecomesIn l o e is = cc
+own_symbol sym.BecomesSuch l o e is = cc
+
+pub second_form : (x : Symbol) → is_infix x ≡ true → (sign : Piece) (a b : Part) → form x sign (a ∷ b ∷ []) ≡ operand a ++ (Blank ∷ sign ∷ Blank ∷ operand b)
+second_form sym.Word h sign a b = cc
+second_form (sym.Number n) h sign a b = cc
+second_form (sym.Truth q) h sign a b = cc
+second_form (sym.Constant q) h sign a b = cc
+second_form (sym.Call d q) h sign a b = cc
+second_form sym.Not h sign a b = cc
+second_form sym.Minus h sign a b = refl
+second_form (sym.Infix m q) h sign a b = refl
+second_form (sym.Binder d) h sign a b = cc
+second_form sym.Converse h sign a b = cc
+second_form sym.Dot h sign a b = cc
+second_form sym.Bar h sign a b = cc
+second_form sym.Comma h sign a b = cc
+second_form (sym.Open bracket.Round) h sign a b = cc
+second_form (sym.Open bracket.Square) h sign a b = cc
+second_form (sym.Open bracket.Brace) h sign a b = cc
+second_form (sym.Close d) h sign a b = cc
+second_form sym.Becomes h sign a b = cc
+second_form sym.BecomesIn h sign a b = cc
+second_form sym.BecomesSuch h sign a b = cc
+
+pub suffix_symbol : (x : Symbol) (b : Bracket) (o : RawOp) → suffix_of x ≡ Some (b, o) → (o ≡ rawop.Plain op.Apply) ⊎ (o ≡ rawop.Plain op.Image)
+suffix_symbol sym.Word b o e = cc
+suffix_symbol (sym.Number n) b o e = cc
+suffix_symbol (sym.Truth q) b o e = cc
+suffix_symbol (sym.Constant q) b o e = cc
+suffix_symbol (sym.Call d q) b o e = cc
+suffix_symbol sym.Not b o e = cc
+suffix_symbol sym.Minus b o e = cc
+suffix_symbol (sym.Infix m q) b o e = cc
+suffix_symbol (sym.Binder d) b o e = cc
+suffix_symbol sym.Converse b o e = cc
+suffix_symbol sym.Dot b o e = cc
+suffix_symbol sym.Bar b o e = cc
+suffix_symbol sym.Comma b o e = cc
+suffix_symbol (sym.Open bracket.Round) b o e = inl (back (ap op_of e))
+suffix_symbol (sym.Open bracket.Square) b o e = inr (back (ap op_of e))
+suffix_symbol (sym.Open bracket.Brace) b o e = cc
+suffix_symbol (sym.Close d) b o e = cc
+suffix_symbol sym.Becomes b o e = cc
+suffix_symbol sym.BecomesIn b o e = cc
+suffix_symbol sym.BecomesSuch b o e = cc
+
+-- the sign of a form with bound names
+abbrev pub IsForm : Binding → Type 0
+IsForm binding.Set = Unit {0}
+IsForm c = binder_symbol_of (binder_of c) ≡ sym.Binder c
+
+own_form : (d : Binding) → binder_symbol_of (binder_of d) ≡ sym.Binder d → IsForm d
+own_form binding.Set k = tt
+own_form (binding.Quantified b) k = k
+own_form (binding.Reaching b) k = k
+own_form binding.Lambda k = k
+
+pub form_symbol : (x : Symbol) (c : Binding) → opens x ≡ Some c → IsProper x → IsForm c
+form_symbol sym.Word c e is = cc
+form_symbol (sym.Number n) c e is = cc
+form_symbol (sym.Truth q) c e is = cc
+form_symbol (sym.Constant q) c e is = cc
+form_symbol (sym.Call d q) c e is = cc
+form_symbol sym.Not c e is = cc
+form_symbol sym.Minus c e is = cc
+form_symbol (sym.Infix m q) c e is = cc
+form_symbol (sym.Binder d) c e is = let same : d ≡ c = cc in subst IsForm same (own_form d is)
+form_symbol sym.Converse c e is = cc
+form_symbol sym.Dot c e is = cc
+form_symbol sym.Bar c e is = cc
+form_symbol sym.Comma c e is = cc
+form_symbol (sym.Open bracket.Round) c e is = cc
+form_symbol (sym.Open bracket.Square) c e is = cc
+form_symbol (sym.Open bracket.Brace) c e is = let same : binding.Set ≡ c = cc in subst IsForm same tt
+form_symbol (sym.Close d) c e is = cc
+form_symbol sym.Becomes c e is = cc
+form_symbol sym.BecomesIn c e is = cc
+form_symbol sym.BecomesSuch c e is = cc
+
+-- patterns
+pub pattern-Name : (x : List ℕ) (place : ℕ) → pattern (raw.Name x place) ≡ pattern_step (NameF x place)
+pattern-Name x place = ap pattern (back (rolls-Name x place)) ∙ para-roll-Raw printing.Pattern (Unit {0}) pattern_step (λ b. tt) (NameF x place)
+
+pub pattern-pair : (o : RawOp) (l r : Raw) (place : ℕ) (names : List (List Piece)) → pattern (raw.Node o (l ∷ r ∷ []) place) names
+    ≡ between (operand (l, pattern l names)) (Token (symbol_of (rawop.Plain op.Maplet)) (sign_of (rawop.Plain op.Maplet))) (operand (r, pattern r (drop (names_in l) names)))
+pattern-pair o l r place names =
+    ap (λ (q : Raw). pattern q names) (back (rolls-Node o (l ∷ r ∷ []) place)) ∙ ap (λ (f : printing.Pattern). f names) (para-roll-Raw printing.Pattern (Unit {0}) pattern_step (λ b. tt) (NodeF o (l ∷ r ∷ []) place))
+
+pub names_in-Name : (x : List ℕ) (place : ℕ) → names_in (raw.Name x place) ≡ 1
+names_in-Name x place = ap names_in (back (rolls-Name x place)) ∙ fold-roll-Raw ℕ ℕ names_in_step (λ b. 0) (NameF x place)
+
+pub names_in-pair : (o : RawOp) (l r : Raw) (place : ℕ) → names_in (raw.Node o (l ∷ r ∷ []) place) ≡ names_in l + names_in r
+names_in-pair o l r place = ap names_in (back (rolls-Node o (l ∷ r ∷ []) place)) ∙ fold-roll-Raw ℕ ℕ names_in_step (λ b. 0) (NodeF o (l ∷ r ∷ []) place)
+
+pub map_declared : (bs cs : List RawBound) → map declared (bs ++ cs) ≡ map declared bs ++ map declared cs
+map_declared [] cs = refl
+map_declared (b ∷ bs) cs = ap (λ ds. declared b ∷ ds) (map_declared bs cs)
