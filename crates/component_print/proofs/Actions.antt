@@ -1,16 +1,15 @@
 -- The printed pieces of an action are read as they are printed.
-use Rattle.std.proofs.Common.{◌≡◌, ◌∙◌, sym as back, ap, subst, refl, ℕ, true, List, [], ◌∷◌, ◌++◌, map, append_assoc}
+use Rattle.std.proofs.Common.{◌≡◌, ◌∙◌, sym as back, subst, refl, ℕ, true, List, [], ◌∷◌, ◌++◌, map, append_assoc}
 use Rattle.std.specs.Prelude.{Option}
 use Rattle.std.specs.List.{AllByRecursion}
 use Rattle.formula_core.specs.Names.{is_name}
 use Rattle.formula_core.specs.declared.raw.Raw.{Raw}
 use Rattle.formula_core.specs.declared.raw.Ref.{Ref}
 use Rattle.formula_core.specs.declared.raw.RawAction.{RawAction}
-use Rattle.formula_core.specs.declared.raw.RawAction.TheVariants.{Assign, Apply, ChooseIn, ChooseSuch}
 use Rattle.math_grammar.specs.declared.symbols.Symbol.TheVariants as sym
 use Rattle.math_grammar.specs.Tokens.{Item}
 use Rattle.math_grammar.specs.Actions.{Targets, last_target, next_target, Values, last_value, next_value, SpellsAction, assigns, applies, chooses_in, chooses_such}
-use Rattle.raw_print.specs.Pieces.{bytes, Piece, Token, word, in_round, between, separated}
+use Rattle.raw_print.specs.Pieces.{bytes, word, in_round, separated}
 use Rattle.raw_print.specs.Printing.{pieces, target, targets, action_pieces}
 use Rattle.component_print.proofs.Signs.{ready-becomes, ready-becomes_in, ready-becomes_such}
 use Rattle.component_print.proofs.Chains.{Printed, with_sign, AllPrinted, all_separated, printed_name}
@@ -66,7 +65,7 @@ module _ (limit : Option ℕ) where
       let inside = reads limit r all.1.1 in
       let value = reads limit spelled.reads inside.1.1.1 in
       with_sign sym.Becomes (bytes "≔") (ready_spaced sym.Becomes (bytes "≔") ready-becomes) (word n ∷ in_round (pieces a)) (pieces e)
-          (in_brackets (word n ∷ []) (in_round (pieces a)) (printed_name n is) (argument (pieces a) inside.0)) value.0
+      (in_brackets (word n ∷ []) (in_round (pieces a)) (printed_name n is) (argument (pieces a) inside.0)) value.0
   action_printed (chooses_in {n = n} {e = e} is spelled) all =
       with_sign sym.BecomesIn (bytes ":∈") ready-becomes_in (word n ∷ []) (pieces e) (printed_name n is) (reads limit spelled.reads all.1.1).0
   action_printed (chooses_such {targets = refs} {t = t} ts spelled) all =

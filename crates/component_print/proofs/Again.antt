@@ -1,10 +1,8 @@
 -- The tokens of a printed component are read as the component, wherever they stand: its parts.
-use Rattle.std.proofs.Common.{◌≡◌, ◌∙◌, ap, ℕ, List, [], ◌∷◌, ◌++◌, Bool, true, false, map, refl, sym, subst, append_assoc, IsTrue, cond, bytes_eq}
-use Rattle.std.specs.Prelude.{Option, Some, None, codes, ◌||◌}
+use Rattle.std.proofs.Common.{◌≡◌, ◌∙◌, ap, ℕ, List, [], ◌∷◌, ◌++◌, Bool, true, false, map, refl, sym, subst, append_assoc, cond, bytes_eq}
+use Rattle.std.specs.Prelude.{Option, Some, None, codes}
 use Rattle.std.specs.List.{AllByRecursion}
-use Rattle.std.proofs.lemmas.Slice.Eq.{bytes_eq-Decides}
 use Rattle.formula_core.specs.Names.{is_identifier}
-use Rattle.formula_core.specs.Texts.{is_label}
 use Rattle.formula_core.specs.declared.raw.Raw.{Raw}
 use Rattle.formula_core.specs.declared.raw.RawAction.{RawAction}
 use Rattle.formula_core.specs.declared.raw.Ref.{Ref}
@@ -14,18 +12,17 @@ use Rattle.math_grammar.specs.declared.symbols.Symbol.TheVariants as symbol
 use Rattle.math_grammar.specs.Tokens.{Item}
 use Rattle.math_grammar.specs.Grammar.{item}
 use Rattle.model_core.specs.declared.component.RawLabelled.{RawLabelled}
-use Rattle.model_core.specs.declared.component.RawStep.{RawStep}
-use Rattle.component_text.specs.Marks.{Mark, word, label, plain, run, behind_run, is_word, is_at}
-use Rattle.component_text.specs.Forms.{Bounds, limits, parts, none, One, Run, Nothing, Then, Choice, taken, other, Many, no_more, one_more, Of}
-use Rattle.component_text.specs.Grammar.{IsFormula, reference, is_reference, label_at, is_a_label, Names, SomeNames, labelled, Labelled, Line, begins_line, Lines, NamesBehind, SomeNamesBehind, LinesBehind}
-use Rattle.component_text.specs.Machines.{IsAct, step, Step, Steps, Witnesses, Expression}
-use Rattle.component_text.proofs.Parts.{Ended, nothing_there, at_word, at_label, run_of, behind_of}
+use Rattle.component_text.specs.Marks.{Mark, word, label, plain, is_word, is_at}
+use Rattle.component_text.specs.Forms.{Bounds, One, Run, Nothing, Choice, taken, other, no_more, one_more}
+use Rattle.component_text.specs.Grammar.{IsFormula, reference, is_reference, label_at, is_a_label, Names, SomeNames, labelled, Labelled, Line, begins_line, Lines, NamesBehind, SomeNamesBehind}
+use Rattle.component_text.specs.Machines.{IsAct}
+use Rattle.component_text.proofs.Parts.{Ended, at_word, at_label, run_of, behind_of}
 use Rattle.component_text.proofs.Whole.{same_word}
 use Rattle.component_print.specs.Unplaced.{unplaced_labelled}
 use Rattle.math_places.specs.Places.{unplaced, unplaced_action, unplaced_ref, unplaced_item}
 use Rattle.raw_print.specs.Printing.{raw_tokens, action_tokens}
 use Rattle.component_print.proofs.Made.{IsName, IsLine}
-use Rattle.component_print.proofs.Marked.{name_mark, names_marks, theorem_marks, labelled_marks, line_marks, lines_marks, section_marks, step_marks, step_lines_marks, unplaced_mark, split_one, split_both, none_left, word_placed, label_placed, plain_placed, items_placed}
+use Rattle.component_print.proofs.Marked.{name_mark, names_marks, theorem_marks, labelled_marks, line_marks, lines_marks, section_marks, unplaced_mark, split_one, split_both, none_left, word_placed, label_placed, plain_placed, items_placed}
 
 -- one of these words stands first
 pub data Follows : List (List ℕ) → List Mark → Type 0 where
@@ -162,7 +159,7 @@ module _ (b : Bounds) where
         let head = label_placed one.0 l.label one.3 in
         let formula = run_again (IsFormula hole.Predicate) unplaced l.formula (raw_tokens l.formula) (formulas hole.Predicate l.formula good.1) one.1 one.4 rest stop in
         let named : label_at one.0 ≡ Some (l.label, head.0) =
-            ap label_at head.1 ∙ ap (λ t. cond {A = Option (List ℕ × ℕ)} t (Some (l.label, head.0)) None) good.0 in (
+        ap label_at head.1 ∙ ap (λ t. cond {A = Option (List ℕ × ℕ)} t (Some (l.label, head.0)) None) good.0 in (
           labelled theorem ((l.label, head.0), formula.0),
           subst (λ t. Labelled theorem b (t ++ rest) (labelled theorem ((l.label, head.0), formula.0)) rest) (sym one.2)
               (record { from = ((l.label, head.0), formula.0); is = refl; part = record { middle = one.1 ++ rest; first = record { mark = one.0; there = refl; is = named }; second = formula.1 } }),

@@ -1,9 +1,8 @@
 -- The tokens of a printed component are read acts the component, wherever they stand: machines, and whole components.
 use Rattle.std.proofs.Common.{◌≡◌, ◌∙◌, ap, ℕ, List, [], ◌∷◌, ◌++◌, Bool, true, false, map, refl, sym, subst, append_assoc, cond}
-use Rattle.std.specs.Prelude.{Option, Some, None, codes, bytes_eq}
+use Rattle.std.specs.Prelude.{Option, Some, None, codes}
 use Rattle.std.specs.Option.{option_map, option_to_list}
 use Rattle.std.specs.List.{AllByRecursion}
-use Rattle.formula_core.specs.Texts.{is_label}
 use Rattle.formula_core.specs.declared.raw.Raw.{Raw}
 use Rattle.formula_core.specs.declared.raw.RawAction.{RawAction}
 use Rattle.formula_core.specs.declared.raw.Ref.{Ref}
@@ -19,16 +18,16 @@ use Rattle.model_core.specs.declared.component.RawComponent.{RawComponent}
 use Rattle.model_core.specs.declared.component.RawComponent.TheVariants.{Context, Machine}
 use Rattle.component_text.specs.declared.machine.Abstracts.{Abstracts}
 use Rattle.component_text.specs.Marks.{Mark, word, label, plain, is_word, is_at}
-use Rattle.component_text.specs.Forms.{Bounds, One, Run, Nothing, Then, Choice, taken, other, Many, no_more, one_more, Of}
-use Rattle.component_text.specs.Grammar.{IsFormula, reference, label_at, is_a_label, Names, Labelled, Lines, NamesBehind, SomeNamesBehind, context_of, ContextBody, Headed, IsContext}
-use Rattle.component_text.specs.Machines.{IsAct, word_at, Refines, Expression, VariantExpression, Variant, Witnesses, step, Step, Steps, extending, refining, References, either, Guards, With, Actions, EventParts, event_of, EventBody, Event, begins_event, EventList, Events, machine_of, MachineBody, IsMachine, IsComponent, a_context, a_machine}
+use Rattle.component_text.specs.Forms.{Bounds, taken, other, no_more, one_more}
+use Rattle.component_text.specs.Grammar.{IsFormula, label_at, is_a_label, context_of}
+use Rattle.component_text.specs.Machines.{IsAct, Refines, Variant, Witnesses, step, Step, Steps, extending, refining, References, either, With, Actions, EventParts, event_of, EventBody, Event, begins_event, EventList, Events, machine_of, IsComponent, a_context, a_machine}
 use Rattle.component_text.proofs.Parts.{Ended, at_word, at_label}
 use Rattle.component_text.proofs.Whole.{same_word}
 use Rattle.component_print.specs.Unplaced.{unplaced_labelled, unplaced_step, unplaced_event, unplaced_component}
-use Rattle.math_places.specs.Places.{unplaced, unplaced_action, unplaced_ref, unplaced_item}
+use Rattle.math_places.specs.Places.{unplaced, unplaced_action, unplaced_ref}
 use Rattle.raw_print.specs.Printing.{raw_tokens, action_tokens}
 use Rattle.component_print.proofs.Marked.{name_mark, names_marks, theorem_marks, line_marks, labelled_marks, lines_marks, section_marks, step_marks, step_lines_marks, steps_marks, convergence_marks, abstract_word, end_marks, event_body_marks, event_marks, event_list_marks, events_marks, variant_marks, component_marks, unplaced_mark, split_one, split_both, none_left, word_placed, label_placed, items_placed}
-use Rattle.component_print.proofs.Made.{IsName, IsLine, IsWitness, IsStep, IsAbstracts, IsEvent, IsRefined, IsVariant, IsMade}
+use Rattle.component_print.proofs.Made.{IsWitness, IsStep, IsAbstracts, IsEvent, IsRefined, IsVariant, IsMade}
 use Rattle.component_print.proofs.Again.{Follows, here, there, ended, no_name, lacks, no_word, no_line, no_label, ReadsAgain, one_name, names_behind_again, some_names_behind_again, FormulaAgain, ActionAgain, run_again, labelled_again, lines_ended, section_again}
 
 -- what stands behind a part that may be empty
@@ -113,12 +112,15 @@ module _ (b : Bounds) (IsGood : Hole → Raw → Type 0) (formulas : FormulaAgai
       let head = label_placed one.0 a.label one.3 in
       let act = run_again b IsAct unplaced_action a.action (action_tokens a.action) (actions a.action good.1) one.1 one.4 rest stop in
       let named : label_at one.0 ≡ Some (a.label, head.0) =
-          ap label_at head.1 ∙ ap (λ t. cond {A = Option (List ℕ × ℕ)} t (Some (a.label, head.0)) None) good.0 in ((
-        step ((a.label, head.0), act.0),
-        subst (λ t. Step b (t ++ rest) (step ((a.label, head.0), act.0)) rest) (sym one.2)
-            (record { from = ((a.label, head.0), act.0); is = refl; part = record { middle = one.1 ++ rest; first = record { mark = one.0; there = refl; is = named }; second = act.1 } }),
-        (λ i. record { label = a.label; action = act.2 i; place = 0 }),
-      ), ap (λ t. is_at is_a_label (t ++ rest)) (one.2 ∙ ap (λ x. x ∷ one.1) head.1))
+      ap label_at head.1 ∙ ap (λ t. cond {A = Option (List ℕ × ℕ)} t (Some (a.label, head.0)) None) good.0 in (
+        (
+          step ((a.label, head.0), act.0),
+          subst (λ t. Step b (t ++ rest) (step ((a.label, head.0), act.0)) rest) (sym one.2)
+              (record { from = ((a.label, head.0), act.0); is = refl; part = record { middle = one.1 ++ rest; first = record { mark = one.0; there = refl; is = named }; second = act.1 } }),
+          (λ i. record { label = a.label; action = act.2 i; place = 0 }),
+        ),
+        ap (λ t. is_at is_a_label (t ++ rest)) (one.2 ∙ ap (λ x. x ∷ one.1) head.1),
+      )
 
   steps_ended : (acts : List RawStep) (s : List Mark) → map unplaced_mark s ≡ step_lines_marks acts → (rest : List Mark) → Ended rest → Ended (s ++ rest)
   steps_ended [] s e rest stop = rw (none_left s e) stop
@@ -165,7 +167,7 @@ module _ (b : Bounds) (IsGood : Hole → Raw → Type 0) (formulas : FormulaAgai
       let two = split_one one.1 (name_mark good.0) [] one.4 in
       let name = one_name b good.0 good.2 two.0 two.3 rest in
       let at : s ++ rest ≡ word (codes "extends") head.0 ∷ (two.0 ∷ rest) =
-          ap (λ t. t ++ rest) (one.2 ∙ ap (λ x. x ∷ one.1) head.1) ∙ ap (λ t. word (codes "extends") head.0 ∷ (t ++ rest)) (two.2 ∙ ap (λ t. two.0 ∷ t) (none_left two.1 two.4)) in (
+      ap (λ t. t ++ rest) (one.2 ∙ ap (λ x. x ∷ one.1) head.1) ∙ ap (λ t. word (codes "extends") head.0 ∷ (t ++ rest)) (two.2 ∙ ap (λ t. two.0 ∷ t) (none_left two.1 two.4)) in (
         extending name.0,
         subst (λ t. References b t (extending name.0) rest) (sym at) (taken (word (codes "extends") head.0) (two.0 ∷ rest) refl refl (record { from = name.0; is = refl; part = name.1 })),
         refl,
@@ -229,7 +231,7 @@ module _ (b : Bounds) (IsGood : Hole → Raw → Type 0) (formulas : FormulaAgai
       let abstracts = abstracts_again x.extended x.refines good.abstracts s0.0 s0.3 to_any r1 f1 refl refl in
       let params = names_behind_again b (codes "any") x.params good.params s1.0 s1.3 r2 (no_name to_guards r2 f2) (no_word (codes "any") to_guards r2 f2 refl) in
       let guards = section_again b IsGood formulas (codes "where") (either (codes "where") (codes "when")) (λ p. refl) x.guards good.guards s2.0 s2.3 r3 (ended to_with r3 f3) (no_line to_with r3 f3 refl)
-          (either_false (codes "where") (codes "when") r3 (no_word (codes "where") to_with r3 f3 refl) (no_word (codes "when") to_with r3 f3 refl)) in
+      (either_false (codes "where") (codes "when") r3 (no_word (codes "where") to_with r3 f3 refl) (no_word (codes "when") to_with r3 f3 refl)) in
       let witnesses = with_again x.witnesses good.witnesses s3.0 s3.3 r4 (ended to_actions r4 f4) (no_label to_actions r4 f4) (no_word (codes "with") to_actions r4 f4 refl) in
       let acts = actions_again x.actions good.actions s4.0 s4.3 r5 at_word refl refl in
       let t4 : s4.0 ++ (s4.1 ++ rest) ≡ r4 = ap (λ t. s4.0 ++ t) (ap (λ t. t ++ rest) (last.2 ∙ (λ i. end.1 i ∷ none_left last.1 last.4 i))) in
@@ -371,7 +373,7 @@ module _ (b : Bounds) (IsGood : Hole → Raw → Type 0) (formulas : FormulaAgai
       let two = split_one one.1 (name_mark r) [] one.4 in
       let name = one_name b r good two.0 two.3 rest in
       let at : s ++ rest ≡ word (codes "refines") head.0 ∷ (two.0 ∷ rest) =
-          ap (λ t. t ++ rest) (one.2 ∙ ap (λ x. x ∷ one.1) head.1) ∙ ap (λ t. word (codes "refines") head.0 ∷ (t ++ rest)) (two.2 ∙ ap (λ t. two.0 ∷ t) (none_left two.1 two.4)) in (
+      ap (λ t. t ++ rest) (one.2 ∙ ap (λ x. x ∷ one.1) head.1) ∙ ap (λ t. word (codes "refines") head.0 ∷ (t ++ rest)) (two.2 ∙ ap (λ t. two.0 ∷ t) (none_left two.1 two.4)) in (
         Some name.0,
         subst (λ t. Refines b t (Some name.0) rest) (sym at) (taken (word (codes "refines") head.0) (two.0 ∷ rest) refl refl (record { from = name.0; is = refl; part = name.1 })),
         (λ i. Some (name.2 i)),

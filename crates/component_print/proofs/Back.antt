@@ -1,6 +1,6 @@
 -- Whatever is read of the printed text of a component is the component but for places, or the fault of a formula that is too large.
-use Rattle.std.proofs.Common.{◌≡◌, ◌∙◌, ap, ℕ, List, [], ◌∷◌, ◌++◌, map, refl, sym, subst, append-nil, Ok, Err}
-use Rattle.std.specs.Prelude.{Option, Some, None, Result}
+use Rattle.std.proofs.Common.{◌≡◌, ◌∙◌, ap, ℕ, List, [], ◌∷◌, refl, sym, subst, append-nil, Ok, Err}
+use Rattle.std.specs.Prelude.{Option, None, Result}
 use Rattle.math_tokens.specs.declared.cutting.Token.{Token}
 use Rattle.model_core.specs.declared.component.RawComponent.{RawComponent}
 use Rattle.model_core.specs.declared.component.RawComponent.TheVariants.{Context, Machine}
@@ -13,11 +13,11 @@ use Rattle.component_text.specs.Marks.{Mark, marks_of}
 use Rattle.component_text.specs.Forms.{limits, parts, none}
 use Rattle.component_text.specs.Machines.{IsComponent}
 use Rattle.component_text.specs.Faults.{IsUnexpectedAt}
-use Rattle.component_text.specs.Spelled.{Spells, IsReadFault, IsFirst, bad_sign, number_too_wide, unexpected, unexpected_end, too_large, comment_not_closed, wrong_name}
+use Rattle.component_text.specs.Spelled.{IsFirst, bad_sign, number_too_wide, unexpected, unexpected_end, too_large, comment_not_closed, wrong_name}
 use Rattle.component_text.proofs.Unique.{OneFormula}
 use Rattle.component_text.proofs.Once.{OneAction, component_unique}
 use Rattle.component_text.proofs.Texted.{component_loosens, component_named}
-use Rattle.component_print.specs.Back.{IsReadAs, IsSame, ReadsBack}
+use Rattle.component_print.specs.Back.{IsReadAs, IsSame}
 use Rattle.component_print.specs.Unplaced.{unplaced_component}
 
 heading_kept : (c : RawComponent) → (heading (unplaced_component c)).name ≡ (heading c).name

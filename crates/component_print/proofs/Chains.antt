@@ -1,5 +1,5 @@
 -- Printed pieces whose tokens are read as they are printed.
-use Rattle.std.proofs.Common.{◌≡◌, ◌∙◌, sym as back, ap, subst, refl, ℕ, Bool, true, false, not, List, [], ◌∷◌, ◌++◌, map, append_assoc, append-nil, cond}
+use Rattle.std.proofs.Common.{◌≡◌, ◌∙◌, sym as back, ap, subst, refl, ℕ, Bool, true, false, not, List, [], ◌∷◌, ◌++◌, map, append_assoc, append-nil}
 use Rattle.std.specs.Prelude.{bytes_eq, ◌==◌, ◌&&◌, pos, if◌then◌else◌, ◌^◌, ◌<◌}
 use Rattle.std.specs.List.{AllByRecursion, list_all, list_any}
 use Rattle.std.specs.Fmt.{signed_decimal, decimal}
@@ -8,8 +8,7 @@ use Rattle.std.proofs.lemmas.Bool.{eqb-true}
 use Rattle.formula_core.specs.Names.{is_name, is_in_word}
 use Rattle.formula_core.specs.Texts.{begins_with}
 use Rattle.formula_core.specs.declared.raw.Raw.{Raw}
-use Rattle.math_tokens.specs.Lexemes.{is_digit, is_digits}
-use Rattle.math_grammar.specs.declared.levels.Bracket.TheVariants as bracket
+use Rattle.math_tokens.specs.Lexemes.{is_digits}
 use Rattle.math_grammar.specs.declared.symbols.Symbol.{Symbol}
 use Rattle.math_grammar.specs.declared.symbols.Symbol.TheVariants as sym
 use Rattle.math_grammar.specs.Grammar.{item}
@@ -21,9 +20,9 @@ use Rattle.token_text.specs.Spacing.{is_space, stops, Follows, Fits}
 use Rattle.token_text.proofs.Words.{is_lettered, lettered_opens_set}
 use Rattle.token_text.proofs.Signs.{opens_set}
 use Rattle.token_text.proofs.Names.{fits-name, name_lettered}
-use Rattle.token_text.proofs.Numbers.{Writes, decimal_writes, fits-number, number_lettered}
-use Rattle.raw_print.specs.Pieces.{bytes, Piece, Blank, Token, piece_text, text_of, tokens_of, word, open_round, close_round, open_square, close_square, open_brace, close_brace, comma, dot, bar, typing, in_round, in_square, in_braces, between, behind_commas, separated}
-use Rattle.raw_print.specs.Printing.{Part, stands_alone, operand}
+use Rattle.token_text.proofs.Numbers.{decimal_writes, fits-number, number_lettered}
+use Rattle.raw_print.specs.Pieces.{Piece, Blank, Token, text_of, tokens_of, word, close_round, close_square, close_brace, in_round, in_square, in_braces, between, behind_commas, separated}
+use Rattle.raw_print.specs.Printing.{stands_alone, operand}
 use Rattle.raw_print.proofs.Equations.{text-append}
 use Rattle.component_print.proofs.Laying.{opens_no_piece, Laid, a_blank, a_token}
 use Rattle.component_print.proofs.Signs.{IsPlainText, Ready, ready-open_round, ready-close_round, ready-open_square, ready-close_square, ready-comma, fits-open_brace, fits-close_brace}
@@ -41,7 +40,7 @@ chain_laid (Blank ∷ ps) t (chain_blank c) s more = a_blank 32 refl (chain_laid
 chain_laid (Token x w ∷ ps) t (chain_token _ _ is free c) s more =
     let one : Laid (mark_by w 0 (item x 0 w) ∷ (map plain (tokens_of ps) ++ s)) (w ++ (text_of ps ++ t)) = a_token (item x 0 w) is free.0 (chain_laid ps t c s more) in
     subst (λ m. Laid (m ∷ (map plain (tokens_of ps) ++ s)) ((w ++ text_of ps) ++ t)) (by_plain w 0 (item x 0 w) free.1 free.2)
-        (subst (λ u. Laid (mark_by w 0 (item x 0 w) ∷ (map plain (tokens_of ps) ++ s)) u) (back (append_assoc w (text_of ps) t)) one)
+    (subst (λ u. Laid (mark_by w 0 (item x 0 w) ∷ (map plain (tokens_of ps) ++ s)) u) (back (append_assoc w (text_of ps) t)) one)
 
 -- what follows the pieces of a formula goes on with no word
 abbrev pub Stops : List ℕ → List Piece → Type 0
@@ -153,6 +152,7 @@ no_structural word_of q n h (w ∷ table) e =
     both : (a b : Bool) → (a && b) ≡ true → (a ≡ true) × (b ≡ true)
     both true b k = (refl, k)
     both false b k = cc
+
     go : (b : Bool) → bytes_eq (word_of w) n ≡ b → not (q (word_of w)) ≡ true → list_any (λ v. bytes_eq (word_of v) n) table ≡ false → list_any (λ v. bytes_eq (word_of v) n) (w ∷ table) ≡ false
     go true is isnt more =
         let own : q (word_of w) ≡ true = ap q ((bytes_eq-Decides (word_of w) n).0 is) ∙ h in

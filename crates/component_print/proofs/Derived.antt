@@ -1,27 +1,19 @@
 -- The printed pieces of what some tokens spell are read as they are printed.
-use Rattle.std.proofs.Common.{◌≡◌, ◌∙◌, sym as back, ap, subst, refl, ℕ, ℤ, Bool, true, false, List, [], ◌∷◌, ◌++◌, map, append_assoc, append-nil, inl, inr}
-use Rattle.std.specs.Prelude.{Option, Some, None, pos, ◌+◌, ◌^◌, ◌<◌, ◌⊎◌, length, drop}
-use Rattle.std.proofs.Common.{arith}
+use Rattle.std.proofs.Common.{◌≡◌, ◌∙◌, sym as back, ap, subst, refl, ℕ, true, List, [], ◌∷◌, ◌++◌, map, append_assoc, append-nil, inl, inr}
+use Rattle.std.specs.Prelude.{Option, Some, None, ◌+◌, ◌⊎◌, length, drop}
 use Rattle.std.proofs.Math.Seq.{drop-append_seam}
 use Rattle.std.proofs.lemmas.List.{length-append}
 use Rattle.std.specs.List.{AllByRecursion}
-use Rattle.std.specs.Option.{option_map}
 use Rattle.std.specs.Fmt.{signed_decimal}
 use Rattle.formula_core.specs.Names.{is_name}
-use Rattle.formula_core.specs.declared.op.Op.{Op}
 use Rattle.formula_core.specs.declared.op.Op.TheVariants as op
-use Rattle.formula_core.specs.declared.op.Binder.{Binder}
 use Rattle.formula_core.specs.declared.op.Binder.TheVariants as binder
 use Rattle.formula_core.specs.declared.raw.RawOp.{RawOp}
 use Rattle.formula_core.specs.declared.raw.RawOp.TheVariants as rawop
-use Rattle.formula_core.specs.declared.raw.RawBinder.{RawBinder}
 use Rattle.formula_core.specs.declared.raw.RawBinder.TheVariants as rawbinder
 use Rattle.formula_core.specs.declared.raw.RawBound.{RawBound}
 use Rattle.formula_core.specs.declared.raw.Raw.{Raw}
 use Rattle.formula_core.specs.declared.raw.Raw.TheVariants as raw
-use Rattle.formula_core.specs.declared.raw.Raw.TheOpen.{RawBound-F, Name as NameF, Node as NodeF}
-use Rattle.formula_core.specs.declared.raw.Raw.TheViews.{rolls-Name, rolls-Node}
-use Rattle.formula_core.specs.declared.raw.Raw.TheFolds.{para-roll-Raw, fold-roll-Raw}
 use Rattle.math_grammar.specs.declared.holes.Grade.{Grade}
 use Rattle.math_grammar.specs.declared.holes.Hole.{Hole}
 use Rattle.math_grammar.specs.declared.levels.Level.{Level}
@@ -29,24 +21,23 @@ use Rattle.math_grammar.specs.declared.levels.Level.TheVariants as lev
 use Rattle.math_grammar.specs.declared.levels.Prefix.TheVariants as pre
 use Rattle.math_grammar.specs.declared.levels.Bracket.{Bracket}
 use Rattle.math_grammar.specs.declared.levels.Bracket.TheVariants as bracket
-use Rattle.math_grammar.specs.declared.levels.Call.TheVariants as call
 use Rattle.math_grammar.specs.declared.levels.Binding.{Binding}
 use Rattle.math_grammar.specs.declared.levels.Binding.TheVariants as binding
 use Rattle.math_grammar.specs.declared.symbols.Symbol.{Symbol}
 use Rattle.math_grammar.specs.declared.symbols.Symbol.TheVariants as sym
 use Rattle.math_grammar.specs.declared.shapes.Shape.{Shape}
-use Rattle.math_grammar.specs.Levels.{infix_of, suffix_of, opens, binder_of, implicit_of, takes_names, takes_shape}
+use Rattle.math_grammar.specs.Levels.{infix_of, binder_of, implicit_of, takes_names, takes_shape}
 use Rattle.math_grammar.specs.Tokens.{Item}
 use Rattle.math_grammar.specs.Grammar.{Reads, a_name, a_number, a_truth, a_constant, prefixed, two_sides, in_parentheses, called, applied, converted, set_by_members, by_names, by_shape, lambda, Parts, last_one, next_one, TypeOf, last_side, first_side, Bound, bare, of_type, Declares, last_name, next_name, Body, a_predicate, a_value, LastPart, up_to_brace, reaching, Pattern, last_atom, next_atom, Atom, bare_atom, typed_atom, grouped_atom, type_with, joined, lone, bound, place_of}
 use Rattle.token_text.specs.Spacing.{is_space, stops, Follows}
-use Rattle.raw_print.specs.Pieces.{bytes, Piece, Blank, Token, text_of, word, close_brace, dot, bar, typing, in_round, in_square, in_braces, between, separated}
-use Rattle.raw_print.specs.Signs.{sign_of, symbol_of, binder_sign_of, binder_symbol_of}
+use Rattle.raw_print.specs.Pieces.{bytes, Piece, Token, text_of, word, dot, bar, typing, in_round, in_square, between, separated}
+use Rattle.raw_print.specs.Signs.{sign_of, symbol_of}
 use Rattle.raw_print.specs.Printing as printing
 use Rattle.raw_print.specs.Printing.{Part, operand, bare as bare_parts, form, pieces, with_pieces, declared, bind_pieces, body, pattern, pattern_step, names_in, names_in_step}
 use Rattle.raw_print.proofs.Equations.{pieces-Int, pieces-Name, pieces-Node, pieces-Bind, pattern-Name, names_in-Name}
 use Rattle.raw_print.proofs.Proper.{AllProper, own_symbol, infix_is, second_form, is_infix, suffix_symbol, IsForm, form_symbol, pattern-pair, names_in-pair, map_declared}
 use Rattle.component_print.proofs.Signs.{Ready, before_space, before_stop, is_wordy, ready-not, ready-minus, ready-converse, ready-dot, ready-bar, ready-typing, ready-for_all, ready-exists, ready-union, ready-intersection, ready-lambda}
-use Rattle.component_print.proofs.Chains.{Chain, chain_token, Stops, Printed, one_token, free_token, of_ready, before, opens_before, round, square, braces, as_operand, with_sign, prefix, AllPrinted, all_separated, printed_name, printed_number}
+use Rattle.component_print.proofs.Chains.{Chain, Stops, Printed, one_token, free_token, of_ready, before, opens_before, round, square, braces, as_operand, with_sign, prefix, AllPrinted, all_separated, printed_name, printed_number}
 
 -- pieces of one kind behind others
 call_of : (x : Symbol) (w : List ℕ) → Ready stops x w → (qs : List Piece) → Printed qs → Printed (Token x w ∷ in_round qs)
@@ -132,10 +123,10 @@ two_printed l o x ix own a b p left right =
 applied_printed : (o : RawOp) (f a : Raw) (p : ℕ) → (o ≡ rawop.Plain op.Apply) ⊎ (o ≡ rawop.Plain op.Image) → Printed (pieces f) → Printed (pieces a) → Printed (pieces (raw.Node o (f ∷ a ∷ []) p))
 applied_printed o f a p (inl e) left right =
     subst (λ q. Printed (pieces (raw.Node q (f ∷ a ∷ []) p))) (back e)
-        (node (rawop.Plain op.Apply) (f ∷ a ∷ []) p (sym.Open bracket.Round) refl (in_brackets (operand (f, pieces f)) (in_round (pieces a)) (as_operand f (pieces f) left) (argument (pieces a) right)))
+    (node (rawop.Plain op.Apply) (f ∷ a ∷ []) p (sym.Open bracket.Round) refl (in_brackets (operand (f, pieces f)) (in_round (pieces a)) (as_operand f (pieces f) left) (argument (pieces a) right)))
 applied_printed o f a p (inr e) left right =
     subst (λ q. Printed (pieces (raw.Node q (f ∷ a ∷ []) p))) (back e)
-        (node (rawop.Plain op.Image) (f ∷ a ∷ []) p (sym.Open bracket.Square) refl (in_brackets (operand (f, pieces f)) (in_square (pieces a)) (as_operand f (pieces f) left) (image_of (pieces a) right)))
+    (node (rawop.Plain op.Image) (f ∷ a ∷ []) p (sym.Open bracket.Square) refl (in_brackets (operand (f, pieces f)) (in_square (pieces a)) (as_operand f (pieces f) left) (image_of (pieces a) right)))
 
 open_ended : (x : Symbol) (w : List ℕ) → Ready (λ c. true) x w → (qs : List Piece) → Printed qs → Printed (Token x w ∷ (qs ++ []))
 open_ended x w is qs own = subst (λ u. Printed (Token x w ∷ u)) (back (append-nil qs)) (prefix x w is qs own)

@@ -1,5 +1,5 @@
 -- A text of tokens, labels and blanks is cut into these.
-use Rattle.std.proofs.Common.{◌≡◌, ◌∙◌, sym, ap, subst, refl, ℕ, suc, ◌+◌, ◌-◌, ◌<◌, ◌≤◌, cond, Bool, true, false, List, [], ◌∷◌, ◌++◌, length, take, drop, map, arith, Ok, Some, None, inl, inr}
+use Rattle.std.proofs.Common.{◌≡◌, ◌∙◌, sym, ap, subst, refl, ℕ, suc, ◌+◌, ◌-◌, ◌<◌, ◌≤◌, cond, Bool, true, false, List, [], ◌∷◌, ◌++◌, length, take, drop, map, arith, None, inl, inr}
 use Rattle.std.specs.Prelude.{◌==◌, not, ◌&&◌, min, nat_le}
 use Rattle.std.specs.List.{prefix_len, list_all}
 use Rattle.std.proofs.Math.Seq.{take-append_seam, drop-append_seam}
@@ -7,16 +7,15 @@ use Rattle.std.proofs.lemmas.List.{drop-drop, length-append, length-drop}
 use Rattle.std.proofs.lemmas.Bool.{leb-true}
 use Rattle.std.proofs.Math.Nat.{min-eq_left}
 use Rattle.formula_core.specs.Texts.{is_label, is_in_label, begins_with}
-use Rattle.math_tokens.specs.declared.cutting.TokenKind.TheVariants as kind
 use Rattle.math_tokens.specs.declared.cutting.Token.{Token}
 use Rattle.math_tokens.specs.Lexemes.{IsLongest}
 use Rattle.math_tokens.specs.SignForms.{sign_forms}
-use Rattle.math_tokens.specs.Texts.{blank_length, meaning, IsTokenAt}
+use Rattle.math_tokens.specs.Texts.{blank_length, meaning}
 use Rattle.math_grammar.specs.Grammar.{item}
 use Rattle.math_grammar.specs.Tokens.{Item, symbol_of, bytes_of, item_of}
 use Rattle.component_tokens.specs.declared.gap.Gap.TheVariants as gap
-use Rattle.component_tokens.specs.Gaps.{gap_in, comment_in, slash}
-use Rattle.component_tokens.specs.Pieces.{at_sign, label_run, label_length, label_token, IsPieceAt, Cut, at_end, over_gap, past_token}
+use Rattle.component_tokens.specs.Gaps.{gap_in, slash}
+use Rattle.component_tokens.specs.Pieces.{at_sign, label_length, label_token, Cut, at_end, over_gap, past_token}
 use Rattle.component_text.specs.Marks.{Mark, word, label, plain, is_structural, mark_by, mark_of, marks_of}
 use Rattle.token_text.specs.Spacing.{is_space, Fits}
 use Rattle.token_text.proofs.Cutting.{one_blank}
@@ -113,7 +112,7 @@ laid_from marks whole (a_token {s = s} {t = rest} x is opens more) text at withi
     let own : bytes_of text token ≡ x.text = ap (λ m. take m (drop at text)) long ∙ taken in
     let as_item : unplaced_item (item_of text token) ≡ unplaced_item x = λ i. item ((ap (symbol_of is.kind) own ∙ is.class) i) 0 (own i) in
     let as_mark : unplaced_mark (mark_of text token) ≡ mark_by x.text 0 (unplaced_item x) =
-        unplaced_mark_by (bytes_of text token) at (item_of text token) ∙ (λ i. mark_by (own i) 0 (as_item i)) in (
+    unplaced_mark_by (bytes_of text token) at (item_of text token) ∙ (λ i. mark_by (own i) 0 (as_item i)) in (
       token ∷ later.0,
       past_token token (omega (arith, all, is.longest.some)) (
         ap gap_in here ∙ no_gap x.text rest opens is.no_blank,

@@ -9,3 +9,5 @@ pub mod Signs
 pub mod Chains
 pub mod Derived
 pub mod Actions
+pub mod FromText
+pub mod ReadBack

@@ -1,5 +1,5 @@
 -- The signs and words of operators are tokens where they are printed.
-use Rattle.std.proofs.Common.{◌≡◌, ◌∙◌, sym as back, refl, ℕ, Bool, true, false, List, [], ◌∷◌, ◌++◌, arith, Some, None, Ok}
+use Rattle.std.proofs.Common.{◌≡◌, ◌∙◌, sym as back, refl, ℕ, Bool, true, false, List, [], ◌∷◌, ◌++◌, Some, None, Ok}
 use Rattle.std.specs.Prelude.{◌==◌, ◌||◌}
 use Rattle.std.proofs.lemmas.Bool.{eqb-true}
 use Rattle.formula_core.specs.Names.{starts_word}
@@ -25,7 +25,7 @@ use Rattle.component_tokens.specs.Pieces.{at_sign}
 use Rattle.component_text.specs.Marks.{is_structural}
 use Rattle.token_text.specs.Spacing.{is_space, stops, Follows, Fits}
 use Rattle.token_text.proofs.Tokens.{NoneGoesOn}
-use Rattle.token_text.proofs.Signs.{opens_set, anything, free_fits, passing_sign, stop_sign, stop_word}
+use Rattle.token_text.proofs.Signs.{opens_set, free_fits, passing_sign, stop_sign, stop_word}
 use Rattle.raw_print.specs.Pieces.{bytes}
 use Rattle.raw_print.specs.Signs.{sign_of, symbol_of}
 use Rattle.raw_print.proofs.Proper.{is_infix}

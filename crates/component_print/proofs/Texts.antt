@@ -1,12 +1,11 @@
 -- The text of a component is its printed tokens with blanks between them.
-use Rattle.std.proofs.Common.{◌≡◌, ◌∙◌, ap, ℕ, List, [], ◌∷◌, ◌++◌, Bool, true, false, map, refl, sym as back, subst, append_assoc, cond, None, Some, Ok}
+use Rattle.std.proofs.Common.{◌≡◌, ◌∙◌, ap, ℕ, List, [], ◌∷◌, ◌++◌, Bool, true, false, map, refl, sym as back, subst, append_assoc, None, Some, Ok}
 use Rattle.std.specs.Prelude.{Option, codes, bytes_eq, not, ◌&&◌, ◌==◌}
 use Rattle.std.specs.Option.{option_to_list}
 use Rattle.std.specs.List.{AllByRecursion, list_all, list_any}
-use Rattle.std.specs.Borrow.{Bor}
 use Rattle.std.proofs.lemmas.Bool.{eqb-true}
 use Rattle.std.proofs.lemmas.Slice.Eq.{bytes_eq-Decides}
-use Rattle.formula_core.specs.Names.{is_identifier, is_name, is_reserved, is_word, starts_word}
+use Rattle.formula_core.specs.Names.{is_identifier, is_reserved, is_word, starts_word}
 use Rattle.formula_core.specs.Texts.{is_label, begins_with}
 use Rattle.formula_core.specs.declared.raw.Raw.{Raw}
 use Rattle.formula_core.specs.declared.raw.RawAction.{RawAction}
@@ -33,12 +32,12 @@ use Rattle.component_text.specs.declared.words.TheConstants.{STRUCTURAL}
 use Rattle.component_text.specs.Marks.{Mark, word, label, plain, is_structural, mark_by}
 use Rattle.component_text.proofs.Marks.{by_plain}
 use Rattle.component_text.proofs.Texts.{name_too}
-use Rattle.token_text.specs.Spacing.{is_space, stops, Follows, Fits}
+use Rattle.token_text.specs.Spacing.{stops, Follows}
 use Rattle.token_text.proofs.Tokens.{NoneGoesOn}
 use Rattle.token_text.proofs.Signs.{stop_word}
 use Rattle.token_text.proofs.Names.{fits-name}
 use Rattle.raw_print.specs.Printing.{raw_text, action_text}
-use Rattle.component_print.specs.Printed.{names_text, names_line, theorem_text, labelled_line, labelled_lines, section, step_line, step_lines, steps_section, convergence_text, abstract_words, event_text, event_texts, events_section, variant_line, component_text}
+use Rattle.component_print.specs.Printed.{names_text, names_line, theorem_text, labelled_line, labelled_lines, section, step_line, step_lines, steps_section, convergence_text, abstract_words, event_heading, event_text, event_texts, events_section, variant_line, heading_text, context_sections, machine_sections, component_text}
 use Rattle.raw_print.specs.Printing.{raw_tokens, action_tokens}
 use Rattle.component_print.proofs.Marked.{name_mark, names_marks, theorem_marks, labelled_marks, line_marks, lines_marks, section_marks, step_marks, step_lines_marks, steps_marks, convergence_marks, abstract_word, end_marks, event_body_marks, event_marks, event_list_marks, events_marks, variant_marks, component_marks}
 use Rattle.component_print.proofs.Made.{IsName, IsLine, IsWitness, IsStep, IsAbstracts, IsEvent, IsRefined, IsVariant, IsMade}
@@ -223,11 +222,11 @@ module _ (IsGood : Hole → Raw → Type 0) (IsGoodAction : RawAction → Type 0
       let whole : Laid (theorem_marks l.theorem ++ (labelled_marks l ++ s)) (margin ++ (theorem_text l.theorem ++ (64 ∷ (l.label ++ (32 ∷ (raw_text l.formula ++ (10 ∷ t))))))) = indent _ _ (theorem_laid l.theorem _ _ named) in
       let e0 : (raw_text l.formula ++ codes "\n") ++ t ≡ raw_text l.formula ++ (10 ∷ t) = append_assoc (raw_text l.formula) (codes "\n") t in
       let e1 : (l.label ++ (codes " " ++ (raw_text l.formula ++ codes "\n"))) ++ t ≡ l.label ++ (32 ∷ (raw_text l.formula ++ (10 ∷ t))) =
-          append_assoc l.label (codes " " ++ (raw_text l.formula ++ codes "\n")) t ∙ ap (λ u. l.label ++ (32 ∷ u)) e0 in
+      append_assoc l.label (codes " " ++ (raw_text l.formula ++ codes "\n")) t ∙ ap (λ u. l.label ++ (32 ∷ u)) e0 in
       let e2 : (theorem_text l.theorem ++ (codes "@" ++ (l.label ++ (codes " " ++ (raw_text l.formula ++ codes "\n"))))) ++ t ≡ theorem_text l.theorem ++ (64 ∷ (l.label ++ (32 ∷ (raw_text l.formula ++ (10 ∷ t))))) =
-          append_assoc (theorem_text l.theorem) (codes "@" ++ (l.label ++ (codes " " ++ (raw_text l.formula ++ codes "\n")))) t ∙ ap (λ u. theorem_text l.theorem ++ (64 ∷ u)) e1 in
+      append_assoc (theorem_text l.theorem) (codes "@" ++ (l.label ++ (codes " " ++ (raw_text l.formula ++ codes "\n")))) t ∙ ap (λ u. theorem_text l.theorem ++ (64 ∷ u)) e1 in
       let e3 : labelled_line margin l ++ t ≡ margin ++ (theorem_text l.theorem ++ (64 ∷ (l.label ++ (32 ∷ (raw_text l.formula ++ (10 ∷ t)))))) =
-          append_assoc margin (theorem_text l.theorem ++ (codes "@" ++ (l.label ++ (codes " " ++ (raw_text l.formula ++ codes "\n"))))) t ∙ ap (λ u. margin ++ u) e2 in
+      append_assoc margin (theorem_text l.theorem ++ (codes "@" ++ (l.label ++ (codes " " ++ (raw_text l.formula ++ codes "\n"))))) t ∙ ap (λ u. margin ++ u) e2 in
       subst (λ u. Laid u (labelled_line margin l ++ t)) (back (append_assoc (theorem_marks l.theorem) (labelled_marks l) s)) (subst (λ u. Laid (theorem_marks l.theorem ++ (labelled_marks l ++ s)) u) (back e3) whole)
 
   labelled_lines_laid : (margin : List ℕ) → ((s : List Mark) (t : List ℕ) → Laid s t → Laid s (margin ++ t)) → (ls : List RawLabelled) → AllByRecursion (IsLine IsGood) ls → (s : List Mark) (t : List ℕ) → Laid s t →
@@ -237,7 +236,7 @@ module _ (IsGood : Hole → Raw → Type 0) (IsGoodAction : RawAction → Type 0
       let later : Laid (lines_marks ls ++ s) (labelled_lines margin ls ++ t) = labelled_lines_laid margin indent ls good.1 s t more in
       let one : Laid (line_marks l ++ (lines_marks ls ++ s)) (labelled_line margin l ++ (labelled_lines margin ls ++ t)) = labelled_laid margin indent l good.0 _ _ later in
       subst (λ u. Laid u (labelled_lines margin (l ∷ ls) ++ t)) (back (append_assoc (line_marks l) (lines_marks ls) s))
-          (subst (λ u. Laid (line_marks l ++ (lines_marks ls ++ s)) u) (back (append_assoc (labelled_line margin l) (labelled_lines margin ls) t)) one)
+      (subst (λ u. Laid (line_marks l ++ (lines_marks ls ++ s)) u) (back (append_assoc (labelled_line margin l) (labelled_lines margin ls) t)) one)
 
   section_laid : (words w margin : List ℕ) → WordsLaid words w → ((s : List Mark) (t : List ℕ) → Laid s t → Laid s (margin ++ t)) → (ls : List RawLabelled) → AllByRecursion (IsLine IsGood) ls → (s : List Mark) (t : List ℕ) → Laid s t →
       Laid (section_marks w ls ++ s) (section words margin ls ++ t)
@@ -253,7 +252,7 @@ module _ (IsGood : Hole → Raw → Type 0) (IsGoodAction : RawAction → Type 0
       let whole : Laid (step_marks a ++ s) (codes "      @" ++ (a.label ++ (32 ∷ (action_text a.action ++ (10 ∷ t))))) = six_blanks _ _ (label_laid a.label good.0 _ _ act) in
       let e0 : (action_text a.action ++ codes "\n") ++ t ≡ action_text a.action ++ (10 ∷ t) = append_assoc (action_text a.action) (codes "\n") t in
       let e1 : (a.label ++ (codes " " ++ (action_text a.action ++ codes "\n"))) ++ t ≡ a.label ++ (32 ∷ (action_text a.action ++ (10 ∷ t))) =
-          append_assoc a.label (codes " " ++ (action_text a.action ++ codes "\n")) t ∙ ap (λ u. a.label ++ (32 ∷ u)) e0 in
+      append_assoc a.label (codes " " ++ (action_text a.action ++ codes "\n")) t ∙ ap (λ u. a.label ++ (32 ∷ u)) e0 in
       subst (λ u. Laid (step_marks a ++ s) u) (back (ap (λ u. codes "      @" ++ u) e1)) whole
 
   step_lines_laid : (acts : List RawStep) → AllByRecursion (IsStep IsGood IsGoodAction) acts → (s : List Mark) (t : List ℕ) → Laid s t → Laid (step_lines_marks acts ++ s) (step_lines acts ++ t)
@@ -261,7 +260,7 @@ module _ (IsGood : Hole → Raw → Type 0) (IsGoodAction : RawAction → Type 0
   step_lines_laid (a ∷ acts) good s t more =
       let one : Laid (step_marks a ++ (step_lines_marks acts ++ s)) (step_line a ++ (step_lines acts ++ t)) = step_laid a good.0 _ _ (step_lines_laid acts good.1 s t more) in
       subst (λ u. Laid u (step_lines (a ∷ acts) ++ t)) (back (append_assoc (step_marks a) (step_lines_marks acts) s))
-          (subst (λ u. Laid (step_marks a ++ (step_lines_marks acts ++ s)) u) (back (append_assoc (step_line a) (step_lines acts) t)) one)
+      (subst (λ u. Laid (step_marks a ++ (step_lines_marks acts ++ s)) u) (back (append_assoc (step_line a) (step_lines acts) t)) one)
 
   steps_laid : (acts : List RawStep) → AllByRecursion (IsStep IsGood IsGoodAction) acts → (s : List Mark) (t : List ℕ) → Laid s t → Laid (steps_marks acts ++ s) (steps_section acts ++ t)
   steps_laid [] good s t more = more
@@ -300,31 +299,32 @@ module _ (IsGood : Hole → Raw → Type 0) (IsGoodAction : RawAction → Type 0
       let l0 : Laid (end_marks ++ s) (codes "  end\n" ++ t) = two_blanks _ _ (laid-end s (10 ∷ t) refl (new_line s t more)) in
       let l1 : Laid (k ++ (end_marks ++ s)) (S ++ (codes "  end\n" ++ t)) = steps_laid x.actions good.actions _ _ l0 in
       let l2 : Laid (w ++ (k ++ (end_marks ++ s))) (W ++ (S ++ (codes "  end\n" ++ t))) =
-          section_laid (codes "    with") (codes "with") (codes "      ") (λ m u f i. four_blanks _ _ (laid-with m u f i)) six_blanks x.witnesses (witness_lines x.witnesses good.witnesses) _ _ l1 in
+      section_laid (codes "    with") (codes "with") (codes "      ") (λ m u f i. four_blanks _ _ (laid-with m u f i)) six_blanks x.witnesses (witness_lines x.witnesses good.witnesses) _ _ l1 in
       let l3 : Laid (g ++ (w ++ (k ++ (end_marks ++ s)))) (G ++ (W ++ (S ++ (codes "  end\n" ++ t)))) =
-          section_laid (codes "    where") (codes "where") (codes "      ") (λ m u f i. four_blanks _ _ (laid-where m u f i)) six_blanks x.guards good.guards _ _ l2 in
+      section_laid (codes "    where") (codes "where") (codes "      ") (λ m u f i. four_blanks _ _ (laid-where m u f i)) six_blanks x.guards good.guards _ _ l2 in
       let l4 : Laid (p ++ (g ++ (w ++ (k ++ (end_marks ++ s))))) (P ++ (G ++ (W ++ (S ++ (codes "  end\n" ++ t))))) =
-          names_line_laid (codes "    any") (codes "any") (λ m u f i. four_blanks _ _ (laid-any m u f i)) x.params good.params _ _ l3 in
+      names_line_laid (codes "    any") (codes "any") (λ m u f i. four_blanks _ _ (laid-any m u f i)) x.params good.params _ _ l3 in
       let l5 : Laid (a ++ (p ++ (g ++ (w ++ (k ++ (end_marks ++ s)))))) (A ++ (P ++ (G ++ (W ++ (S ++ (codes "  end\n" ++ t)))))) =
-          names_line_laid (abstract_words x.extended) (abstract_word x.extended) (abstract_lead x.extended) x.refines (abstract_names x.extended x.refines good.abstracts) _ _ l4 in
+      names_line_laid (abstract_words x.extended) (abstract_word x.extended) (abstract_lead x.extended) x.refines (abstract_names x.extended x.refines good.abstracts) _ _ l4 in
       let rest : List ℕ = A ++ (P ++ (G ++ (W ++ (S ++ (codes "  end\n" ++ t))))) in
       let l6 : Laid (name_mark x.name ∷ (a ++ (p ++ (g ++ (w ++ (k ++ (end_marks ++ s))))))) (x.name.name ++ (10 ∷ rest)) = name_laid x.name good.name _ _ refl (new_line _ _ l5) in
       let l7 : Laid (word (codes "event") 0 ∷ (name_mark x.name ∷ (a ++ (p ++ (g ++ (w ++ (k ++ (end_marks ++ s)))))))) (codes "event " ++ (x.name.name ++ (10 ∷ rest))) = laid-event _ _ refl (blank _ _ l6) in
       let l8 = two_blanks _ _ (convergence_laid x.convergence _ _ l7) in
       let marks : event_body_marks x ++ s ≡ word (codes "event") 0 ∷ (name_mark x.name ∷ (a ++ (p ++ (g ++ (w ++ (k ++ (end_marks ++ s))))))) =
-          ap (λ u. word (codes "event") 0 ∷ (name_mark x.name ∷ u)) (push a _ s _ (push p _ s _ (push g _ s _ (push w _ s _ (push k end_marks s _ refl))))) in
+      ap (λ u. word (codes "event") 0 ∷ (name_mark x.name ∷ u)) (push a _ s _ (push p _ s _ (push g _ s _ (push w _ s _ (push k end_marks s _ refl))))) in
+      let heading : event_heading x ++ rest ≡ codes "  " ++ (convergence_text x.convergence ++ (codes "event " ++ (x.name.name ++ (10 ∷ rest)))) =
+      push (codes "  ") _ rest _ (push (convergence_text x.convergence) _ rest _ (push (codes "event ") _ rest _ (push x.name.name (codes "\n") rest _ refl))) in
       let text : event_text x ++ t ≡ codes "  " ++ (convergence_text x.convergence ++ (codes "event " ++ (x.name.name ++ (10 ∷ rest)))) =
-          push (codes "  ") _ t _ (push (convergence_text x.convergence) _ t _ (push (codes "event ") _ t _ (push x.name.name _ t _ (push (codes "\n") _ t _
-          (push A _ t _ (push P _ t _ (push G _ t _ (push W _ t _ (push S (codes "  end\n") t _ refl))))))))) in
+      push (event_heading x) _ t _ (push A _ t _ (push P _ t _ (push G _ t _ (push W _ t _ (push S (codes "  end\n") t _ refl))))) ∙ heading in
       subst (λ u. Laid u (event_text x ++ t)) (back (push (convergence_marks x.convergence) (event_body_marks x) s _ marks))
-          (subst (λ u. Laid (convergence_marks x.convergence ++ (word (codes "event") 0 ∷ (name_mark x.name ∷ (a ++ (p ++ (g ++ (w ++ (k ++ (end_marks ++ s))))))))) u) (back text) l8)
+      (subst (λ u. Laid (convergence_marks x.convergence ++ (word (codes "event") 0 ∷ (name_mark x.name ∷ (a ++ (p ++ (g ++ (w ++ (k ++ (end_marks ++ s))))))))) u) (back text) l8)
 
   event_texts_laid : (es : List RawEvent) → AllByRecursion (IsEvent IsGood IsGoodAction) es → (s : List Mark) (t : List ℕ) → Laid s t → Laid (event_list_marks es ++ s) (event_texts es ++ t)
   event_texts_laid [] good s t more = more
   event_texts_laid (x ∷ es) good s t more =
       let one : Laid (event_marks x ++ (event_list_marks es ++ s)) (event_text x ++ (event_texts es ++ t)) = event_laid x good.0 _ _ (event_texts_laid es good.1 s t more) in
       subst (λ u. Laid u (event_texts (x ∷ es) ++ t)) (back (append_assoc (event_marks x) (event_list_marks es) s))
-          (subst (λ u. Laid (event_marks x ++ (event_list_marks es ++ s)) u) (back (append_assoc (event_text x) (event_texts es) t)) one)
+      (subst (λ u. Laid (event_marks x ++ (event_list_marks es ++ s)) u) (back (append_assoc (event_text x) (event_texts es) t)) one)
 
   events_laid : (es : List RawEvent) → AllByRecursion (IsEvent IsGood IsGoodAction) es → (s : List Mark) (t : List ℕ) → Laid s t → Laid (events_marks es ++ s) (events_section es ++ t)
   events_laid [] good s t more = more
@@ -346,16 +346,36 @@ module _ (IsGood : Hole → Raw → Type 0) (IsGoodAction : RawAction → Type 0
   -- the printed text of a component is its printed tokens
   pub component_laid : (c : RawComponent) → IsMade IsGood IsGoodAction c → Laid (component_marks c) (component_text c)
   component_laid (Context name extends sets constants axioms) good =
+      let E : List ℕ = names_line (codes "extends") extends in
+      let S : List ℕ = names_line (codes "sets") sets in
+      let C : List ℕ = names_line (codes "constants") constants in
+      let A : List ℕ = section (codes "axioms") (codes "  ") axioms in
       let l0 = section_laid (codes "axioms") (codes "axioms") (codes "  ") laid-axioms two_blanks axioms good.4 _ _ end_laid in
       let l1 = names_line_laid (codes "constants") (codes "constants") laid-constants constants good.3 _ _ l0 in
       let l2 = names_line_laid (codes "sets") (codes "sets") laid-sets sets good.2 _ _ l1 in
       let l3 = names_line_laid (codes "extends") (codes "extends") laid-extends extends good.1 _ _ l2 in
-      laid-context _ _ refl (blank _ _ (name_laid name good.0 _ _ refl (new_line _ _ l3)))
+      let rest : List ℕ = E ++ (S ++ (C ++ (A ++ codes "end\n"))) in
+      let whole : Laid (component_marks (Context name extends sets constants axioms)) (codes "context " ++ (name.name ++ (10 ∷ rest))) = laid-context _ _ refl (blank _ _ (name_laid name good.0 _ _ refl (new_line _ _ l3))) in
+      let sections : context_sections extends sets constants axioms ++ codes "end\n" ≡ rest = push E _ _ _ (push S _ _ _ (push C A (codes "end\n") _ refl)) in
+      let text : component_text (Context name extends sets constants axioms) ≡ codes "context " ++ (name.name ++ (10 ∷ rest)) =
+      ap (λ u. heading_text (codes "context ") name ++ u) sections ∙ push (codes "context ") _ rest _ (push name.name (codes "\n") rest _ refl) in
+      subst (Laid (component_marks (Context name extends sets constants axioms))) (back text) whole
   component_laid (Machine name refines sees variables invariants variant events) good =
+      let R : List ℕ = names_line (codes "refines") (option_to_list refines) in
+      let S : List ℕ = names_line (codes "sees") sees in
+      let V : List ℕ = names_line (codes "variables") variables in
+      let I : List ℕ = section (codes "invariants") (codes "  ") invariants in
+      let M : List ℕ = variant_line variant in
+      let E : List ℕ = events_section events in
       let l0 = events_laid events good.6 _ _ end_laid in
       let l1 = variant_laid variant good.5 _ _ l0 in
       let l2 = section_laid (codes "invariants") (codes "invariants") (codes "  ") laid-invariants two_blanks invariants good.4 _ _ l1 in
       let l3 = names_line_laid (codes "variables") (codes "variables") laid-variables variables good.3 _ _ l2 in
       let l4 = names_line_laid (codes "sees") (codes "sees") laid-sees sees good.2 _ _ l3 in
       let l5 = names_line_laid (codes "refines") (codes "refines") laid-refines (option_to_list refines) (refined_names refines good.1) _ _ l4 in
-      laid-machine _ _ refl (blank _ _ (name_laid name good.0 _ _ refl (new_line _ _ l5)))
+      let rest : List ℕ = R ++ (S ++ (V ++ (I ++ (M ++ (E ++ codes "end\n"))))) in
+      let whole : Laid (component_marks (Machine name refines sees variables invariants variant events)) (codes "machine " ++ (name.name ++ (10 ∷ rest))) = laid-machine _ _ refl (blank _ _ (name_laid name good.0 _ _ refl (new_line _ _ l5))) in
+      let sections : machine_sections refines sees variables invariants variant events ++ codes "end\n" ≡ rest = push R _ _ _ (push S _ _ _ (push V _ _ _ (push I _ _ _ (push M E (codes "end\n") _ refl)))) in
+      let text : component_text (Machine name refines sees variables invariants variant events) ≡ codes "machine " ++ (name.name ++ (10 ∷ rest)) =
+      ap (λ u. heading_text (codes "machine ") name ++ u) sections ∙ push (codes "machine ") _ rest _ (push name.name (codes "\n") rest _ refl) in
+      subst (Laid (component_marks (Machine name refines sees variables invariants variant events))) (back text) whole

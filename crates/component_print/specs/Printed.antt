@@ -59,12 +59,15 @@ convergence_text Anticipated = codes "anticipated "
 abbrev pub abstract_words : Bool → List ℕ
 abstract_words extended = if extended then codes "    extends" else codes "    refines"
 
+abbrev pub event_heading : RawEvent → List ℕ
+event_heading e = codes "  " ++ (convergence_text e.convergence ++ (codes "event " ++ (e.name.name ++ codes "\n")))
+
 abbrev pub event_text : RawEvent → List ℕ
 event_text e =
-    codes "  " ++ (convergence_text e.convergence ++ (codes "event " ++ (e.name.name ++ (codes "\n"
+    event_heading e
     ++ (names_line (abstract_words e.extended) e.refines ++ (names_line (codes "    any") e.params
     ++ (section (codes "    where") (codes "      ") e.guards ++ (section (codes "    with") (codes "      ") e.witnesses
-    ++ (steps_section e.actions ++ codes "  end\n")))))))))
+    ++ (steps_section e.actions ++ codes "  end\n")))))
 
 abbrev pub event_texts : List RawEvent → List ℕ
 event_texts [] = []
@@ -78,13 +81,20 @@ abbrev pub variant_line : Option Raw → List ℕ
 variant_line None = []
 variant_line (Some e) = codes "variant " ++ (raw_text e ++ codes "\n")
 
+abbrev pub heading_text : List ℕ → Ref → List ℕ
+heading_text word name = word ++ (name.name ++ codes "\n")
+
+abbrev pub context_sections : List Ref → List Ref → List Ref → List RawLabelled → List ℕ
+context_sections extends sets constants axioms =
+    names_line (codes "extends") extends ++ (names_line (codes "sets") sets ++ (names_line (codes "constants") constants ++ section (codes "axioms") (codes "  ") axioms))
+
+abbrev pub machine_sections : Option Ref → List Ref → List Ref → List RawLabelled → Option Raw → List RawEvent → List ℕ
+machine_sections refines sees variables invariants variant events =
+    names_line (codes "refines") (option_to_list refines) ++ (names_line (codes "sees") sees ++ (names_line (codes "variables") variables
+    ++ (section (codes "invariants") (codes "  ") invariants ++ (variant_line variant ++ events_section events))))
+
 -- the text of a component
 abbrev pub component_text : RawComponent → List ℕ
-component_text (Context name extends sets constants axioms) =
-    codes "context " ++ (name.name ++ (codes "\n"
-    ++ (names_line (codes "extends") extends ++ (names_line (codes "sets") sets ++ (names_line (codes "constants") constants
-    ++ (section (codes "axioms") (codes "  ") axioms ++ codes "end\n"))))))
+component_text (Context name extends sets constants axioms) = heading_text (codes "context ") name ++ (context_sections extends sets constants axioms ++ codes "end\n")
 component_text (Machine name refines sees variables invariants variant events) =
-    codes "machine " ++ (name.name ++ (codes "\n"
-    ++ (names_line (codes "refines") (option_to_list refines) ++ (names_line (codes "sees") sees ++ (names_line (codes "variables") variables
-    ++ (section (codes "invariants") (codes "  ") invariants ++ (variant_line variant ++ (events_section events ++ codes "end\n"))))))))
+    heading_text (codes "machine ") name ++ (machine_sections refines sees variables invariants variant events ++ codes "end\n")

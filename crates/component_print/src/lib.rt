@@ -1,4 +1,8 @@
 //! Prints components.
+#![tactic(auto)]
 
-/// Nothing.
-pub fn nothing() {}
+mod machine;
+mod printing;
+mod sections;
+
+pub use printing::print;

@@ -1,8 +1,7 @@
 -- The tokens of the printed pieces of an action spell it, without its places.
-use Rattle.std.proofs.Common.{◌≡◌, ◌∙◌, sym as back, ap, subst, refl, ℕ, true, false, List, [], ◌∷◌, ◌++◌, map, length, append_assoc, append-nil}
+use Rattle.std.proofs.Common.{◌≡◌, ◌∙◌, sym as back, ap, subst, refl, ℕ, true, List, [], ◌∷◌, ◌++◌, map, append_assoc, append-nil}
 use Rattle.std.specs.Prelude.{Option}
 use Rattle.std.proofs.lemmas.List.{length-map}
-use Rattle.formula_core.specs.Names.{is_name}
 use Rattle.formula_core.specs.declared.raw.Raw.{Raw}
 use Rattle.formula_core.specs.declared.raw.Ref.{Ref}
 use Rattle.formula_core.specs.declared.raw.RawAction.{RawAction}
@@ -17,11 +16,11 @@ use Rattle.math_grammar.specs.Tokens.{Item}
 use Rattle.math_grammar.specs.Grammar.{item, Reads, Spells}
 use Rattle.math_grammar.specs.Actions.{ref, Targets, last_target, next_target, Values, last_value, next_value, SpellsAction, assigns, applies, chooses_in, chooses_such}
 use Rattle.math_places.specs.Places.{unplaced, unplaced_ref, unplaced_action}
-use Rattle.raw_print.specs.Pieces.{bytes, Piece, Blank, Token, tokens_of, word, close_round, becomes, becomes_in, becomes_such, in_round, between, behind_commas, separated}
-use Rattle.raw_print.specs.Printing.{pieces, target, targets, raw_tokens, action_pieces, action_tokens}
-use Rattle.raw_print.proofs.Grades.{is_predicate, place_sort, fits_expression, Closes, at_end, closing}
+use Rattle.raw_print.specs.Pieces.{bytes, Blank, tokens_of, word, close_round, becomes, becomes_such, in_round, behind_commas, separated}
+use Rattle.raw_print.specs.Printing.{pieces, target, targets, raw_tokens, action_tokens}
+use Rattle.raw_print.proofs.Grades.{is_predicate, place_sort, fits_expression, at_end, closing}
 use Rattle.raw_print.proofs.Proper.{AllProper}
-use Rattle.raw_print.proofs.Spelled.{tokens-append, behind, Again, of_sort, reads_again, spelled_again}
+use Rattle.raw_print.proofs.Spelled.{tokens-append, behind, Again, reads_again, spelled_again}
 
 record TargetsAgain (before refs : List Ref) (rest : List Item) : Type 0 where
   first : Ref
@@ -96,7 +95,7 @@ module _ (limit : Option ℕ) where
       let names = targets_again ts all in
       let own = values_again vs names.proper.1 in
       subst (λ u. SpellsAction limit u (Assign (map unplaced_ref refs) (map unplaced values))) (back (tokens-append (targets refs) (Blank ∷ becomes ∷ Blank ∷ separated (map pieces values))))
-          (assigns (all_targets refs _ names sym.Becomes (bytes "≔") (tokens_of (separated (map pieces values)))) (all_values values own) (length-map refs unplaced_ref ∙ e ∙ back (length-map values unplaced)))
+      (assigns (all_targets refs _ names sym.Becomes (bytes "≔") (tokens_of (separated (map pieces values)))) (all_values values own) (length-map refs unplaced_ref ∙ e ∙ back (length-map values unplaced)))
   action_spelled s (Apply f a e) (applies {g = g} {n = n} {o = o} is r fit spelled) all =
       let inside = reads_again limit r all.1.1 in
       let argument : Again limit (is_predicate g) a = inside.0 in
@@ -109,4 +108,4 @@ module _ (limit : Option ℕ) where
   action_spelled s (ChooseSuch refs t) (chooses_such ts spelled) all =
       let names = targets_again ts all in
       subst (λ u. SpellsAction limit u (ChooseSuch (map unplaced_ref refs) (unplaced t))) (back (tokens-append (targets refs) (Blank ∷ becomes_such ∷ Blank ∷ pieces t)))
-          (chooses_such (all_targets refs _ names sym.BecomesSuch (bytes ":∣") (raw_tokens t)) (spelled_again limit hole.Predicate _ t refl spelled names.proper.1))
+      (chooses_such (all_targets refs _ names sym.BecomesSuch (bytes ":∣") (raw_tokens t)) (spelled_again limit hole.Predicate _ t refl spelled names.proper.1))

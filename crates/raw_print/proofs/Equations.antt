@@ -9,7 +9,7 @@ use Rattle.formula_core.specs.declared.raw.RawBound.{RawBound}
 use Rattle.formula_core.specs.declared.raw.Raw.{Raw}
 use Rattle.formula_core.specs.declared.raw.Raw.TheOpen.{RawBound-F, Int as IntF, Name as NameF, Node as NodeF, Bind as BindF}
 use Rattle.formula_core.specs.declared.raw.Raw.TheVariants as raw
-use Rattle.formula_core.specs.declared.raw.Raw.TheViews.{out-RawBound, roll-RawBound, roll-out-RawBound, rolls-Int, rolls-Name, rolls-Node, rolls-Bind}
+use Rattle.formula_core.specs.declared.raw.Raw.TheViews.{roll-out-RawBound, rolls-Int, rolls-Name, rolls-Node, rolls-Bind}
 use Rattle.formula_core.specs.declared.raw.Raw.TheFolds.{fold-roll-Raw, para-roll-Raw, para-RawBound, para-roll-RawBound, map-RawBound}
 use Rattle.math_grammar.specs.declared.symbols.Symbol.TheVariants as sym
 use Rattle.raw_print.specs.Pieces.{Piece, Token, piece_text, text_of, word}

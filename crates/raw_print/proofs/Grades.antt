@@ -1,6 +1,6 @@
 -- Grades that every sign takes on its sides, and the two sorts: predicates and expressions.
-use Rattle.std.proofs.Common.{◌≡◌, ◌∙◌, sym as back, ap, refl, ℕ, ◌≤◌, Bool, true, false, not, ◌&&◌, List, [], ◌∷◌, arith}
-use Rattle.std.specs.Prelude.{nat_le, Option, Some, None}
+use Rattle.std.proofs.Common.{◌≡◌, ◌∙◌, sym as back, refl, ℕ, ◌≤◌, Bool, true, false, ◌&&◌, List, [], ◌∷◌, arith}
+use Rattle.std.specs.Prelude.{nat_le}
 use Rattle.std.proofs.lemmas.Bool.{leb-true}
 use Rattle.formula_core.specs.declared.raw.RawOp.{RawOp}
 use Rattle.math_grammar.specs.declared.holes.Grade.{Grade}
@@ -11,7 +11,7 @@ use Rattle.math_grammar.specs.declared.levels.Level.{Level}
 use Rattle.math_grammar.specs.declared.levels.Level.TheVariants as lev
 use Rattle.math_grammar.specs.declared.symbols.Symbol.{Symbol}
 use Rattle.math_grammar.specs.declared.symbols.Symbol.TheVariants as sym
-use Rattle.math_grammar.specs.Levels.{rank, level, right_of, left_of, takes_left, is_conjunct, is_disjunct, fits, suffixes, goes_on, grouped}
+use Rattle.math_grammar.specs.Levels.{rank, level, takes_left, is_conjunct, is_disjunct, fits, suffixes, goes_on, grouped}
 use Rattle.math_grammar.specs.Tokens.{Item}
 use Rattle.math_grammar.specs.Grammar.{Ends}
 

@@ -2,7 +2,6 @@
 use Rattle.std.proofs.Common.{◌≡◌, ◌∙◌, sym as back, ap, subst, refl, ℕ, ℤ, Bool, true, false, List, [], ◌∷◌, ◌++◌, map, append_assoc, append-nil, inl, inr}
 use Rattle.std.specs.Prelude.{Option, Some, None, ◌+◌, ◌⊎◌, length, drop}
 use Rattle.std.specs.Option.{option_map}
-use Rattle.std.specs.Fmt.{signed_decimal}
 use Rattle.std.proofs.Math.Seq.{drop-append_seam}
 use Rattle.std.proofs.lemmas.List.{length-append}
 use Rattle.formula_core.specs.Names.{is_name}
@@ -32,18 +31,18 @@ use Rattle.math_grammar.specs.declared.levels.Binding.TheVariants as binding
 use Rattle.math_grammar.specs.declared.symbols.Symbol.{Symbol}
 use Rattle.math_grammar.specs.declared.symbols.Symbol.TheVariants as sym
 use Rattle.math_grammar.specs.declared.shapes.Shape.{Shape}
-use Rattle.math_grammar.specs.Levels.{level, right_of, infix_of, suffix_of, fits, grouped, opens, binder_of, implicit_of, binding_grade, takes_names, takes_shape, is_quantified, is_closed, call_hole, call_grade, call_parts, has_room, prefix_grade}
+use Rattle.math_grammar.specs.Levels.{level, right_of, infix_of, fits, grouped, opens, binder_of, implicit_of, binding_grade, takes_names, takes_shape, is_quantified, call_hole, call_grade, call_parts, has_room}
 use Rattle.math_grammar.specs.Tokens.{Item}
 use Rattle.math_grammar.specs.Grammar.{item, place_at, place_of, bound, lone, joined, type_with, between as node_between, Reads, a_name, a_number, a_truth, a_constant, prefixed, two_sides, in_parentheses, called, applied, converted, set_by_members, by_names, by_shape, lambda, Parts, last_one, next_one, TypeOf, last_side, first_side, Bound, bare, of_type, Declares, last_name, next_name, Body, a_predicate, a_value, LastPart, up_to_brace, reaching, Pattern, last_atom, next_atom, Atom, bare_atom, typed_atom, grouped_atom, Spells}
 use Rattle.math_places.specs.Places.{unplaced, unplaced_bound}
 use Rattle.math_places.proofs.Equations.{unplaced-Int, unplaced-Name, unplaced-Node, unplaced-Bind}
-use Rattle.raw_print.specs.Pieces.{bytes, Piece, Blank, Token, tokens_of, word, open_round, close_round, close_brace, dot, bar, typing, in_round, in_square, in_braces, close_square, between, behind_commas, separated}
+use Rattle.raw_print.specs.Pieces.{bytes, Piece, Blank, Token, tokens_of, close_round, close_brace, dot, bar, in_round, in_square, close_square, between, behind_commas, separated}
 use Rattle.raw_print.specs.Signs.{sign_of, symbol_of, binder_sign_of, binder_symbol_of}
 use Rattle.raw_print.specs.Printing as printing
 use Rattle.raw_print.specs.Printing.{operand, bare as bare_parts, form, stands_alone, stands_alone_at, is_atomic, pieces, with_pieces, declared, body, raw_tokens, pattern, names_in}
 use Rattle.raw_print.proofs.Equations.{pieces-Int, pieces-Name, pieces-Node, pieces-Bind, pattern-Name, names_in-Name}
 use Rattle.raw_print.proofs.Grades.{is_predicate, joins_predicates, takes_predicates, is_one_sort, is_operand_place, Closed, as_predicate, as_suffixed, as_primary, as_name, left_sort, left_closed, place_sort, place_closed, fits_predicate, fits_expression, level_sort, grouped_sort, grouped_same, closed_sort, suffix_sort, suffix_closed, Closes, at_end, closing, ends_there, ends_at_maplet}
-use Rattle.raw_print.proofs.Proper.{IsProper, AllProper, own_symbol, is_infix, infix_is, second_form, infix_stands, suffix_symbol, IsForm, form_symbol, pattern-pair, names_in-pair, map_declared}
+use Rattle.raw_print.proofs.Proper.{AllProper, own_symbol, infix_is, second_form, infix_stands, suffix_symbol, IsForm, form_symbol, pattern-pair, names_in-pair, map_declared}
 
 -- the places of trees without places, and what stands alone
 place-Node : (o : RawOp) (parts : List Raw) → place_of (raw.Node o parts 0) ≡ 0
@@ -328,7 +327,7 @@ module _ (limit : Option ℕ) where
         let one : Reads limit a.bare_grade (tokens_of (pieces t) ++ (item (sym.Close b) 0 w ∷ m)) a.tree (item (sym.Close b) 0 w ∷ m) = a.bare _ (closing refl) in
         let part : Parts limit h many b others (tokens_of (pieces t) ++ (item (sym.Close b) 0 w ∷ m)) (others ++ a.tree ∷ []) m = last_one one (whole_fits h g a.bare_grade whole f a.sort) in
         subst (λ u. Parts limit h many b others (tokens_of (pieces t ++ []) ++ (item (sym.Close b) 0 w ∷ m)) (others ++ u ∷ []) m) (back a.is)
-            (subst (λ ps. Parts limit h many b others (tokens_of ps ++ (item (sym.Close b) 0 w ∷ m)) (others ++ a.tree ∷ []) m) (back (append-nil (pieces t))) part);
+        (subst (λ ps. Parts limit h many b others (tokens_of ps ++ (item (sym.Close b) 0 w ∷ m)) (others ++ a.tree ∷ []) m) (back (append-nil (pieces t))) part);
     proper = proper;
   }
 
@@ -346,13 +345,13 @@ module _ (limit : Option ℕ) where
         let longer : length (others ++ a.tree ∷ []) ≡ length (before ++ t ∷ []) = one_longer others before a.tree t same in
         let one : Reads limit a.bare_grade (tokens_of (pieces t) ++ (item sym.Comma 0 (bytes ",") ∷ behind_it)) a.tree (item sym.Comma 0 (bytes ",") ∷ behind_it) = a.bare _ (closing refl) in
         let all : Parts limit h many b others (tokens_of (pieces t) ++ (item sym.Comma 0 (bytes ",") ∷ behind_it)) ((others ++ a.tree ∷ []) ++ map unplaced (later.first ∷ later.more)) m =
-            next_one (ap (has_room many) longer ∙ room) one (whole_fits h g a.bare_grade whole f a.sort) (later.reads (others ++ a.tree ∷ []) longer w m) in
+        next_one (ap (has_room many) longer ∙ room) one (whole_fits h g a.bare_grade whole f a.sort) (later.reads (others ++ a.tree ∷ []) longer w m) in
         let text : tokens_of (pieces t ++ behind_commas (map pieces (later.first ∷ later.more))) ++ (item (sym.Close b) 0 w ∷ m) ≡ tokens_of (pieces t) ++ (item sym.Comma 0 (bytes ",") ∷ behind_it) =
-            behind (pieces t) (behind_commas (map pieces (later.first ∷ later.more))) (item (sym.Close b) 0 w ∷ m) in
+        behind (pieces t) (behind_commas (map pieces (later.first ∷ later.more))) (item (sym.Close b) 0 w ∷ m) in
         let trees : (others ++ a.tree ∷ []) ++ map unplaced (later.first ∷ later.more) ≡ others ++ map unplaced (t ∷ later.first ∷ later.more) =
-            append_assoc others (a.tree ∷ []) (map unplaced (later.first ∷ later.more)) ∙ ap (λ u. others ++ u ∷ map unplaced (later.first ∷ later.more)) (back a.is) in
+        append_assoc others (a.tree ∷ []) (map unplaced (later.first ∷ later.more)) ∙ ap (λ u. others ++ u ∷ map unplaced (later.first ∷ later.more)) (back a.is) in
         subst (λ us. Parts limit h many b others (tokens_of (pieces t ++ behind_commas (map pieces (later.first ∷ later.more))) ++ (item (sym.Close b) 0 w ∷ m)) us m) trees
-            (subst (λ s. Parts limit h many b others s ((others ++ a.tree ∷ []) ++ map unplaced (later.first ∷ later.more)) m) (back text) all);
+        (subst (λ s. Parts limit h many b others s ((others ++ a.tree ∷ []) ++ map unplaced (later.first ∷ later.more)) m) (back text) all);
     proper = later.proper;
   }
 
@@ -366,7 +365,7 @@ module _ (limit : Option ℕ) where
   all_parts h many b parts rest a w m =
       let own : Parts limit h many b [] (tokens_of (separated (map pieces (a.first ∷ a.more))) ++ (item (sym.Close b) 0 w ∷ m)) (map unplaced (a.first ∷ a.more)) m = a.reads [] refl w m in
       let whole : Parts limit h many b [] (tokens_of (separated (map pieces parts)) ++ (item (sym.Close b) 0 w ∷ m)) (map unplaced parts) m =
-          subst (λ ps. Parts limit h many b [] (tokens_of (separated (map pieces ps)) ++ (item (sym.Close b) 0 w ∷ m)) (map unplaced ps) m) (back a.is) own in
+      subst (λ ps. Parts limit h many b [] (tokens_of (separated (map pieces ps)) ++ (item (sym.Close b) 0 w ∷ m)) (map unplaced ps) m) (back a.is) own in
       subst (λ ps. Parts limit h many b [] (tokens_of (separated ps) ++ (item (sym.Close b) 0 w ∷ m)) (map unplaced parts) m) (back (bare_pieces parts)) whole
 
   call_again : (c : Call) (o : RawOp) (parts : List Raw) (p : ℕ) (rest : List Item) → symbol_of o ≡ sym.Call c o → PartsAgain (call_hole c) (call_parts limit c) bracket.Round [] parts rest → Again (is_predicate (call_grade c)) (raw.Node o parts p)
@@ -422,11 +421,11 @@ module _ (limit : Option ℕ) where
     reads = λ others m.
         let behind_it : List Item = tokens_of (declared later.first ++ behind_commas (map declared later.more)) ++ (item sym.Dot 0 (bytes "·") ∷ m) in
         let all : Declares limit others (tokens_of (declared b) ++ (item sym.Comma 0 (bytes ",") ∷ behind_it)) ((others ++ unplaced_bound b ∷ []) ++ map unplaced_bound (later.first ∷ later.more)) m =
-            next_name (one (item sym.Comma 0 (bytes ",") ∷ behind_it)) (later.reads (others ++ unplaced_bound b ∷ []) m) in
+        next_name (one (item sym.Comma 0 (bytes ",") ∷ behind_it)) (later.reads (others ++ unplaced_bound b ∷ []) m) in
         subst (λ us. Declares limit others (tokens_of (declared b ++ behind_commas (map declared (later.first ∷ later.more))) ++ (item sym.Dot 0 (bytes "·") ∷ m)) us m)
-            (append_assoc others (unplaced_bound b ∷ []) (map unplaced_bound (later.first ∷ later.more)))
-            (subst (λ s. Declares limit others s ((others ++ unplaced_bound b ∷ []) ++ map unplaced_bound (later.first ∷ later.more)) m)
-            (back (behind (declared b) (behind_commas (map declared (later.first ∷ later.more))) (item sym.Dot 0 (bytes "·") ∷ m))) all);
+        (append_assoc others (unplaced_bound b ∷ []) (map unplaced_bound (later.first ∷ later.more)))
+        (subst (λ s. Declares limit others s ((others ++ unplaced_bound b ∷ []) ++ map unplaced_bound (later.first ∷ later.more)) m)
+        (back (behind (declared b) (behind_commas (map declared (later.first ∷ later.more))) (item sym.Dot 0 (bytes "·") ∷ m))) all);
     proper = later.proper;
   }
 
@@ -462,19 +461,16 @@ module _ (limit : Option ℕ) where
         let behind_it : List Item = tokens_of (pieces e) ++ tail c m in
         let first : Reads limit a.bare_grade (tokens_of (pieces t) ++ (item sym.Bar 0 (bytes "∣") ∷ behind_it)) a.tree (item sym.Bar 0 (bytes "∣") ∷ behind_it) = a.bare _ (closing refl) in
         let all : Body limit c others (tokens_of (pieces t) ++ (item sym.Bar 0 (bytes "∣") ∷ behind_it)) ((others ++ a.tree ∷ []) ++ d.tree ∷ []) m =
-            a_value q first (fits_predicate a.bare_grade a.sort) (last_reads c hole.Expression false e d (fits_expression d.bare_grade d.sort) m may) in
+        a_value q first (fits_predicate a.bare_grade a.sort) (last_reads c hole.Expression false e d (fits_expression d.bare_grade d.sort) m may) in
         let trees : (others ++ a.tree ∷ []) ++ d.tree ∷ [] ≡ others ++ (unplaced t ∷ unplaced e ∷ []) = append_assoc others (a.tree ∷ []) (d.tree ∷ []) ∙ (λ i. others ++ (back a.is i ∷ back d.is i ∷ [])) in
         subst (λ us. Body limit c others (tokens_of (between (pieces t) bar (pieces e)) ++ tail c m) us m) trees
-            (subst (λ s. Body limit c others s ((others ++ a.tree ∷ []) ++ d.tree ∷ []) m) (back (behind (pieces t) (Blank ∷ bar ∷ Blank ∷ pieces e) (tail c m))) all);
+        (subst (λ s. Body limit c others s ((others ++ a.tree ∷ []) ++ d.tree ∷ []) m) (back (behind (pieces t) (Blank ∷ bar ∷ Blank ∷ pieces e) (tail c m))) all);
     proper = proper;
   }
 
   -- what stands behind the sign of a form with bound names
   scope_tokens : (front inside back_end : List Piece) (rest : List Item) → tokens_of ((front ++ (dot ∷ inside)) ++ back_end) ++ rest ≡ tokens_of front ++ (item sym.Dot 0 (bytes "·") ∷ (tokens_of inside ++ (tokens_of back_end ++ rest)))
   scope_tokens front inside back_end rest = behind (front ++ (dot ∷ inside)) back_end rest ∙ behind front (dot ∷ inside) (tokens_of back_end ++ rest)
-
-
-
 
   -- names with a dot behind them, where this is the sign, and this ends the form
   named_reads : (c : Binding) (x : Symbol) (back_end : List Piece) → opens x ≡ Some c → takes_names c ≡ true → (names : List RawBound) (parts : List Raw) (p : ℕ) →
@@ -483,11 +479,11 @@ module _ (limit : Option ℕ) where
       Reads limit (binding_grade c) (tokens_of (pieces (raw.Bind (binder_of c) names parts p)) ++ rest) (raw.Bind (binder_of c) (map unplaced_bound names) (map unplaced parts) 0) rest
   named_reads c x back_end ox tn names parts p text r ns q bs rest ends may =
       let inside : Body limit c [] (tokens_of (body (map with_pieces parts)) ++ tail c rest) (map unplaced parts) rest =
-          subst (λ ps. Body limit c [] (tokens_of (body (map with_pieces ps)) ++ tail c rest) (map unplaced ps) rest) (back bs.is) (bs.reads [] rest may) in
+      subst (λ ps. Body limit c [] (tokens_of (body (map with_pieces ps)) ++ tail c rest) (map unplaced ps) rest) (back bs.is) (bs.reads [] rest may) in
       let whole : Reads limit (binding_grade c) (item x 0 (binder_sign_of (binder_of c)) ∷ (tokens_of (separated (map declared names)) ++ (item sym.Dot 0 (bytes "·") ∷ (tokens_of (body (map with_pieces parts)) ++ tail c rest)))) (raw.Bind (binder_of c) (map unplaced_bound names) (map unplaced parts) 0) rest =
-          by_names ox tn (all_names names r ns _) inside refl in
+      by_names ox tn (all_names names r ns _) inside refl in
       let tokens = ap (λ ps. tokens_of ps ++ rest) text
-          ∙ ap (λ u. item x 0 (binder_sign_of (binder_of c)) ∷ u) (scope_tokens (separated (map declared names)) (body (map with_pieces parts)) back_end rest ∙ ap (λ u. tokens_of (separated (map declared names)) ++ (item sym.Dot 0 (bytes "·") ∷ (tokens_of (body (map with_pieces parts)) ++ u))) ends) in
+      ∙ ap (λ u. item x 0 (binder_sign_of (binder_of c)) ∷ u) (scope_tokens (separated (map declared names)) (body (map with_pieces parts)) back_end rest ∙ ap (λ u. tokens_of (separated (map declared names)) ++ (item sym.Dot 0 (bytes "·") ∷ (tokens_of (body (map with_pieces parts)) ++ u))) ends) in
       subst (λ s. Reads limit (binding_grade c) s (raw.Bind (binder_of c) (map unplaced_bound names) (map unplaced parts) 0) rest) (back tokens) whole
 
   named_again : (c : Binding) → takes_names c ≡ true → IsForm c → (names : List RawBound) (parts : List Raw) (p : ℕ) (r : List Item) → NamesAgain [] names r → (q : List Item) → BodyAgain c [] parts q →
@@ -533,9 +529,9 @@ module _ (limit : Option ℕ) where
       let behind_it : List Item = tokens_of (pieces t) ++ tail c rest in
       let first : Reads limit a.bare_grade (tokens_of (pieces e) ++ (item sym.Bar 0 (bytes "∣") ∷ behind_it)) a.tree (item sym.Bar 0 (bytes "∣") ∷ behind_it) = a.bare _ (closing refl) in
       let whole : Reads limit (binding_grade c) (item x 0 (binder_sign_of (implicit_of c)) ∷ (tokens_of (pieces e) ++ (item sym.Bar 0 (bytes "∣") ∷ behind_it))) (raw.Bind (implicit_of c) [] (a.tree ∷ d.tree ∷ []) 0) rest =
-          by_shape ox ts first (fits_expression a.bare_grade a.sort) (last_reads c hole.Predicate true t d (fits_predicate d.bare_grade d.sort) rest may) refl in
+      by_shape ox ts first (fits_expression a.bare_grade a.sort) (last_reads c hole.Predicate true t d (fits_predicate d.bare_grade d.sort) rest may) refl in
       let tokens = ap (λ ps. tokens_of ps ++ rest) text
-          ∙ ap (λ u. item x 0 (binder_sign_of (implicit_of c)) ∷ u) (behind (between (pieces e) bar (pieces t)) back_end rest ∙ behind (pieces e) (Blank ∷ bar ∷ Blank ∷ pieces t) (tokens_of back_end ++ rest) ∙ ap (λ u. tokens_of (pieces e) ++ (item sym.Bar 0 (bytes "∣") ∷ (tokens_of (pieces t) ++ u))) ends) in
+      ∙ ap (λ u. item x 0 (binder_sign_of (implicit_of c)) ∷ u) (behind (between (pieces e) bar (pieces t)) back_end rest ∙ behind (pieces e) (Blank ∷ bar ∷ Blank ∷ pieces t) (tokens_of back_end ++ rest) ∙ ap (λ u. tokens_of (pieces e) ++ (item sym.Bar 0 (bytes "∣") ∷ (tokens_of (pieces t) ++ u))) ends) in
       subst (λ s. Reads limit (binding_grade c) s (raw.Bind (implicit_of c) [] (a.tree ∷ d.tree ∷ []) 0) rest) (back tokens) whole
 
   shape_again : (c : Binding) → takes_shape c ≡ true → IsForm c → (e t : Raw) (p : ℕ) → Again false e → Again true t → Again (is_predicate (binding_grade c)) (raw.Bind (implicit_of c) [] (e ∷ t ∷ []) p)
@@ -608,10 +604,10 @@ module _ (limit : Option ℕ) where
       let to : Shape = joined (Some left.to) right.to in
       let own : operand ((joined (Some b) a).tree, qs) ≡ in_round qs = rw (alone-Node o (b.tree ∷ a.tree ∷ []) (place_of b.tree)) refl in
       let reads : (rest : List Item) → Closes rest → Pattern limit None (tokens_of qs ++ rest) to rest =
-          (λ rest c. subst (λ s. Pattern limit None s to rest) (back (behind (operand (b.tree, left.qs)) (Blank ∷ Token (symbol_of o) (sign_of o) ∷ Blank ∷ operand (a.tree, right.qs)) rest))
-          (next_atom {before = None} (left.at_maplet (tokens_of (operand (a.tree, right.qs)) ++ rest)) (last_atom {before = Some left.to} (right.closed rest c)))) in
+      (λ rest c. subst (λ s. Pattern limit None s to rest) (back (behind (operand (b.tree, left.qs)) (Blank ∷ Token (symbol_of o) (sign_of o) ∷ Blank ∷ operand (a.tree, right.qs)) rest))
+      (next_atom {before = None} (left.at_maplet (tokens_of (operand (a.tree, right.qs)) ++ rest)) (last_atom {before = Some left.to} (right.closed rest c)))) in
       let round : (rest : List Item) → Atom limit (tokens_of (in_round qs) ++ rest) to rest =
-          (λ rest. subst (λ s. Atom limit (item (sym.Open bracket.Round) 0 (bytes "(") ∷ s) to rest) (back (behind qs (close_round ∷ []) rest)) (grouped_atom (reads (item (sym.Close bracket.Round) 0 (bytes ")") ∷ rest) (closing refl)))) in
+      (λ rest. subst (λ s. Atom limit (item (sym.Open bracket.Round) 0 (bytes "(") ∷ s) to rest) (back (behind qs (close_round ∷ []) rest)) (grouped_atom (reads (item (sym.Close bracket.Round) 0 (bytes ")") ∷ rest) (closing refl)))) in
       record {
         qs = qs;
         prints = λ more.

@@ -1,12 +1,12 @@
 -- How many nodes a formula has, with those of the types in it: with each call of the printer that goes down, what is left has fewer.
-use Rattle.std.proofs.Common.{◌≡◌, ◌∙◌, sym as back, ap, ℕ, zero, suc, ◌+◌, ◌-◌, ◌<◌, ◌≤◌, ℤ, List, [], ◌∷◌, map, length, drop, get_or, arith, Option, Some, None, refl}
+use Rattle.std.proofs.Common.{◌≡◌, ◌∙◌, sym as back, ap, ℕ, zero, suc, ◌+◌, ◌<◌, ◌≤◌, ℤ, List, [], ◌∷◌, map, length, drop, get_or, arith, Option, Some, None, refl}
 use Rattle.formula_core.specs.declared.raw.RawOp.{RawOp}
 use Rattle.formula_core.specs.declared.raw.RawBinder.{RawBinder}
 use Rattle.formula_core.specs.declared.raw.RawBound.{RawBound}
 use Rattle.formula_core.specs.declared.raw.Raw.{Raw}
 use Rattle.formula_core.specs.declared.raw.Raw.TheOpen.{Raw-F, RawBound-F, Int as IntF, Name as NameF, Node as NodeF, Bind as BindF}
 use Rattle.formula_core.specs.declared.raw.Raw.TheVariants as raw
-use Rattle.formula_core.specs.declared.raw.Raw.TheViews.{out-RawBound, roll-RawBound, roll-out-RawBound, rolls-Int, rolls-Name, rolls-Node, rolls-Bind}
+use Rattle.formula_core.specs.declared.raw.Raw.TheViews.{roll-RawBound, roll-out-RawBound, rolls-Int, rolls-Name, rolls-Node, rolls-Bind}
 use Rattle.formula_core.specs.declared.raw.Raw.TheFolds.{fold-Raw, fold-roll-Raw, fold-RawBound, fold-roll-RawBound}
 
 abbrev pub total : List ℕ → ℕ

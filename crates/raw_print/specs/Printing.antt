@@ -19,7 +19,7 @@ use Rattle.math_grammar.specs.declared.symbols.Symbol.{Symbol}
 use Rattle.math_grammar.specs.declared.symbols.Symbol.TheVariants as sym
 use Rattle.math_grammar.specs.Tokens.{Item}
 use Rattle.raw_print.specs.Signs.{sign_of, symbol_of, binder_sign_of, binder_symbol_of}
-use Rattle.raw_print.specs.Pieces.{Piece, Blank, Token, text_of, tokens_of, word, open_round, close_round, close_brace, dot, bar, typing, becomes, becomes_in, becomes_such, in_round, in_square, in_braces, between, separated}
+use Rattle.raw_print.specs.Pieces.{Piece, Blank, Token, text_of, tokens_of, word, close_brace, dot, bar, typing, becomes, becomes_in, becomes_such, in_round, in_square, in_braces, between, separated}
 
 -- a sign that is a form of its own, or one that brackets close
 abbrev pub is_atomic : Symbol → Bool

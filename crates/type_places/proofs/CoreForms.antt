@@ -15,7 +15,7 @@ use Rattle.type_core.proofs.CoreEquations.{core_form-Int, core_form-Name, core_f
 use Rattle.math_places.specs.Places.{unplaced, unplaced_bound}
 use Rattle.math_places.proofs.Equations.{unplaced-Int, unplaced-Name, unplaced-Node, unplaced-Bind}
 use Rattle.type_places.specs.BarePlaces.{unplaced_bare, unplaced_bares, unplaced_bounds}
-use Rattle.type_places.proofs.Induction.{OfType, raw_induction}
+use Rattle.math_places.proofs.Induction.{OfType, raw_induction}
 use Rattle.type_places.proofs.Typings.{same_has}
 
 -- The free names.

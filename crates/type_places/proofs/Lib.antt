@@ -1,4 +1,3 @@
 pub mod Typings
-pub mod Induction
 pub mod CoreForms
 pub mod OtherPlaces

@@ -1,4 +1,4 @@
-use Rattle.std.proofs.Common.{rules, arith, ◌≡◌, ◌∙◌, ap, sym, ◌+◌, ◌++◌, string_bytes}
+use Rattle.std.proofs.Common.{rules, ◌≡◌, ◌∙◌, ap, sym, ◌++◌, string_bytes}
 use Rattle.std.proofs.lemmas.List.{append-nil}
 use Rattle.raw_print.specs.Pieces.{bytes, text_of}
 use Rattle.raw_print.specs.Printing.{target}

@@ -1,11 +1,9 @@
-use Rattle.std.proofs.Common.{rules, arith, ◌≡◌, ◌∙◌, ap, sym, subst, ◌-◌, ◌+◌, ◌≤◌, ◌++◌, ◌∷◌, [], map, length, string_bytes, drop, List, ℕ}
-use Rattle.std.specs.Prelude.{IfOk}
+use Rattle.std.proofs.Common.{rules, arith, ◌≡◌, ◌∙◌, ap, sym, subst, ◌+◌, ◌≤◌, ◌++◌, ◌∷◌, [], map, length, string_bytes, drop}
 use Rattle.std.proofs.lemmas.List.{append-nil, drop-drop}
 use Rattle.formula_core.specs.declared.raw.Raw.{Raw}
-use Rattle.formula_core.specs.declared.raw.RawBound.{RawBound}
 use Rattle.math_grammar.specs.declared.symbols.Symbol.TheVariants as symbol
-use Rattle.raw_print.specs.Pieces.{Piece, Token, bytes, text_of, separated, behind_commas}
-use Rattle.raw_print.specs.Printing.{pieces, with_pieces, declared, body, form, node_pieces, operands, operand, second, side, names_in, pattern, with_pattern}
+use Rattle.raw_print.specs.Pieces.{Token, bytes, text_of}
+use Rattle.raw_print.specs.Printing.{pieces, with_pieces, declared, body, operands, operand, second, side, names_in, with_pattern}
 use Rattle.raw_print.specs.Signs.{sign_of, symbol_of}
 use Rattle.raw_print.proofs.Texts.{on_ok, two_pieces, three_pieces, one_more, all_parts, two_parts, if_ok, call_text, set_text, names_in-pair, none_named, pattern_text, names_in-other, pattern-other}
 use Rattle.raw_print.proofs.Equations.{text-append}
