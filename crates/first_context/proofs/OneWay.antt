@@ -78,7 +78,7 @@ checks_one_way (Machine name refines sees variables invariants variant events) c
 pub component_one_way : (name text : List ℕ) (c d : RawComponent) → Spells IsComponent name text c → Spells IsComponent name text d → c ≡ d
 component_one_way name text c d h k =
     let same = one_cut text 0 h.tokens k.tokens None None h.cut k.cut in
-    component_unique formulas.one_tree actions.one_tree (marks_of text k.tokens) c d (subst (λ ts. IsComponent limits (marks_of text ts) c) same.0 h.sentence) k.sentence
+    component_unique formulas.one_tree actions.one_tree limits (marks_of text k.tokens) c d (subst (λ ts. IsComponent limits (marks_of text ts) c) same.0 h.sentence) k.sentence
 
 pub one_way : (name text : List ℕ) (c d : FirstContext) → IsFirstContext name text c → IsFirstContext name text d → c ≡ d
 one_way name text c d h k =
