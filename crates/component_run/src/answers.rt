@@ -7,8 +7,8 @@ use formula_core::Name;
 use model_core::Fault;
 use std::alloc::{AllocError, Global};
 
-/// A text has at most so many bytes.
-const LONGEST: usize = 65_536;
+/// The reader counts the bytes of a text in 32 bits.
+const LONGEST: usize = u32::MAX as usize;
 
 fn add_fault(text: &str, fault: &Fault, out: &mut String) -> Result<(), AllocError> {
     let at = position_of(text, (fault.place as usize).min(text.len()));
