@@ -13,7 +13,7 @@ use Rattle.raw_print.specs.Pieces.{bytes, word, in_round, separated}
 use Rattle.raw_print.specs.Printing.{pieces, target, targets, action_pieces}
 use Rattle.component_print.proofs.Signs.{ready-becomes, ready-becomes_in, ready-becomes_such}
 use Rattle.component_print.proofs.Chains.{Printed, with_sign, AllPrinted, all_separated, printed_name}
-use Rattle.raw_print.proofs.Proper.{AllProper}
+use Rattle.raw_print.specs.Back.{AllProper}
 use Rattle.component_print.proofs.Derived.{reads, in_brackets, argument, ready_spaced}
 
 -- names between commas, and what stands behind them

@@ -35,7 +35,8 @@ use Rattle.raw_print.specs.Signs.{sign_of, symbol_of}
 use Rattle.raw_print.specs.Printing as printing
 use Rattle.raw_print.specs.Printing.{Part, operand, bare as bare_parts, form, pieces, with_pieces, declared, bind_pieces, body, pattern, pattern_step, names_in, names_in_step}
 use Rattle.raw_print.proofs.Equations.{pieces-Int, pieces-Name, pieces-Node, pieces-Bind, pattern-Name, names_in-Name}
-use Rattle.raw_print.proofs.Proper.{AllProper, own_symbol, infix_is, second_form, is_infix, suffix_symbol, IsForm, form_symbol, pattern-pair, names_in-pair, map_declared}
+use Rattle.raw_print.specs.Back.{AllProper}
+use Rattle.raw_print.proofs.Proper.{own_symbol, infix_is, second_form, is_infix, suffix_symbol, IsForm, form_symbol, pattern-pair, names_in-pair, map_declared}
 use Rattle.component_print.proofs.Signs.{Ready, before_space, before_stop, is_wordy, ready-not, ready-minus, ready-converse, ready-dot, ready-bar, ready-typing, ready-for_all, ready-exists, ready-union, ready-intersection, ready-lambda}
 use Rattle.component_print.proofs.Chains.{Chain, Stops, Printed, one_token, free_token, of_ready, before, opens_before, round, square, braces, as_operand, with_sign, prefix, AllPrinted, all_separated, printed_name, printed_number}
 

@@ -19,7 +19,7 @@ use Rattle.component_tokens.specs.declared.piece.CutFault.{CutFault}
 use Rattle.std.proofs.lemmas.Bool.Decides.{nat_tests}
 use Rattle.formula_core.specs.Texts.{begins_with}
 use Rattle.component_text.specs.Marks.{word, label, plain, is_structural, mark_of, marks_of}
-use Rattle.raw_print.proofs.Proper.{IsProper, IsProperItem}
+use Rattle.raw_print.specs.Back.{IsProper, IsProperItem}
 use Rattle.component_print.proofs.Made.{IsSmallMark, AreSmall}
 
 -- the tables give proper symbols alone

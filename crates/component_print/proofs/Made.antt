@@ -23,7 +23,7 @@ use Rattle.component_text.specs.Forms.{Bounds, limits, One, Nothing, Choice, tak
 use Rattle.component_text.specs.Grammar.{IsFormula, reference, label_at, Names, SomeNames, Labelled, Line, Lines, NamesBehind, SomeNamesBehind, ContextBody}
 use Rattle.component_text.specs.Machines.{IsAct, word_at, Refines, VariantExpression, Variant, Witnesses, Step, Steps, References, Guards, With, Actions, EventBody, Event, EventList, Events, MachineBody, IsComponent, a_context, a_machine}
 use Rattle.component_text.proofs.Parts.{Good, good_one}
-use Rattle.raw_print.proofs.Spelled.{is_whole}
+use Rattle.raw_print.specs.Back.{is_whole}
 use Rattle.component_text.proofs.Components.{good_line, good_extends, good_sets, good_constants}
 use Rattle.component_text.proofs.Machines.{good_refines, good_variant, good_witness, good_step, good_references, good_any, good_guards, good_with, good_event, good_sees, good_variables, good_invariants}
 

@@ -26,8 +26,9 @@ use Rattle.component_text.proofs.Unique.{OneFormula}
 use Rattle.component_text.proofs.Once.{OneAction}
 use Rattle.raw_print.specs.Pieces.{Piece, Blank, Token as TokenPiece, text_of, tokens_of}
 use Rattle.raw_print.specs.Printing.{pieces, action_pieces, raw_tokens, action_tokens, raw_text, action_text}
-use Rattle.raw_print.proofs.Proper.{IsProperItem, AllProper}
-use Rattle.raw_print.proofs.Spelled.{is_whole, spelled_again}
+use Rattle.raw_print.specs.Back.{IsProperItem, AllProper}
+use Rattle.raw_print.specs.Back.{is_whole}
+use Rattle.raw_print.proofs.Spelled.{spelled_again}
 use Rattle.raw_print.proofs.ActionsSpelled.{action_spelled}
 use Rattle.component_print.specs.Printed.{component_text}
 use Rattle.component_print.specs.Back.{IsReadable, ReadsBack}

@@ -19,7 +19,7 @@ use Rattle.math_places.specs.Places.{unplaced, unplaced_ref, unplaced_action}
 use Rattle.raw_print.specs.Pieces.{bytes, Blank, tokens_of, word, close_round, becomes, becomes_such, in_round, behind_commas, separated}
 use Rattle.raw_print.specs.Printing.{pieces, target, targets, raw_tokens, action_tokens}
 use Rattle.raw_print.proofs.Grades.{is_predicate, place_sort, fits_expression, at_end, closing}
-use Rattle.raw_print.proofs.Proper.{AllProper}
+use Rattle.raw_print.specs.Back.{AllProper}
 use Rattle.raw_print.proofs.Spelled.{tokens-append, behind, Again, reads_again, spelled_again}
 
 record TargetsAgain (before refs : List Ref) (rest : List Item) : Type 0 where

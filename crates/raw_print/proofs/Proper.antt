@@ -1,7 +1,6 @@
 -- The symbols that the tables of signs and words give, and the forms that they make.
 use Rattle.std.proofs.Common.{◌≡◌, ◌∙◌, sym as back, ap, subst, refl, ℕ, Bool, true, false, List, [], ◌∷◌, ◌++◌, map, inl, inr}
-use Rattle.std.specs.Prelude.{Option, Some, None, pos, ◌+◌, ◌^◌, ◌<◌, ◌⊎◌, drop}
-use Rattle.std.specs.List.{AllByRecursion}
+use Rattle.std.specs.Prelude.{Option, Some, None, ◌+◌, ◌⊎◌, drop}
 use Rattle.formula_core.specs.declared.op.Op.TheVariants as op
 use Rattle.formula_core.specs.declared.raw.RawOp.{RawOp}
 use Rattle.formula_core.specs.declared.raw.RawOp.TheVariants as rawop
@@ -17,27 +16,11 @@ use Rattle.math_grammar.specs.declared.levels.Binding.TheVariants as binding
 use Rattle.math_grammar.specs.declared.symbols.Symbol.{Symbol}
 use Rattle.math_grammar.specs.declared.symbols.Symbol.TheVariants as sym
 use Rattle.math_grammar.specs.Levels.{infix_of, suffix_of, opens, binder_of}
-use Rattle.math_grammar.specs.Tokens.{Item}
 use Rattle.raw_print.specs.Pieces.{Piece, Blank, Token, between}
 use Rattle.raw_print.specs.Signs.{sign_of, symbol_of, binder_symbol_of}
+use Rattle.raw_print.specs.Back.{IsProper}
 use Rattle.raw_print.specs.Printing.{Part, operand, form, is_atomic, declared, pattern, names_in}
 use Rattle.raw_print.proofs.Equations.{names_in-Node, pattern-Node}
-
--- a symbol that the tables give, or a number that is no larger than a literal
-abbrev pub IsProper : Symbol → Type 0
-IsProper (sym.Number n) = (m : ℕ) × (n ≡ pos m) × (m < 2 ^ 127)
-IsProper (sym.Truth o) = symbol_of (rawop.Plain o) ≡ sym.Truth o
-IsProper (sym.Constant o) = symbol_of (rawop.Plain o) ≡ sym.Constant o
-IsProper (sym.Call c o) = symbol_of o ≡ sym.Call c o
-IsProper (sym.Infix l o) = symbol_of o ≡ sym.Infix l o
-IsProper (sym.Binder c) = binder_symbol_of (binder_of c) ≡ sym.Binder c
-IsProper _ = Unit {0}
-
-abbrev pub IsProperItem : Item → Type 0
-IsProperItem x = IsProper x.symbol
-
-abbrev pub AllProper : List Item → Type 0
-AllProper = AllByRecursion IsProperItem
 
 abbrev op_of : {A : Type 0} → Option (A × RawOp) → RawOp
 op_of None = rawop.OfType

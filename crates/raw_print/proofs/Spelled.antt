@@ -40,9 +40,10 @@ use Rattle.raw_print.specs.Pieces.{bytes, Piece, Blank, Token, tokens_of, close_
 use Rattle.raw_print.specs.Signs.{sign_of, symbol_of, binder_sign_of, binder_symbol_of}
 use Rattle.raw_print.specs.Printing as printing
 use Rattle.raw_print.specs.Printing.{operand, bare as bare_parts, form, stands_alone, stands_alone_at, is_atomic, pieces, with_pieces, declared, body, raw_tokens, pattern, names_in}
+use Rattle.raw_print.specs.Back.{AllProper, is_whole}
 use Rattle.raw_print.proofs.Equations.{pieces-Int, pieces-Name, pieces-Node, pieces-Bind, pattern-Name, names_in-Name}
 use Rattle.raw_print.proofs.Grades.{is_predicate, joins_predicates, takes_predicates, is_one_sort, is_operand_place, Closed, as_predicate, as_suffixed, as_primary, as_name, left_sort, left_closed, place_sort, place_closed, fits_predicate, fits_expression, level_sort, grouped_sort, grouped_same, closed_sort, suffix_sort, suffix_closed, Closes, at_end, closing, ends_there, ends_at_maplet}
-use Rattle.raw_print.proofs.Proper.{AllProper, own_symbol, infix_is, second_form, infix_stands, suffix_symbol, IsForm, form_symbol, pattern-pair, names_in-pair, map_declared}
+use Rattle.raw_print.proofs.Proper.{own_symbol, infix_is, second_form, infix_stands, suffix_symbol, IsForm, form_symbol, pattern-pair, names_in-pair, map_declared}
 
 -- the places of trees without places, and what stands alone
 place-Node : (o : RawOp) (parts : List Raw) → place_of (raw.Node o parts 0) ≡ 0
@@ -125,12 +126,6 @@ call_closed call.Finite = as_predicate
 call_closed call.Partition = as_predicate
 call_closed call.Bool = as_primary
 call_closed call.Function = as_primary
-
--- the places of whole predicates and expressions
-abbrev pub is_whole : Hole → Bool
-is_whole hole.Predicate = true
-is_whole hole.Expression = true
-is_whole _ = false
 
 call_whole : (c : Call) → is_whole (call_hole c) ≡ true
 call_whole call.Finite = refl

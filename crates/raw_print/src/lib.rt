@@ -2,8 +2,10 @@
 #![tactic(auto)]
 
 mod actions;
+mod laws;
 mod printing;
 mod signs;
 
 pub use actions::print_action;
+pub use laws::{printed_action_is_spelled, printed_is_spelled};
 pub use printing::print_formula;
