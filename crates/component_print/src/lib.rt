@@ -4,5 +4,7 @@
 mod machine;
 mod printing;
 mod sections;
+#[cfg(test)]
+mod tests;
 
 pub use printing::print;

@@ -1,5 +1,5 @@
 -- The names of the bound identifiers are enough, differ, and are not taken.
-use Rattle.std.proofs.Common.{◌≡◌, ◌∙◌, sym, ap, subst, refl, ℕ, zero, suc, ◌+◌, ◌-◌, ◌<◌, ◌≤◌, ◌^◌, Bool, true, false, ◌&&◌, not, cond, List, [], ◌∷◌, length, take, filter, arith}
+use Rattle.std.proofs.Common.{◌≡◌, ◌∙◌, sym, ap, refl, ℕ, zero, suc, ◌+◌, ◌<◌, ◌≤◌, ◌^◌, Bool, true, false, not, cond, List, [], ◌∷◌, length, take, filter, arith}
 use Rattle.std.specs.Prelude.{bytes_eq}
 use Rattle.std.specs.Fmt.{decimal}
 use Rattle.std.specs.List.{list_any, IsDistinct, AllByRecursion}
@@ -10,7 +10,7 @@ use Rattle.std.proofs.lemmas.List.Filters.{length-filter_both}
 use Rattle.std.proofs.lemmas.Map.Made.{is_member-filter, length-le_from_is_member}
 use Rattle.std.proofs.lemmas.Cmp.{nat_list_eq_equiv}
 use Rattle.std.proofs.lemmas.Slice.Eq.{bytes_eq-Decides}
-use Rattle.math_print.specs.Names.{numbered, numbered_names, first_allowed, unused, AreFresh}
+use Rattle.math_print.specs.Names.{numbered, numbered_names, unused, AreFresh}
 use Rattle.math_print.proofs.NumberedNames.{read_on, own, both_true}
 
 false_unless : (b : Bool) → (b ≡ true → ⊥) → b ≡ false

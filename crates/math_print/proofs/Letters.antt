@@ -6,7 +6,7 @@ use Rattle.formula_core.specs.declared.op.Op.TheVariants as op
 use Rattle.formula_core.specs.declared.op.Binder.{Binder}
 use Rattle.formula_core.specs.declared.op.Binder.TheVariants as binder
 use Rattle.formula_core.specs.declared.ty.Ty.{Ty}
-use Rattle.formula_core.specs.declared.ty.Ty.TheOpen.{Ty-F, Pow as PowF, Pair as PairF}
+use Rattle.formula_core.specs.declared.ty.Ty.TheOpen.{Pow as PowF, Pair as PairF}
 use Rattle.formula_core.specs.declared.ty.Ty.TheVariants as ty
 use Rattle.formula_core.specs.declared.ty.Ty.TheViews.{out-Ty, outs-Pow, outs-Pair}
 use Rattle.formula_core.specs.Rows.{row_of}

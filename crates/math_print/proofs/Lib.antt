@@ -6,3 +6,4 @@ pub mod NumberedNames
 pub mod Pieces
 pub mod TypeTexts
 pub mod TypedBack
+pub mod Literals

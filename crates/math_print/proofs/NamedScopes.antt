@@ -1,7 +1,7 @@
 -- The scope of bound identifiers with names of their own, and type expressions in it.
-use Rattle.std.proofs.Common.{◌≡◌, ◌∙◌, sym, ap, subst, refl, ℕ, zero, suc, ◌+◌, ◌-◌, ◌<◌, ◌≤◌, Bool, true, false, ◌&&◌, cond, List, [], ◌∷◌, ◌++◌, length, map, reverse, arith, add-one, append_assoc, Option, Some, None}
+use Rattle.std.proofs.Common.{◌≡◌, ◌∙◌, sym, ap, subst, refl, ℕ, zero, suc, ◌+◌, ◌-◌, ◌<◌, ◌≤◌, Bool, true, false, ◌&&◌, cond, List, [], ◌∷◌, ◌++◌, length, map, reverse, arith, add-one, append_assoc, Some, None}
 use Rattle.std.specs.Prelude.{bytes_eq}
-use Rattle.std.specs.List.{slice_get, AllByRecursion, IsDistinct, list_any}
+use Rattle.std.specs.List.{slice_get, AllByRecursion, IsDistinct}
 use Rattle.std.specs.Option.{option_map, option_map_or}
 use Rattle.std.specs.Map.{lookup}
 use Rattle.std.proofs.lemmas.Cmp.{nat_list_eq_equiv}
@@ -10,11 +10,9 @@ use Rattle.formula_core.specs.declared.ty.Ty.{Ty}
 use Rattle.formula_core.specs.declared.ty.Ty.TheOpen.{Int as IntF, Bool as BoolF, Given as GivenF, Pow as PowF, Pair as PairF, Truth as TruthF}
 use Rattle.formula_core.specs.declared.ty.Ty.TheVariants as ty
 use Rattle.formula_core.specs.declared.ty.Ty.TheViews.{rolls-Int, rolls-Bool, rolls-Given, rolls-Pow, rolls-Pair, rolls-Truth}
-use Rattle.formula_core.specs.declared.op.Op.{Op}
 use Rattle.formula_core.specs.declared.op.Op.TheVariants as op
 use Rattle.formula_core.specs.declared.raw.RawOp.{RawOp}
 use Rattle.formula_core.specs.declared.raw.RawOp.TheVariants as rawop
-use Rattle.formula_core.specs.declared.raw.RawBound.{RawBound}
 use Rattle.formula_core.specs.declared.raw.Raw.{Raw}
 use Rattle.formula_core.specs.declared.raw.Raw.TheVariants as raw
 use Rattle.formula_core.specs.Types.{same_type, is_value_step, is_value_type}
@@ -23,15 +21,15 @@ use Rattle.formula_core.specs.Identifiers.{carriers}
 use Rattle.formula_core.proofs.Equations.{type_fold, carriers-Given, carriers-Pow, carriers-Pair}
 use Rattle.formula_core.proofs.Types.{type_induction}
 use Rattle.formula_core.proofs.WholeSets.{same_type_refl, value-Pow, value-Pair}
-use Rattle.type_core.specs.Bare.{Bare, Bares, Bounds, Identifier, Form, nothing, more, unbound, typed, has_names}
+use Rattle.type_core.specs.Bare.{Bounds, unbound, typed}
 use Rattle.type_core.specs.Scopes.{Scope, one_further, position_of, with_names, has_name}
-use Rattle.type_core.specs.TypeExpressions.{is_carrier, denoted, denoted_form, all_denoted, power_of, pair_of}
+use Rattle.type_core.specs.TypeExpressions.{is_carrier, denoted, power_of, pair_of}
 use Rattle.type_core.specs.CoreForms.{core_form, core_of_form, bounds, bound_part}
 use Rattle.type_core.specs.Typings.{AreBound}
 use Rattle.type_core.specs.Views.{in_a_row}
 use Rattle.type_core.proofs.CoreEquations.{core_form-Name, read_node}
 use Rattle.math_print.specs.Printing.{name_at}
-use Rattle.math_print.specs.Written.{constant, type_raw_step, type_raw, declared}
+use Rattle.math_print.specs.Written.{type_raw_step, type_raw, declared}
 
 pub all_left : {X : Type 0} (P : X → Type 0) (xs ys : List X) → AllByRecursion P (xs ++ ys) → AllByRecursion P xs
 all_left P [] ys all = tt

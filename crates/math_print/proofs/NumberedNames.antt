@@ -1,7 +1,7 @@
 -- The numbered names are names, and the search for those that may be used.
-use Rattle.std.proofs.Common.{cond, ◌||◌, get_or, ◌≡◌, ◌∙◌, sym, ap, refl, ◌<◌, ◌≤◌, ◌^◌, ◌+◌, ◌-◌, ◌*◌, ℕ, zero, suc, Bool, true, false, ◌&&◌, not, nat_eq, List, [], ◌∷◌, ◌++◌, length, take, drop, filter, arith, rules, append_assoc}
+use Rattle.std.proofs.Common.{cond, ◌||◌, get_or, ◌≡◌, ◌∙◌, sym, ap, subst, refl, ◌<◌, ◌≤◌, ◌^◌, ◌+◌, ◌-◌, ◌*◌, ℕ, zero, suc, Bool, true, false, ◌&&◌, not, nat_eq, List, [], ◌∷◌, ◌++◌, length, take, drop, filter, arith, rules, append_assoc}
 use Rattle.std.specs.Prelude.{nat_le, bytes_eq}
-use Rattle.std.specs.List.{list_all}
+use Rattle.std.specs.List.{AllByRecursion, list_all}
 use Rattle.std.specs.Char.{is_ascii_digit}
 use Rattle.std.specs.Str.{all_ascii_digits}
 use Rattle.std.specs.Fmt.{decimal}
@@ -110,3 +110,13 @@ more_names identifiers i x name key was now short at is before after =
     ∙ sym (list_any-append (bytes_eq name) (keys_of (take i identifiers)) (x.0 ∷ []))
     ∙ ap (list_any (bytes_eq name)) (sym (map-append (λ e. e.0) (take i identifiers) (x ∷ [])))
     ∙ ap (λ xs. list_any (bytes_eq name) (keys_of xs)) (sym (take_more identifiers i x short ∙ ap (λ y. take i identifiers ++ y ∷ []) (sym at)))
+
+-- one more name is one
+pub more_are_names : (identifiers : List (List ℕ × Ty)) (i : ℕ) (x : List ℕ × Ty) → i < length identifiers → x ≡ get_or identifiers i x → is_name x.0 ≡ true
+    → AllByRecursion (λ y. is_name y.0 ≡ true) (take i identifiers) → AllByRecursion (λ y. is_name y.0 ≡ true) (take (i + 1) identifiers)
+more_are_names identifiers i x short at is before =
+    subst (AllByRecursion (λ y. is_name y.0 ≡ true)) (sym (take_more identifiers i x short ∙ ap (λ y. take i identifiers ++ y ∷ []) (sym at))) (behind (take i identifiers) before)
+  where
+    behind : (ys : List (List ℕ × Ty)) → AllByRecursion (λ y. is_name y.0 ≡ true) ys → AllByRecursion (λ y. is_name y.0 ≡ true) (ys ++ x ∷ [])
+    behind [] h = (is, tt)
+    behind (y ∷ ys) h = (h.0, behind ys h.1)

@@ -32,25 +32,24 @@ use Rattle.formula_core.specs.Schemes.{Scheme, alpha, beta, gamma, delta, intege
 use Rattle.formula_core.specs.Env.{type_in}
 use Rattle.formula_core.specs.Identifiers.{carriers, identifiers}
 use Rattle.formula_core.specs.Sizes.{greatest}
-use Rattle.formula_core.specs.Wellness.{type_of_step, type_of, is_natural, may_be_bound, is_well_in, is_well}
+use Rattle.formula_core.specs.Wellness.{type_of_step, type_of, may_be_bound, is_well_in, is_well}
 use Rattle.formula_core.proofs.Equations.{formula_fold, type_fold, identifiers-Free, identifiers-Node, identifiers-Bind}
 use Rattle.formula_core.proofs.Induction.{formula_induction}
 use Rattle.formula_core.proofs.Schemes.{fits_exactly, binder_fits_exactly}
 use Rattle.formula_core.proofs.Types.{same_type_exact}
 use Rattle.formula_core.proofs.WholeSets.{value-Pow, value-Pair}
 use Rattle.formula_core.proofs.Wellness.{well-Int, well-Free, well-Bound, well-Node, well-Bind}
-use Rattle.type_core.specs.Answers.{IsTypedAs, IsTheFormula}
-use Rattle.type_core.specs.Bare.{Bare, Bares, Bounds, Number, Identifier, Form, Binding, Ascribed, nothing, more, part_count, has_names}
+use Rattle.type_core.specs.Bare.{Bare, Number, Identifier, Form, Binding, Ascribed, nothing, more, part_count, has_names}
 use Rattle.type_core.specs.CoreForms.{core_form, bounds, bound_part}
 use Rattle.type_core.specs.Scopes.{Scope, position_of, with_names, IsName}
 use Rattle.type_core.specs.TypeExpressions.{denoted}
-use Rattle.type_core.specs.Typings.{Types, AllTyped, AreBound}
+use Rattle.type_core.specs.Typings.{Types, AllTyped}
 use Rattle.type_core.specs.Views.{in_a_row}
 use Rattle.type_core.proofs.CoreEquations.{core_form-Int, core_form-Name, read_node, read_plain}
 use Rattle.math_print.specs.Depths.{deepest}
 use Rattle.math_print.specs.Names.{bound_names, AreFresh}
 use Rattle.math_print.specs.Printing.{name_at}
-use Rattle.math_print.specs.Written.{constant, type_raw, denied_at, denied, typed_raw, operator_raw, declared, written_step, written, raw_of, TypesAll, IsTypedBack}
+use Rattle.math_print.specs.Written.{constant, type_raw, denied_at, denied, typed_raw, operator_raw, declared, written_step, written, raw_of, IsTypedBack}
 use Rattle.math_print.proofs.Equations.{deepest-Node, deepest-Bind}
 use Rattle.math_print.proofs.Letters.{is_typed, operator_type, binder_type}
 use Rattle.math_print.proofs.NamedScopes.{all_left, all_right, core_node, AreKnown, denotes, Scoped, Differ, IsOutside, all_at, differ_from, position, not_bound, found, core_bounds, bounds-declared, scoped_further, AllDenoted, declared_types, only_types}

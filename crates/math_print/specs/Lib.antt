@@ -1,5 +1,6 @@
 pub mod Characters
 pub mod Depths
+pub mod Held
 pub mod Levels
 pub mod Names
 pub mod Printing

@@ -1,12 +1,13 @@
 //! The names of bound identifiers.
-ghost use Rattle.std.specs.Prelude.{◌≡◌, ◌<◌, ◌+◌, ◌-◌, ◌^◌, IfOk, OnOk, not, ℕ, List, bytes_eq, length};
-ghost use Rattle.std.specs.List.{list_any};
+ghost use Rattle.std.specs.Prelude.{◌≡◌, ◌<◌, ◌+◌, ◌-◌, ◌^◌, IfOk, OnOk, not, true, ℕ, List, bytes_eq, length};
+ghost use Rattle.std.specs.List.{AllByRecursion, list_any};
 ghost use Rattle.std.specs.Map.{keys_of};
 ghost use Rattle.std.specs.BTreeSet.{contains_by};
 ghost use Rattle.std.specs.Ordering.{nat_cmp};
 ghost use Rattle.std.specs.Cmp.Lexicographic.{slice_cmp};
 ghost use Rattle.formula_core.specs.Identifiers.{identifiers};
-ghost use Rattle.math_print.specs.Depths.{deepest};
+ghost use Rattle.formula_core.specs.Names.{is_name};
+ghost use Rattle.math_print.specs.Held.{IsHeld};
 ghost use Rattle.math_print.specs.Names.{numbered, first_allowed, bound_names};
 
 use crate::depths::deepest;
@@ -26,13 +27,23 @@ fn numbered(alloc: Global, number: u64) -> Result<Name, OutOfMemory>
     }
 }
 
+/// A copy of a name. That it is a name, `as_text` says.
+fn copied(alloc: Global, name: &Name) -> Result<Name, OutOfMemory>
+    ensures copy { IfOk result (λ copy. copy ≡ name.now) }
+    ensures is { is_name name.now ≡ true }
+{
+    let _text = name.as_text();
+    name.copy(alloc)
+}
+
 /// The set of the names of identifiers.
 fn names_of(alloc: Global, identifiers: &[(Name, Ty)]) -> Result<BTreeSet<Name>, OutOfMemory>
-    ensures { IfOk result (λ names. (name : List ℕ) → contains_by (slice_cmp nat_cmp name) names ≡ list_any (bytes_eq name) (keys_of identifiers.now)) }
+    ensures has { IfOk result (λ names. (name : List ℕ) → contains_by (slice_cmp nat_cmp name) names ≡ list_any (bytes_eq name) (keys_of identifiers.now)) }
+    ensures are { OnOk result (AllByRecursion (λ x. is_name x.0 ≡ true) identifiers.now) }
 {
     let mut names = BTreeSet::new(alloc);
     for identifier in identifiers {
-        names.insert(identifier.0.copy(alloc)?)?;
+        names.insert(copied(alloc, &identifier.0)?)?;
     }
     Ok(names)
 }
@@ -62,7 +73,7 @@ fn first_allowed(
 /// The names of the bound identifiers of a formula, from the outermost one on.
 pub(crate) fn bound_names(alloc: Global, formula: &Formula) -> Result<Vec<Name>, OutOfMemory>
     ensures names { IfOk result (λ names. names.items ≡ bound_names formula.now) }
-    ensures small { OnOk result (deepest formula.now + length (identifiers formula.now) < 2 ^ 64) }
+    ensures held { OnOk result (IsHeld formula.now) }
 {
     let many = deepest(formula);
     if many == u64::MAX {

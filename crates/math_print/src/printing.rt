@@ -5,6 +5,7 @@ ghost use Rattle.math_print.specs.declared.levels.Side.TheVariants as side;
 ghost use Rattle.formula_core.specs.Wellness.{is_well};
 ghost use Rattle.math_print.specs.Characters.{bytes, comma_after, separated};
 ghost use Rattle.math_print.specs.Types.{type_text};
+ghost use Rattle.math_print.specs.Held.{IsHeld};
 ghost use Rattle.math_print.specs.Written.{IsTypedBack};
 ghost use Rattle.math_print.specs.Printing.{operand, typed_text, constant_text, unary_text, second_text, members_text, operator_text, node_text, name_at, declarations, binder_sign_of, binder_end_of, body_text, binder_text, bind_text, printed, with_texts, text_of};
 
@@ -21,6 +22,7 @@ pub fn text(alloc: Global, formula: &Formula) -> Result<String, OutOfMemory>
     ensures exact { IfOk result (λ text. string_bytes text ≡ text_of formula.now) }
     // What is written of the formula is typed as the formula.
     ensures typed { OnOk result (IsTypedBack formula.now) }
+    ensures held { OnOk result (IsHeld formula.now) }
 {
     let names = bound_names(alloc, formula)?;
     let mut out = String::new(alloc);

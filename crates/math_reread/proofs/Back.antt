@@ -58,7 +58,8 @@ use Rattle.math_print.specs.Written.{denied_at, denied, declared, written_step, 
 use Rattle.math_print.proofs.Equations.{deepest-Node, deepest-Bind}
 use Rattle.math_print.proofs.NamedScopes.{all_left, all_right, all_at}
 use Rattle.math_reread.specs.Items.{Part, Items, word, dot, bar, close_brace, not_sign, open_round, close_round, separated, declarations, binder_symbol_of, binder_items, items_step, items, with_items, items_of_formula}
-use Rattle.math_reread.specs.Grades.{grade_at, grade_of, binder_grade, HasNames, IsCounted, IsSpelled}
+use Rattle.math_reread.specs.Grades.{grade_at, grade_of, binder_grade, IsSpelled}
+use Rattle.math_print.specs.Held.{HasNames, IsCounted}
 use Rattle.math_reread.proofs.Tables.{Quiet, quiet, ends, zero_le, quieter, quiet_at}
 use Rattle.math_reread.proofs.Readings.{Whole}
 use Rattle.math_reread.proofs.Infixes.{IsRead}

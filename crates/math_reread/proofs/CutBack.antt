@@ -23,7 +23,7 @@ use Rattle.formula_core.specs.Sizes.{greatest}
 use Rattle.formula_core.specs.TypeTable.{fits as is_fit, binder_fits}
 use Rattle.formula_core.specs.Types.{same_type}
 use Rattle.formula_core.specs.Wellness.{type_of, is_natural, may_be_bound, is_well_in, is_well}
-use Rattle.formula_core.proofs.Equations.{formula_fold, formula_para, identifiers-Free, identifiers-Node, identifiers-Bind}
+use Rattle.formula_core.proofs.Equations.{formula_para, identifiers-Free, identifiers-Node, identifiers-Bind}
 use Rattle.formula_core.proofs.Induction.{formula_induction}
 use Rattle.formula_core.proofs.Wellness.{well-Int, well-Bound, well-Node, well-Bind}
 use Rattle.math_grammar.specs.Tokens.{Item}
@@ -42,8 +42,9 @@ use Rattle.token_text.proofs.Numbers.{fits-number, number_lettered}
 use Rattle.token_text.proofs.Signs.{opens_set}
 use Rattle.token_text.proofs.Words.{lettered_opens_set}
 use Rattle.math_reread.specs.Items.{Part, Items, dot, bar, close_brace, not_sign, open_round, close_round, separated, declarations, binder_symbol_of, binder_end, body_items, binder_items, items_step, items, with_items, items_of_formula}
-use Rattle.math_reread.specs.Grades.{HasNames, IsCounted}
-use Rattle.math_reread.specs.Literals.{literals_step, literals, HasNarrowNumbers}
+use Rattle.math_print.specs.Held.{HasNames, IsCounted}
+use Rattle.math_print.specs.Held.{literals, HasNarrowNumbers}
+use Rattle.math_print.proofs.Literals.{literals-Int, literals-Node, literals-Bind}
 use Rattle.math_reread.proofs.TypeReadings.{AreNames}
 use Rattle.math_reread.proofs.Back.{BoundNames, bound_are_names}
 use Rattle.math_reread.proofs.SignFits.{fits-dot, fits-bar, fits-close_brace, fits-not_sign, fits_binder-ForAll, fits_binder-Exists, fits_binder-Comprehension, fits_binder-QuantifiedUnion, fits_binder-QuantifiedIntersection}
@@ -60,15 +61,6 @@ second_true true b h = h
 second_true false b h = cc
 
 -- the numbers of each form
-literals-Int : (n : ℤ) → literals (Int n) ≡ n ∷ []
-literals-Int n = formula_fold literals_step (IntF n) (Int n) (rolls-Int n)
-
-literals-Node : (o : Op) (parts : List Formula) (t : Ty) → literals (Node o parts t) ≡ joined (map literals parts)
-literals-Node o parts t = formula_fold literals_step (NodeF o parts t) (Node o parts t) (rolls-Node o parts t)
-
-literals-Bind : (b : Binder) (types : List Ty) (parts : List Formula) (t : Ty) → literals (Bind b types parts t) ≡ joined (map literals parts)
-literals-Bind b types parts t = formula_fold literals_step (BindF b types parts t) (Bind b types parts t) (rolls-Bind b types parts t)
-
 abbrev AreNarrow : List ℤ → Type 0
 AreNarrow ns = AllByRecursion (λ n. mag n < 2 ^ 127) ns
 

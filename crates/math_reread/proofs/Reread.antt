@@ -29,8 +29,9 @@ use Rattle.math_places.proofs.Spelled.{spelled_again}
 use Rattle.type_places.proofs.OtherPlaces.{formula_again}
 use Rattle.token_text.specs.Spacing.{unplaced as without_place, IsCutInto}
 use Rattle.math_reread.specs.Items.{items_of_formula}
-use Rattle.math_reread.specs.Grades.{HasNames, IsCounted, place_for}
-use Rattle.math_reread.specs.Literals.{HasNarrowNumbers}
+use Rattle.math_reread.specs.Grades.{place_for}
+use Rattle.math_print.specs.Held.{HasNames, IsCounted}
+use Rattle.math_print.specs.Held.{HasNarrowNumbers}
 use Rattle.math_reread.specs.Back.{IsTypedAgain, IsAnswer, IsTreeOrLarge, ReadsBack}
 use Rattle.math_reread.proofs.AnyLimit.{is_limited, AreUnlimited, spelled_within}
 use Rattle.math_reread.proofs.Unlimited.{unlimited}

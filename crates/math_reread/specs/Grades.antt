@@ -1,9 +1,6 @@
 -- The grade of a printed form, and what the law of reading back says.
-use Rattle.std.specs.Prelude.{◌≡◌, ◌+◌, ◌<◌, ◌^◌, true, length, if◌then◌else◌, None}
-use Rattle.std.specs.List.{AllByRecursion}
-use Rattle.formula_core.specs.Names.{is_name}
+use Rattle.std.specs.Prelude.{if◌then◌else◌, None}
 use Rattle.formula_core.specs.Types.{is_value_type}
-use Rattle.formula_core.specs.Identifiers.{identifiers}
 use Rattle.formula_core.specs.Wellness.{type_of}
 use Rattle.formula_core.specs.declared.op.Op.{Op}
 use Rattle.formula_core.specs.declared.op.Op.TheVariants as op
@@ -16,7 +13,6 @@ use Rattle.math_grammar.specs.declared.holes.Grade.TheVariants as grade
 use Rattle.math_grammar.specs.declared.holes.Hole.{Hole}
 use Rattle.math_grammar.specs.declared.holes.Hole.TheVariants as hole
 use Rattle.math_grammar.specs.Grammar.{Spells}
-use Rattle.math_print.specs.Depths.{deepest}
 use Rattle.math_print.specs.Written.{raw_of}
 use Rattle.math_reread.specs.Items.{items_of_formula}
 
@@ -93,14 +89,6 @@ grade_of f = grade_at (out-Formula f)
 -- where a formula of its type stands
 abbrev pub place_for : Formula → Hole
 place_for f = if is_value_type (type_of f) then hole.Expression else hole.Predicate
-
--- its identifiers and the carrier sets of its types are names
-abbrev pub HasNames : Formula → Type 0
-HasNames f = AllByRecursion (λ x. is_name x.0 ≡ true) (identifiers f)
-
--- its identifiers are so few that numbers of 64 bits count the names of those that it binds
-abbrev pub IsCounted : Formula → Type 0
-IsCounted f = deepest f + length (identifiers f) < 2 ^ 64
 
 -- the tokens of its printed text spell the formula as it is written
 abbrev pub IsSpelled : Formula → Type 0

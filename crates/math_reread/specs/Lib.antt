@@ -1,4 +1,3 @@
 pub mod Items
 pub mod Grades
-pub mod Literals
 pub mod Back

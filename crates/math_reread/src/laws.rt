@@ -7,10 +7,11 @@ ghost use Rattle.math_grammar.specs.Grammar.{Spells};
 ghost use Rattle.math_print.specs.Printing.{text_of};
 ghost use Rattle.math_print.specs.Written.{raw_of};
 ghost use Rattle.token_text.specs.Spacing.{IsCutInto};
-ghost use Rattle.math_reread.specs.Grades.{HasNames, IsCounted, IsSpelled, place_for};
+ghost use Rattle.math_reread.specs.Grades.{IsSpelled, place_for};
+ghost use Rattle.math_print.specs.Held.{HasNames, IsCounted};
 ghost use Rattle.math_reread.specs.Back.{ReadsBack};
 ghost use Rattle.math_reread.specs.Items.{items_of_formula};
-ghost use Rattle.math_reread.specs.Literals.{HasNarrowNumbers};
+ghost use Rattle.math_print.specs.Held.{HasNarrowNumbers};
 
 /// The tokens of a well formula's printed text are a sentence, and its tree is the formula as it is written.
 pub fn written_is_spelled()

@@ -3,23 +3,18 @@ ghost use Rattle.std.specs.Prelude.{◌≡◌, IfOk, OnOk, IsTrue, string_bytes}
 ghost use Rattle.formula_core.specs.Wellness.{is_well};
 ghost use Rattle.math_print.specs.Printing.{text_of};
 ghost use Rattle.math_print.specs.Written.{IsTypedBack};
-ghost use Rattle.math_reread.specs.Grades.{HasNames, IsCounted};
-ghost use Rattle.math_reread.specs.Literals.{HasNarrowNumbers};
 ghost use Rattle.math_reread.specs.Back.{ReadsBack};
 
 use formula_core::{Formula, OutOfMemory};
 use std::alloc::Global;
 
-/// The printed text of a formula, as `math_print` gives it.
-///
-/// Where it reads back, the formula's identifiers are names, as each `Name` is; its numbers are below 2^127, as each `i128`
-/// is; and numbers of 64 bits count its identifiers.
+/// The printed text of a formula, as `math_print` gives it. It reads back.
 pub fn text(alloc: Global, formula: &Formula) -> Result<String, OutOfMemory>
     requires { IsTrue (is_well formula.now) }
     ensures exact { IfOk result (λ text. string_bytes text ≡ text_of formula.now) }
     ensures typed { OnOk result (IsTypedBack formula.now) }
     // Its tokens spell one tree, which is typed as the formula again; the parser finds it, unless they pass a limit.
-    ensures back { IfOk result (λ text. HasNames formula.now → IsCounted formula.now → HasNarrowNumbers formula.now → ReadsBack formula.now (string_bytes text)) }
+    ensures back { IfOk result (λ text. ReadsBack formula.now (string_bytes text)) }
 {
     math_print::text(alloc, formula)
 }

@@ -2,6 +2,7 @@
 use Rattle.std.proofs.Common.{◌≡◌, ◌∙◌, ◌⊎◌, inl, inr, sym, ap, subst, refl, ℕ, List, [], ◌++◌}
 use Rattle.sequent_core.specs.declared.Sequent.{Sequent}
 use Rattle.sequent_core.specs.declared.Attempt.{Attempt}
+use Rattle.status_core.specs.declared.FaultLine.{FaultLine}
 use Rattle.status_core.specs.declared.Status.{Status}
 use Rattle.status_core.specs.State.{opened, no_texts}
 use Rattle.status_core.specs.Run.{Exchange, Run, history_of}
@@ -11,13 +12,13 @@ use Rattle.rodin_cli.specs.Parts.{Component, IsMadeOf}
 use Rattle.rodin_cli.specs.Session.{Extends}
 use Rattle.rodin_cli.specs.Script.{IsWhole, IsFront}
 use Rattle.rodin_cli.specs.Streams.{Writing, Writes, WritesCut, WritesNothing}
-use Rattle.rodin_cli.specs.Texts.{status_lines}
-use Rattle.rodin_cli.specs.Check.{Leads, IsAnswered, RanOut, HasNoHistory, IsCleanRebuild, IsProved}
+use Rattle.rodin_cli.specs.Texts.{printed}
+use Rattle.rodin_cli.specs.Check.{Leads, IsAnswered, RanOut, HasNoHistory, TellsFaults, IsCleanRebuild, IsProved, status_of}
 use Rattle.rodin_cli.specs.Completeness.{IsComplete}
 use Rattle.rodin_cli.proofs.Sessions.{front_of_whole}
 use Rattle.rodin_cli.proofs.Folding.{run_folds}
 use Rattle.rodin_cli.proofs.Legal.{front_legal, whole_complete}
-use Rattle.rodin_cli.proofs.Clean.{clean_of, proved_of}
+use Rattle.rodin_cli.proofs.Clean.{faults_of, clean_of, proved_of}
 
 -- a session that began empty and did these exchanges
 pub record Did (old new : Session) (exchanges : List Exchange) (part : Part) : Type 0 where
@@ -45,20 +46,22 @@ module _ (answers : Sequent → Attempt → Type 0) (sure : Sequent → Type 0) 
   ran_out bytes sink parts status made front nothing =
       record { status_is = status; exchanges = exchanges; front = inr (parts, made, front); leads = leads parts front; text = nothing }
 
-  pub answered : (bytes : List ℕ) (sink : Writing) (parts : List Component) (shown : List (List ℕ × Status)) → IsMadeOf bytes parts → IsWhole answers sure parts shown exchanges →
-      ((part.status ≡ 0) × Writes sink (status_lines shown)) ⊎ ((part.status ≡ 4) × WritesCut sink (status_lines shown)) → IsAnswered answers sure bytes sink part
-  answered bytes sink parts shown made whole text =
-      let clean = clean_of answers sure parts shown exchanges (opened no_texts) new.core whole ran in
+  pub answered : (bytes : List ℕ) (sink : Writing) (parts : List Component) (told : List FaultLine) (shown : List (List ℕ × Status)) → IsMadeOf bytes parts → IsWhole answers sure parts told shown exchanges →
+      ((part.status ≡ status_of told) × Writes sink (printed told shown)) ⊎ ((part.status ≡ 4) × WritesCut sink (printed told shown)) → IsAnswered answers sure bytes sink part
+  answered bytes sink parts told shown made whole text =
+      let clean = clean_of answers sure parts told shown exchanges (opened no_texts) new.core whole ran in
       record {
         parts = parts;
         made = made;
         exchanges = exchanges;
+        told = told;
         shown = shown;
         whole = whole;
-        leads = leads parts (front_of_whole answers sure parts shown exchanges whole);
+        leads = leads parts (front_of_whole answers sure parts told shown exchanges whole);
+        faults = subst (λ d. TellsFaults d told) (sym did.last) (faults_of answers sure parts told shown exchanges (opened no_texts) new.core whole ran);
         clean = subst (λ d. IsCleanRebuild d shown) (sym did.last) clean;
         proved = subst (λ d. IsProved d shown) (sym did.last) (proved_of new.core.durable shown clean);
-        complete = subst (λ d. IsComplete sure d exchanges) (sym did.last) (whole_complete answers sure parts shown exchanges new.core whole ran);
+        complete = subst (λ d. IsComplete sure d exchanges) (sym did.last) (whole_complete answers sure parts told shown exchanges new.core whole ran);
         text = text;
       }
 

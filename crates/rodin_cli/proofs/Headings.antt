@@ -1,32 +1,12 @@
 -- Heading lines and their names.
-use Rattle.std.proofs.Common.{◌≡◌, ◌∙◌, ap, refl, sym, ℕ, zero, suc, ◌<◌, Bool, true, false, not, ◌&&◌, cond, nat_lt, List, [], ◌∷◌, ◌++◌, length, take, drop, get_or, min, ◌≤◌, nat_le, Option, Some, None, arith}
+use Rattle.std.proofs.Common.{◌≡◌, ◌∙◌, ap, refl, sym, ℕ, ◌<◌, Bool, true, false, not, ◌&&◌, cond, nat_lt, List, [], ◌∷◌, ◌++◌, length, take, drop, min, ◌≤◌, nat_le, Option, Some, None, arith}
 use Rattle.std.proofs.lemmas.Bool.Decides.{nat_tests}
 use Rattle.std.proofs.lemmas.List.{take_all, drop_all}
-use Rattle.std.specs.List.{flat_map, take_while, list_all}
+use Rattle.std.specs.List.{flat_map, take_while}
 use Rattle.std.specs.Option.{option_to_list}
-use Rattle.std.specs.Str.{IsUtf8}
-use Rattle.std.proofs.lemmas.Str.{IsUtf8-from_ascii}
-use Rattle.formula_core.specs.Names.{is_word, is_name, is_identifier, is_reserved, is_in_word}
-use Rattle.camille_text.proofs.Boundaries.{is_in_word-ascii}
-use Rattle.camille_text.proofs.FirstToken.{all_in_word}
-use Rattle.camille_text.proofs.Signs.{both}
-use Rattle.camille_text.proofs.Unprimed.{is_name-word}
+use Rattle.formula_core.specs.Names.{is_identifier, is_in_word}
+use Rattle.component_text.proofs.Texts.{both}
 use Rattle.rodin_cli.specs.Parts.{past_blanks, goes_on_with_prime, name_in_front, is_heading_word, heading_of}
-
-is_ascii : (word : List ℕ) → list_all is_in_word word ≡ true → (i : ℕ) → get_or word i 0 < 128
-is_ascii [] h zero = omega arith
-is_ascii [] h (suc i) = omega arith
-is_ascii (c ∷ word) h zero = is_in_word-ascii c (both (is_in_word c) (list_all is_in_word word) h).0
-is_ascii (c ∷ word) h (suc i) = is_ascii word (both (is_in_word c) (list_all is_in_word word) h).1 i
-
-identifier_is_word : (word : List ℕ) → is_identifier word ≡ true → is_word word ≡ true
-identifier_is_word word h = (both (is_word word) (not (is_reserved word)) h).0
-
-pub identifier_is_text : (word : List ℕ) → is_identifier word ≡ true → IsUtf8 word
-identifier_is_text word h = IsUtf8-from_ascii word (is_ascii word (all_in_word word (identifier_is_word word h)))
-
-pub identifier_is_name : (word : List ℕ) → is_identifier word ≡ true → is_name word ≡ true
-identifier_is_name word h = is_name-word word (identifier_is_word word h) ∙ h
 
 chosen : (b : Bool) (o : Option (List ℕ)) (name : List ℕ) → cond b o None ≡ Some name → (b ≡ true) × (o ≡ Some name)
 chosen true o name h = (refl, h)

@@ -5,6 +5,7 @@ use Rattle.std.specs.Prelude.{Option, None}
 use Rattle.sequent_core.specs.declared.Sequent.{Sequent}
 use Rattle.sequent_core.specs.declared.Obligation.{Obligation}
 use Rattle.sequent_core.specs.declared.Attempt.{Attempt}
+use Rattle.status_core.specs.declared.FaultLine.{FaultLine}
 use Rattle.status_core.specs.declared.Status.{Status}
 use Rattle.status_core.specs.declared.Entry.{Entry}
 use Rattle.status_core.specs.declared.Event.TheVariants.{Edit, Build, Take, Ask}
@@ -63,8 +64,8 @@ first_edits_legal (part ∷ parts) (x ∷ edits) s t are run fresh =
 build_step : (s t : State) (x : Exchange) → x.event ≡ Build → Step s x t → IsFresh s → IsFresh t × IsLegalReply x.reply
 build_step s t x e d fresh =
     let b : Does s Build x.reply x.entry t = subst (λ q. Does s q x.reply x.entry t) e d in (
-      subst IsFresh (sym b.4) (record { proofs = fresh.proofs; out = fresh.out; tried = fresh.tried; next = fresh.next }),
-      λ n f. let no : Built _ _ _ ≡ NoTicket n = sym b.2 ∙ f in cc,
+      subst IsFresh (sym b.6) (record { proofs = fresh.proofs; out = fresh.out; tried = fresh.tried; next = fresh.next }),
+      λ n f. let no : Built _ _ _ ≡ NoTicket n = sym b.4 ∙ f in cc,
     )
 
 take_step : (s t : State) (x : Exchange) → x.event ≡ Take None → Step s x t → IsLegalReply x.reply
@@ -76,7 +77,7 @@ take_step s t x e d n f = by (subst (λ q. Does s q x.reply x.entry t) e d) wher
 ask_faults_step : (s t : State) (x : Exchange) → x.event ≡ Ask AskFaults → Step s x t → IsLegalReply x.reply
 ask_faults_step s t x e d n f =
     let a : Does s (Ask AskFaults) x.reply x.entry t = subst (λ q. Does s q x.reply x.entry t) e d in
-    let no : Faults [] [] ≡ NoTicket n = sym a.0 ∙ f in cc
+    let no : Faults a.0 [] ≡ NoTicket n = sym a.2 ∙ f in cc
 
 ask_statuses_step : (s t : State) (x : Exchange) → x.event ≡ Ask AskStatuses → Step s x t → IsLegalReply x.reply
 ask_statuses_step s t x e d n f =
@@ -120,7 +121,7 @@ module _ (answers : Sequent → Attempt → Type 0) (sure : Sequent → Type 0) 
       let edited = edits_fresh parts edits (opened no_texts) s are cut.1 opened_fresh in
       let built = build_step s m build is cut.2.1 edited.0 in
       let b : Does s Build build.reply build.entry m = subst (λ q. Does s q build.reply build.entry m) is cut.2.1 in
-      let table : IsTable m.durable.built b.0 = subst (λ u. IsTable u.durable.built b.0) (sym b.4) b.1 in
+      let table : IsTable m.durable.built b.0 = subst (λ u. IsTable u.durable.built b.0) (sym b.6) b.2 in
       let w = turns_worked answers sure turns [] b.0 m t [] table (distinct_table m.durable.built b.0 table) (fresh_worked sure b.0 m built.0) turned cut.2.2 in
       record {
         before = w.0;
@@ -145,9 +146,9 @@ module _ (answers : Sequent → Attempt → Type 0) (sure : Sequent → Type 0) 
   left_over s turns exchanges o more (inr (tried, inr has)) unsettled = inr (more has)
 
   -- a whole run leaves no sure obligation unproved, unless memory ran out over it
-  pub whole_complete : (parts : List Component) (shown : List (List ℕ × Status)) (exchanges : List Exchange) (t : State) →
-      IsWhole answers sure parts shown exchanges → Run (opened no_texts) exchanges t → IsComplete sure t.durable exchanges
-  whole_complete parts shown exchanges t w run =
+  pub whole_complete : (parts : List Component) (told : List FaultLine) (shown : List (List ℕ × Status)) (exchanges : List Exchange) (t : State) →
+      IsWhole answers sure parts told shown exchanges → Run (opened no_texts) exchanges t → IsComplete sure t.durable exchanges
+  whole_complete parts told shown exchanges t w run =
       let end = w.nothing ∷ w.faults ∷ w.statuses ∷ [] in
       let cut = Run-split (opened no_texts) t (w.edits ++ w.build ∷ w.turns) end (subst (λ xs. Run (opened no_texts) xs t) w.in_order run) in
       let s = cut.0 in
@@ -162,7 +163,7 @@ module _ (answers : Sequent → Attempt → Type 0) (sure : Sequent → Type 0) 
       let f : Does m (Ask AskFaults) w.faults.reply w.faults.entry n = subst (λ e. Does m e w.faults.reply w.faults.entry n) w.faults_is.0 cut.2.2.1 in
       let q = cut.2.2.2.0 in
       let a : Does n (Ask AskStatuses) w.statuses.reply w.statuses.entry q = subst (λ e. Does n e w.statuses.reply w.statuses.entry q) w.statuses_is.0 cut.2.2.2.1 in
-      let same : t ≡ s = cut.2.2.2.2 ∙ a.6 ∙ f.2 ∙ left.1 in
+      let same : t ≡ s = cut.2.2.2.2 ∙ a.6 ∙ f.4 ∙ left.1 in
       let whole : begins.before ++ begins.ahead ≡ begins.before = ap (λ os. begins.before ++ os) left.0 ∙ append-nil begins.before in
       subst (λ u. IsComplete sure u.durable exchanges) (sym same) (
         begins.before,

@@ -5,6 +5,7 @@ use Rattle.std.specs.Prelude.{Option, Some, None}
 use Rattle.std.specs.Io.KnownBytes.{Keeps}
 use Rattle.sequent_core.specs.declared.Sequent.{Sequent}
 use Rattle.sequent_core.specs.declared.Attempt.{Attempt}
+use Rattle.status_core.specs.declared.FaultLine.{FaultLine}
 use Rattle.status_core.specs.declared.Status.{Status}
 use Rattle.status_core.specs.declared.Event.{Event}
 use Rattle.status_core.specs.declared.Event.TheVariants.{Build, Take, Ask}
@@ -75,8 +76,8 @@ module _ (answers : Sequent → Attempt → Type 0) (sure : Sequent → Type 0) 
   )
 
   -- a whole run is a front of one
-  pub front_of_whole : (shown : List (List ℕ × Status)) (exchanges : List Exchange) → IsWhole answers sure parts shown exchanges → IsFront answers sure parts exchanges
-  front_of_whole shown exchanges w =
+  pub front_of_whole : (told : List FaultLine) (shown : List (List ℕ × Status)) (exchanges : List Exchange) → IsWhole answers sure parts told shown exchanges → IsFront answers sure parts exchanges
+  front_of_whole told shown exchanges w =
       inr (
         w.edits,
         w.build,

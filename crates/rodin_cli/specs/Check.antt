@@ -9,15 +9,17 @@ use Rattle.sequent_core.specs.declared.Attempt.{Attempt}
 use Rattle.sequent_core.specs.declared.Tree.{Tree}
 use Rattle.sequent_core.specs.Trees.{Derives}
 use Rattle.status_core.specs.declared.Durable.{Durable}
+use Rattle.status_core.specs.declared.FaultLine.{FaultLine}
 use Rattle.status_core.specs.declared.Status.{Status}
 use Rattle.status_core.specs.declared.Status.TheVariants.{Discharged}
 use Rattle.status_core.specs.Status.{Shows}
+use Rattle.status_core.specs.Faults.{AreFaults}
 use Rattle.status_core.specs.Table.{IsTable}
 use Rattle.status_core.specs.State.{State, opened, no_texts, after}
 use Rattle.status_core.specs.Run.{Exchange, Run, IsLegal, history_of}
 use Rattle.rodin_cli.specs.declared.outcome.Part.{Part}
 use Rattle.rodin_cli.specs.Streams.{Reading, Writing, SourceFailed, Writes, WritesCut, WritesOrFails, WritesNothing, Takes, Ends}
-use Rattle.rodin_cli.specs.Texts.{status_lines}
+use Rattle.rodin_cli.specs.Texts.{printed}
 use Rattle.rodin_cli.specs.Parts.{Component, IsMadeOf}
 use Rattle.rodin_cli.specs.Script.{IsWhole, IsFront}
 use Rattle.rodin_cli.specs.Completeness.{IsComplete}
@@ -46,18 +48,29 @@ IsProvedWhereDischarged d o shown =
 abbrev pub IsProved : Durable → List (List ℕ × Status) → Type 0
 IsProved d shown = (table : List Obligation) × IsTable d.built table × AllZip (IsProvedWhereDischarged d) table shown
 
--- the input is made of parts, the run is whole, and the statuses that it shows are written
+-- the faults that are told are those of the texts of the last build
+abbrev pub TellsFaults : Durable → List FaultLine → Type 0
+TellsFaults d told = AreFaults d.built told
+
+-- the status of an answer that is written: 1 where a fault is told
+abbrev pub status_of : List FaultLine → ℕ
+status_of [] = 0
+status_of (f ∷ told) = 1
+
+-- the input is made of parts, the run is whole, and the faults that it tells and the statuses that it shows are written
 pub record IsAnswered (answers : Sequent → Attempt → Type 0) (sure : Sequent → Type 0) (bytes : List ℕ) (sink : Writing) (part : Part) : Type 0 where
   pub parts : List Component
   pub made : IsMadeOf bytes parts
   pub exchanges : List Exchange
+  pub told : List FaultLine
   pub shown : List (List ℕ × Status)
-  pub whole : IsWhole answers sure parts shown exchanges
+  pub whole : IsWhole answers sure parts told shown exchanges
   pub leads : Leads part exchanges
+  pub faults : TellsFaults part.last told
   pub clean : IsCleanRebuild part.last shown
   pub proved : IsProved part.last shown
   pub complete : IsComplete sure part.last exchanges
-  pub text : ((part.status ≡ 0) × Writes sink (status_lines shown)) ⊎ ((part.status ≡ 4) × WritesCut sink (status_lines shown))
+  pub text : ((part.status ≡ status_of told) × Writes sink (printed told shown)) ⊎ ((part.status ≡ 4) × WritesCut sink (printed told shown))
 
 -- nothing was done
 abbrev pub HasNoHistory : Part → Type 0

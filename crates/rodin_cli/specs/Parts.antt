@@ -1,15 +1,16 @@
 -- The parts of an input.
-use Rattle.std.specs.Prelude.{◌≡◌, ℕ, ◌≤◌, Bool, true, false, not, ◌||◌, ◌&&◌, ◌==◌, nat_eq, nat_lt, List, [], ◌∷◌, length, take, drop, bytes_eq, codes, Option, Some, None, if◌then◌else◌}
+use Rattle.std.specs.Prelude.{◌≡◌, ◌⊎◌, ℕ, ◌≤◌, Bool, true, false, not, ◌||◌, ◌&&◌, ◌==◌, nat_eq, nat_lt, List, [], ◌∷◌, length, take, drop, bytes_eq, codes, Option, Some, None, if◌then◌else◌}
 use Rattle.std.specs.List.{flat_map, take_while}
 use Rattle.std.specs.Option.{option_to_list}
 use Rattle.std.specs.Str.{IsUtf8}
 use Rattle.std.specs.Str.Lines.{lines}
 use Rattle.formula_core.specs.Names.{is_identifier, is_in_word, prime}
-use Rattle.camille_text.specs.declared.context.FirstContext.{FirstContext}
-use Rattle.camille_text.specs.FirstContexts.{IsFirstContext}
+use Rattle.model_core.specs.declared.fault.Fault.{Fault}
+use Rattle.first_context.specs.declared.context.FirstContext.{FirstContext}
+use Rattle.first_context.specs.FirstContexts.{IsFirstContext, HasFault}
 
 abbrev pub is_ascii_blank : ℕ → Bool
-is_ascii_blank c = c == 32 || c == 9 || c == 13 || c == 10
+is_ascii_blank c = c == 32 || (c == 9 || (c == 13 || c == 10))
 
 -- what stands behind the blanks with which the bytes begin
 abbrev pub past_blanks : List ℕ → List ℕ
@@ -49,11 +50,15 @@ headings_of text = flat_map (λ line. option_to_list (heading_of line)) (lines t
 abbrev pub Component : Type 0
 Component = List ℕ × List ℕ
 
--- The parts of an input of at most 65,536 bytes of UTF-8: a blank input has none, and one with one heading line, which
--- is a first context of that name, is one part.
+-- the text is one of a first context of the name, or has a fault
+abbrev pub IsBuilt : List ℕ → List ℕ → Type 0
+IsBuilt name text = ((c : FirstContext) × IsFirstContext name text c) ⊎ ((f : Fault) × HasFault name text f)
+
+-- The parts of an input of at most 65,536 bytes of UTF-8: a blank input has none, and one with one heading line is one
+-- part of that name, unless it is one of a component that is no first context.
 abbrev pub IsMadeOf : List ℕ → List Component → Type 0
 IsMadeOf bytes [] = (length bytes ≤ 65536) × (is_blank_text bytes ≡ true)
 IsMadeOf bytes (part ∷ []) =
     (length bytes ≤ 65536) × IsUtf8 bytes × (is_blank_text bytes ≡ false) × (headings_of bytes ≡ part.0 ∷ []) × (part.1 ≡ bytes)
-    × ((c : FirstContext) × IsFirstContext part.0 bytes c)
+    × IsBuilt part.0 bytes
 IsMadeOf bytes (part ∷ other ∷ parts) = ⊥

@@ -6,6 +6,7 @@ use Rattle.sequent_core.specs.declared.Ticket.{Ticket}
 use Rattle.sequent_core.specs.declared.Attempt.{Attempt}
 use Rattle.sequent_core.specs.Provers.{IsFair}
 use Rattle.status_core.specs.declared.Status.{Status}
+use Rattle.status_core.specs.declared.FaultLine.{FaultLine}
 use Rattle.status_core.specs.declared.Event.TheVariants.{Edit, Build, Take, Finish, Ask}
 use Rattle.status_core.specs.declared.Question.TheVariants.{Statuses as AskStatuses, Faults as AskFaults}
 use Rattle.status_core.specs.declared.Reply.TheVariants.{Nothing, Taken, Statuses, Faults}
@@ -43,8 +44,8 @@ IsEndFront (x ∷ []) = x.event ≡ Take None
 IsEndFront (x ∷ y ∷ []) = (x.event ≡ Take None) × (x.reply ≡ Nothing) × (y.event ≡ Ask AskFaults)
 IsEndFront (x ∷ y ∷ z ∷ exchanges) = (x.event ≡ Take None) × (x.reply ≡ Nothing) × (y.event ≡ Ask AskFaults) × (z.event ≡ Ask AskStatuses) × (exchanges ≡ [])
 
--- a whole run of `check`, which shows these statuses
-pub record IsWhole (answers : Sequent → Attempt → Type 0) (sure : Sequent → Type 0) (parts : List Component) (shown : List (List ℕ × Status)) (exchanges : List Exchange) : Type 0 where
+-- a whole run of `check`, which tells these faults and shows these statuses
+pub record IsWhole (answers : Sequent → Attempt → Type 0) (sure : Sequent → Type 0) (parts : List Component) (told : List FaultLine) (shown : List (List ℕ × Status)) (exchanges : List Exchange) : Type 0 where
   pub edits : List Exchange
   pub build : Exchange
   pub turns : List Exchange
@@ -56,7 +57,7 @@ pub record IsWhole (answers : Sequent → Attempt → Type 0) (sure : Sequent �
   pub build_is : build.event ≡ Build
   pub turns_are : AreTurns answers sure turns
   pub nothing_is : (nothing.event ≡ Take None) × (nothing.reply ≡ Nothing)
-  pub faults_is : (faults.event ≡ Ask AskFaults) × (faults.reply ≡ Faults [] [])
+  pub faults_is : (faults.event ≡ Ask AskFaults) × (faults.reply ≡ Faults told [])
   pub statuses_is : (statuses.event ≡ Ask AskStatuses) × (statuses.reply ≡ Statuses shown)
 
 -- a front of a run of `check`

@@ -1,5 +1,5 @@
-// `check`: the whole input is read, built and proved, and the statuses are printed.
-ghost use Rattle.std.specs.Prelude.{◌≡◌, ◌⊎◌, ◌≤◌, ◌<◌, ◌+◌, ◌^◌, ◌++◌, ◌∷◌, [], None, List, IfOk, OnOk, OnErr, MatchBool};
+// `check`: the whole input is read, built and proved, and the faults and the statuses are printed.
+ghost use Rattle.std.specs.Prelude.{◌≡◌, ◌≢◌, ◌⊎◌, ◌≤◌, ◌<◌, ◌+◌, ◌^◌, ◌++◌, ◌∷◌, [], None, List, IfOk, OnOk, OnErr, MatchBool};
 ghost use Rattle.std.specs.Io.KnownBytes.{IsAtEnd};
 ghost use Rattle.outside.specs.Cause.{Rose};
 ghost use Rattle.sequent_core.specs.declared.Obligation.{Obligation};
@@ -11,17 +11,17 @@ ghost use Rattle.status_core.specs.State.{opened, no_texts, IsFresh};
 ghost use Rattle.rodin_cli.specs.Script.{AreEdits, AreFirstEdits, AreTurns, IsTurn, IsEndFront, IsWhole, IsFront};
 ghost use Rattle.rodin_cli.specs.Session.{Extends, IsUnchanged};
 ghost use Rattle.rodin_cli.specs.Streams.{reading, writing};
-ghost use Rattle.rodin_cli.specs.Check.{HasNoHistory, EndsWithLine, ComesOf, Checks};
+ghost use Rattle.rodin_cli.specs.Check.{HasNoHistory, EndsWithLine, ComesOf, Checks, status_of};
 
 use crate::outcome::Part;
 use crate::parts::parts_of;
 use crate::session::{Session, ask_faults, ask_statuses, build, edit, finish, take};
 use crate::streams::{InputError, read_input, write_text};
-use crate::texts::status_lines;
+use crate::texts::printed;
 use formula_core::{List, Name, OutOfMemory, PoName, Text};
 use outside::{Sink, Source};
 use sequent_core::Prover;
-use status_core::{Core, Durable, Status};
+use status_core::{Core, Durable, FaultLine, Status};
 use std::alloc::Global;
 
 // Edits each part.
@@ -86,16 +86,23 @@ fn turns<P: Prover>(alloc: Global, prover: &P, session: &mut Session) -> Result<
     unreachable!()
 }
 
+/// What is told and shown at the end.
+#[derive(Drop)]
+struct Shown {
+    faults: List<FaultLine>,
+    statuses: List<(PoName, Status)>,
+}
+
 // Asks for the faults and the statuses.
-fn ask(session: &mut Session) -> Result<List<(PoName, Status)>, OutOfMemory>
-    ensures whole { IfOk result (λ shown. (x : Exchange) × (y : Exchange) × (x.event ≡ Event.Ask Question.Faults) × (x.reply ≡ Reply.Faults [] [])
-        × (y.event ≡ Event.Ask Question.Statuses) × (y.reply ≡ Reply.Statuses shown) × Extends session.old (x ∷ y ∷ []) session.new) }
+fn ask(session: &mut Session) -> Result<Shown, OutOfMemory>
+    ensures whole { IfOk result (λ shown. (x : Exchange) × (y : Exchange) × (x.event ≡ Event.Ask Question.Faults) × (x.reply ≡ Reply.Faults shown.faults [])
+        × (y.event ≡ Event.Ask Question.Statuses) × (y.reply ≡ Reply.Statuses shown.statuses) × Extends session.old (x ∷ y ∷ []) session.new) }
     ensures front { OnErr result (IsUnchanged session.old session.new
         ⊎ ((x : Exchange) × (x.event ≡ Event.Ask Question.Faults) × Extends session.old (x ∷ []) session.new)) }
 {
-    ask_faults(session)?;
+    let faults = ask_faults(session)?;
     match ask_statuses(session) {
-        Ok(shown) => Ok(shown),
+        Ok(statuses) => Ok(Shown { faults, statuses }),
         Err(error) => Err(error),
     }
 }
@@ -106,10 +113,10 @@ fn play<P: Prover>(
     prover: &P,
     session: &mut Session,
     parts: Vec<(Name, Text)>,
-) -> Result<List<(PoName, Status)>, OutOfMemory>
+) -> Result<Shown, OutOfMemory>
     requires { session.old.core ≡ opened no_texts }
     ensures whole { IfOk result (λ shown. (exchanges : List Exchange)
-        × IsWhole (P.answers prover.now) (P.sure prover.now) parts.items shown exchanges × Extends session.old exchanges session.new) }
+        × IsWhole (P.answers prover.now) (P.sure prover.now) parts.items shown.faults shown.statuses exchanges × Extends session.old exchanges session.new) }
     ensures front { OnErr result ((exchanges : List Exchange)
         × IsFront (P.answers prover.now) (P.sure prover.now) parts.items exchanges × Extends session.old exchanges session.new) }
 {
@@ -161,6 +168,13 @@ pub fn ends_with_line<O: Sink>(alloc: Global, output: &mut O, status: u8, line: 
     }
 }
 
+// 1 where a fault is told.
+fn status_of(told: &[FaultLine]) -> u8
+    ensures { result ≡ status_of told.now }
+{
+    if told.is_empty() { 0 } else { 1 }
+}
+
 // Builds and proves an input of these bytes.
 fn check_bytes<O: Sink, P: Prover>(alloc: Global, bytes: &[u8], output: &mut O, prover: &P) -> Part
     ensures { ComesOf (P.answers prover.now) (P.sure prover.now) bytes.now (writing (O.written output.old) (O.written output.new) (O.faults output.old) (O.faults output.new)) result }
@@ -181,18 +195,19 @@ fn check_bytes<O: Sink, P: Prover>(alloc: Global, bytes: &[u8], output: &mut O, 
         Ok(shown) => shown,
         Err(_) => return part_from(session, 9),
     };
-    let text = match status_lines(alloc, shown.items()) {
+    let text = match printed(alloc, shown.faults.items(), shown.statuses.items()) {
         Ok(text) => text,
         Err(_) => return part_from(session, 9),
     };
-    match write_text(output, &text) {
-        Ok(()) => part_from(session, 0),
+    match write_text(output, text.as_str().as_bytes()) {
+        Ok(()) => part_from(session, status_of(shown.faults.items())),
         Err(_) => part_from(session, 4),
     }
 }
 
-/// Reads the whole input, builds and proves it, and prints the status of each obligation. The exit status is 0, 1 for
-/// an input that isn't built, 3 for a read fault, 4 for a write fault, and 9 where memory ran out.
+/// Reads the whole input, builds and proves it, and prints each fault and the status of each obligation. The exit status
+/// is 0, 1 for an input with a fault or one that isn't built, 3 for a read fault, 4 for a write fault, and 9 where memory
+/// ran out.
 pub fn run_check<I: Source, O: Sink, P: Prover>(
     alloc: Global,
     input: &mut I,
@@ -202,7 +217,7 @@ pub fn run_check<I: Source, O: Sink, P: Prover>(
     ensures checked { Checks (P.answers prover.now) (P.sure prover.now)
         (reading (I.left input.old) (I.left input.new) (I.faults input.old) (I.faults input.new))
         (writing (O.written output.old) (O.written output.new) (O.faults output.old) (O.faults output.new)) result }
-    ensures ended { (result.status ≡ 0) ⊎ (result.status ≡ 4) → IsAtEnd (I.left input.new) }
+    ensures ended { (result.status ≡ 0) ⊎ (result.status ≡ 4) ⊎ ((result.status ≡ 1) × (result.history.items ≢ [])) → IsAtEnd (I.left input.new) }
     ensures read_fault { result.status ≡ 3 → Rose (I.faults input.old) (I.faults input.new) }
     ensures write_fault { result.status ≡ 4 → Rose (O.faults output.old) (O.faults output.new) }
     ensures without_faults { (Rose (I.faults input.old) (I.faults input.new) → ⊥) → (Rose (O.faults output.old) (O.faults output.new) → ⊥)

@@ -1,12 +1,14 @@
 // The parts of an input.
-ghost use Rattle.std.specs.Prelude.{◌≡◌, ◌≤◌, List, length, map, true, false, IfOk, IfSome};
+ghost use Rattle.std.specs.Prelude.{◌≡◌, ◌≢◌, ◌≤◌, ◌↔◌, List, [], ◌∷◌, length, map, true, false, None, IfOk, IfSome, IsTrue};
 ghost use Rattle.std.specs.List.{prefix_len};
 ghost use Rattle.std.specs.Option.{option_map};
 ghost use Rattle.formula_core.specs.Names.{is_in_word, is_identifier};
-ghost use Rattle.rodin_cli.specs.Parts.{Component, is_blank_text, past_blanks, goes_on_with_prime, name_in_front, is_heading_word, heading_of, headings_of, IsMadeOf};
+ghost use Rattle.rodin_cli.specs.Parts.{Component, is_blank_text, past_blanks, goes_on_with_prime, name_in_front, is_heading_word, heading_of, headings_of, IsBuilt, IsMadeOf};
 
-use camille_text::{blank_length, read_first_context};
+use component_text::ReadFault;
+use first_context::read_first_context;
 use formula_core::{Name, NameFault, OutOfMemory, Text, is_identifier, is_in_word};
+use math_tokens::blank_length;
 use std::alloc::Global;
 
 /// The most bytes of an input.
@@ -40,17 +42,40 @@ fn one_part(alloc: Global, text: &str) -> Result<Option<Vec<(Name, Text)>>, OutO
     ensures refused { IfOk result (λ made. made ≡ None → (parts : List Component) → IsMadeOf text.now parts → ⊥) }
 {
     let names = headings(alloc, text)?;
-    let [word] = names.as_slice() else {
+    let Some(word) = only(&names) else {
         return Ok(None);
     };
     let name = name_of(alloc, word)?;
-    if read_first_context(alloc, &name, text)?.is_none() {
+    if !is_built(alloc, &name, text)? {
         return Ok(None);
     }
     let text = Text::of(alloc, text)?;
     let mut parts = Vec::new(alloc);
     parts.push((name, text))?;
     Ok(Some(parts))
+}
+
+/// The name of a list that has no other.
+fn only<'a>(names: &[&'a [u8]]) -> Option<&'a [u8]>
+    ensures one { IfSome result (λ name. map (λ n. n.now) names.entry.now ≡ name.now ∷ []) }
+    ensures others { result ≡ None → length names.entry.now ≢ 1 }
+{
+    match names {
+        [name] => Some(name),
+        _ => None,
+    }
+}
+
+/// Whether the text is one of a first context, or has a fault.
+fn is_built(alloc: Global, name: &Name, text: &str) -> Result<bool, OutOfMemory>
+    requires { length text.now ≤ 65536 }
+    ensures { IfOk result (λ built. IsTrue built ↔ IsBuilt name.now text.now) }
+{
+    match read_first_context(alloc, name, text) {
+        Ok(read) => Ok(read.is_some()),
+        Err(ReadFault::Fault(_)) => Ok(true),
+        Err(ReadFault::OutOfMemory) => Err(OutOfMemory),
+    }
 }
 
 /// The name that an identifier is.

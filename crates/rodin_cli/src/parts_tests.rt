@@ -4,7 +4,7 @@ use std::alloc::Global;
 use std::test::Fail;
 
 /// Each input with the names of its parts, where it is made of parts.
-const INPUTS: [(&[u8], Option<&[&str]>); 20] = [
+const INPUTS: [(&[u8], Option<&[&str]>); 24] = [
     (b"", Some(&[])),
     (b" \t\r\n", Some(&[])),
     (b"\xc2\xa0 \xc2\xa0", Some(&[])),
@@ -21,14 +21,18 @@ const INPUTS: [(&[u8], Option<&[&str]>); 20] = [
     (b"context c0' end", None),
     (b"context mod end", None),
     (b"contextc0 end", None),
-    (b"context c0", None),
+    (b"context c0", Some(&["c0"])),
+    (b"context c0 ? end", Some(&["c0"])),
+    (b"context c0 // end\nend", Some(&["c0"])),
+    (b"context c0 extends c1 end", None),
+    (b"machine m0", Some(&["m0"])),
     (b"context c0\nend\n\xff", None),
     (b"\xc2", None),
     (b"end", None),
 ];
 
 #[test]
-fn reads_one_first_context_or_blanks(rt: HostRuntime) -> Result<(), Fail> {
+fn finds_one_part_or_none(rt: HostRuntime) -> Result<(), Fail> {
     for (bytes, expected) in &INPUTS {
         let parts = parts_of(rt.alloc(), bytes)?;
         match (parts, expected) {

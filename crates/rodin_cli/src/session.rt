@@ -8,7 +8,7 @@ ghost use Rattle.rodin_cli.specs.Session.{Performs, IsUnchanged};
 
 use formula_core::{List, Name, OutOfMemory, PoName, Text};
 use sequent_core::{Attempt, Ticket};
-use status_core::{Core, Event, Question, Status};
+use status_core::{Core, Event, FaultLine, Question, Status};
 
 /// A core, and the events that it performed, each with its chair.
 #[derive(Drop)]
@@ -73,14 +73,15 @@ pub fn finish(session: &mut Session, number: u64, attempt: Attempt) -> Result<()
     Ok(())
 }
 
-/// Asks for the faults: there are none yet.
-pub fn ask_faults(session: &mut Session) -> Result<(), OutOfMemory>
-    ensures done { IfOk result (λ _. Performs session.old (Event.Ask Question.Faults) (Reply.Faults [] []) session.new) }
+/// Asks for the faults of the built texts.
+pub fn ask_faults(session: &mut Session) -> Result<List<FaultLine>, OutOfMemory>
+    ensures done { IfOk result (λ told. Performs session.old (Event.Ask Question.Faults) (Reply.Faults told []) session.new) }
     ensures err { OnErr result (IsUnchanged session.old session.new) }
 {
     session.history.reserve(1)?;
+    let told = session.core.faults()?;
     note(&mut session.history, Event::Ask(Question::Faults));
-    Ok(())
+    Ok(told)
 }
 
 /// Asks for the status of each obligation.

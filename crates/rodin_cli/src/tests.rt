@@ -54,7 +54,7 @@ fn outcome<R: Threads + Wait + Sync>(
 
 #[test]
 fn first_contexts_are_checked(rt: HostRuntime) -> Result<(), Fail> {
-    let rows: [(&str, u8, &str, usize); 14] = [
+    let rows: [(&str, u8, &str, usize); 16] = [
         (FIRST, 0, DISCHARGED, 7),
         ("", 0, "", 4),
         (" \t\r\n\u{a0}", 0, "", 4),
@@ -71,7 +71,12 @@ fn first_contexts_are_checked(rt: HostRuntime) -> Result<(), Fail> {
             DISCHARGED,
             7,
         ),
-        ("\n\tsets\ncontext c0 end", 1, NOT_BUILT, 0),
+        (
+            "\n\tsets\ncontext c0 end",
+            1,
+            "fault c0 3 2:2 unexpected \"sets\"\n",
+            5,
+        ),
         (
             "\n\ncontext\u{a0}c0\tsets\rS\n constants a\naxioms @axm1 a∈S theorem@thm1 a ∈ S end",
             0,
@@ -82,7 +87,9 @@ fn first_contexts_are_checked(rt: HostRuntime) -> Result<(), Fail> {
         (" context c0 end", 1, NOT_BUILT, 0),
         ("context c0\nend\ncontext c1\nend", 1, NOT_BUILT, 0),
         ("context c0\nend\nmachine m0", 1, NOT_BUILT, 0),
-        ("context c0 // a comment\nend", 1, NOT_BUILT, 0),
+        ("context c0 // a comment\nend", 0, "", 5),
+        ("context c0 extends c1 end", 1, NOT_BUILT, 0),
+        ("machine m0 end", 1, NOT_BUILT, 0),
         (
             "context c0\nconstants a\naxioms\n@axm1 a ∈ S\nend",
             1,
@@ -104,6 +111,76 @@ fn first_contexts_are_checked(rt: HostRuntime) -> Result<(), Fail> {
         assert_eq!(rt; bytes.as_slice(), printed.as_bytes(), "bytes of {text:?}");
         assert_eq!(rt; count, events, "events of {text:?}");
     }
+    Ok(())
+}
+
+/// Contexts with a fault, each with the line that is printed.
+const FAULTS: [(&str, &str); 10] = [
+    (
+        "context c0\nsets S\nconstants a\naxioms\n  @axm1 a ∈\nend\n",
+        "fault c0 3 6:1 unexpected \"end\"\n",
+    ),
+    (
+        "context c0 /*\nend\n",
+        "fault c0 5 1:12 comment not closed\n",
+    ),
+    (
+        "context c0\nconstants nnnnnnnnnnnnnnnnnnnnnnnnnnnnnnnnnnnnnnnnnnnnnnnnnnnnnnnnnnnnnnnnn\nend\n",
+        "fault c0 1 2:11 bad sign\n",
+    ),
+    (
+        "context c0\nconstants n\naxioms\n  @axm1 n = 170141183460469231731687303715884105728\nend\n",
+        "fault c0 2 4:13 number too wide\n",
+    ),
+    (
+        "context c0\nconstants n\naxioms\n  @axm1 n = (((((((((((((((((((((((((((((((((((((((((((((((((((((((((((((((((((((((((((((((((((((((((((((((((((((((((((((((((((((((((((((((((1)))))))))))))))))))))))))))))))))))))))))))))))))))))))))))))))))))))))))))))))))))))))))))))))))))))))))))))))))))))))))))))))))\nend\n",
+        "fault c0 4 4:141 formula too large\n",
+    ),
+    ("context c0", "fault c0 3 1:11 unexpected end of text\n"),
+    ("context c0\n", "fault c0 3 2:1 unexpected end of text\n"),
+    (
+        "// the first\ncontext c0 sets S axioms @axm1 @axm2 S = S end",
+        "fault c0 3 2:32 unexpected \"@axm2\"\n",
+    ),
+    (
+        "context c0 axioms @a ∀x·x ∈ ∈ end",
+        "fault c0 3 1:29 unexpected \"∈\"\n",
+    ),
+    (
+        "machine m0\n end end",
+        "fault m0 3 2:6 unexpected \"end\"\n",
+    ),
+];
+
+#[test]
+fn the_first_fault_is_told(rt: HostRuntime) -> Result<(), Fail> {
+    for (text, printed) in &FAULTS {
+        let (status, bytes, events) = outcome(
+            &rt,
+            rt.alloc(),
+            &["check"],
+            text.as_bytes(),
+            4096,
+            &[],
+            200,
+        )?;
+        assert_eq!(rt; bytes.as_slice(), printed.as_bytes(), "bytes of {text:?}");
+        assert_eq!(rt; status, 1, "status of {text:?}");
+        assert_eq!(rt; events, 5, "events of {text:?}");
+    }
+    let (text, _) = FAULTS[0];
+    let (status, bytes, events) = outcome(
+        &rt,
+        rt.alloc(),
+        &["check"],
+        text.as_bytes(),
+        4096,
+        &[],
+        9,
+    )?;
+    assert_eq!(rt; status, 4);
+    assert_eq!(rt; bytes.as_slice(), "fault c0 ".as_bytes());
+    assert_eq!(rt; events, 5);
     Ok(())
 }
 

@@ -17,8 +17,10 @@ use Rattle.status_core.specs.declared.events.Event.{Event}
 use Rattle.status_core.specs.declared.events.Event.TheVariants.{Edit, Build, Take, Finish, Ask}
 use Rattle.status_core.specs.declared.events.Entry.{Entry}
 use Rattle.status_core.specs.declared.events.Entry.TheVariants.{Put, Build as BuildEntry, SetProof}
+use Rattle.status_core.specs.declared.events.FaultLine.{FaultLine}
 use Rattle.status_core.specs.declared.events.Reply.{Reply}
 use Rattle.status_core.specs.declared.events.Reply.TheVariants.{BadName, TextTooLong, ProjectFull, Edited, Built, NoObligation, Nothing, Taken, NotOpen, NoTicket, Noted, NoMemory, Stored, Refused, Stale, Statuses, Faults}
+use Rattle.status_core.specs.Faults.{AreFaults}
 use Rattle.status_core.specs.Table.{IsTable, IsPresent}
 use Rattle.status_core.specs.Status.{IsStatus, IsUnsettledBy, Shows}
 use Rattle.status_core.specs.State.{State, entered}
@@ -121,8 +123,8 @@ Finishes s table ticket (Found tree) reply entry new =
 abbrev pub Does : State → Event → Reply → Option Entry → State → Type 0
 Does s (Edit name text) reply entry new = Edits s name text reply entry new
 Does s Build reply entry new =
-    (table : List Obligation) × IsTable s.durable.texts table × (reply ≡ Built (len s.durable.texts) 0 (length table))
-    × (entry ≡ Some BuildEntry) × (new ≡ record s { durable = entered s.durable BuildEntry })
+    (table : List Obligation) × (faults : List FaultLine) × IsTable s.durable.texts table × AreFaults s.durable.texts faults
+    × (reply ≡ Built (len s.durable.texts) (length faults) (length table)) × (entry ≡ Some BuildEntry) × (new ≡ record s { durable = entered s.durable BuildEntry })
 Does s (Take None) reply entry new =
     (table : List Obligation) × IsTable s.durable.built table × TakesFirst s table reply new × (entry ≡ None)
 Does s (Take (Some name)) reply entry new =
@@ -132,7 +134,8 @@ Does s (Finish number attempt) reply entry new =
     × ((AllByRecursion (λ ticket. ticket.number ≢ number) s.out × (reply ≡ NoTicket number) × (entry ≡ None) × (new ≡ s))
     ⊎ ((before : List Ticket) × (ticket : Ticket) × (behind : List Ticket) × (s.out ≡ before ++ ticket ∷ behind) × (ticket.number ≡ number)
     × Finishes (record s { out = before ++ behind }) table ticket attempt reply entry new))
-Does s (Ask AskFaults) reply entry new = (reply ≡ Faults [] []) × (entry ≡ None) × (new ≡ s)
+Does s (Ask AskFaults) reply entry new =
+    (faults : List FaultLine) × AreFaults s.durable.built faults × (reply ≡ Faults faults []) × (entry ≡ None) × (new ≡ s)
 Does s (Ask AskStatuses) reply entry new =
     (table : List Obligation) × (shown : List (List ℕ × Status)) × IsTable s.durable.built table × AllZip (Shows s.durable.proofs) table shown
     × (reply ≡ Statuses shown) × (entry ≡ None) × (new ≡ s)

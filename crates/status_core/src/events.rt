@@ -1,6 +1,10 @@
 // Events, their replies, and what they add to the record of a project.
-use formula_core::{List, Name, PoName, Text};
+ghost use Rattle.std.specs.Prelude.{◌≡◌, IfOk};
+
+use formula_core::{List, Name, OutOfMemory, PoName, Text};
+use model_core::Fault;
 use sequent_core::{Attempt, Ticket, Tree};
+use std::alloc::Global;
 
 /// What is known of an obligation's stored proof.
 #[derive(Debug, PartialEq, Eq, Clone, Copy)]
@@ -49,21 +53,31 @@ pub enum Entry {
     SetProof(PoName, Tree),
 }
 
-/// A fault of a component: its kind by number, the byte of the text at which it stands, and the words that it shows.
-#[derive(Drop)]
-pub struct Fault {
-    pub component: Name,
-    pub kind: u8,
-    pub place: u32,
-    pub words: Text,
-}
-
 /// A fault with the line and the column of its place in the built text, both from 1, columns in characters.
 #[derive(Drop)]
 pub struct FaultLine {
     pub fault: Fault,
     pub line: u32,
     pub column: u32,
+}
+
+impl FaultLine {
+    /// A copy.
+    pub fn copy(&self, alloc: Global) -> Result<FaultLine, OutOfMemory>
+        ensures { IfOk result (λ copy. copy ≡ self.now) }
+    {
+        let fault = Fault {
+            component: self.fault.component.copy(alloc)?,
+            kind: self.fault.kind,
+            place: self.fault.place,
+            words: self.fault.words.copy(alloc)?,
+        };
+        Ok(FaultLine {
+            fault,
+            line: self.line,
+            column: self.column,
+        })
+    }
 }
 
 /// The reply to an event.

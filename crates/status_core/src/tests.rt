@@ -248,3 +248,60 @@ fn a_primed_name_is_refused(rt: HostRuntime) -> Result<(), Fail> {
     assert!(rt; edit(rt.alloc(), &mut core, "c0'", ONE)? == "bad name");
     Ok(())
 }
+
+/// Builds: the numbers of components, of faulted ones and of obligations.
+fn numbers(core: &mut Core) -> Result<(u32, u32, u32), OutOfMemory> {
+    match core.build()? {
+        Reply::Built(components, faulted, obligations) => Ok((components, faulted, obligations)),
+        _ => Ok((0, 0, 0)),
+    }
+}
+
+/// Whether the core tells these faults, in this order: component, kind, line, column and words.
+fn tells(core: &Core, expected: &[(&str, u8, u32, u32, &str)]) -> Result<bool, OutOfMemory> {
+    let told = core.faults()?;
+    let lines = told.items();
+    if lines.len() != expected.len() {
+        return Ok(false);
+    }
+    for i in 0..lines.len() {
+        let FaultLine {
+            fault,
+            line,
+            column,
+        } = &lines[i];
+        let (component, kind, at_line, at_column, words) = expected[i];
+        if fault.component.as_text() != component || fault.words.as_text() != words {
+            return Ok(false);
+        }
+        if fault.kind != kind || *line != at_line || *column != at_column {
+            return Ok(false);
+        }
+    }
+    Ok(true)
+}
+
+/// Sets the texts of four components: two have a fault, one is no first context.
+fn set_four(alloc: Global, core: &mut Core) -> Result<(), Fail> {
+    edit(alloc, core, "c1", "context c1\n  sets ?\nend")?;
+    edit(alloc, core, "a0", "context a0\naxioms\n  @m ∈\nend")?;
+    edit(alloc, core, "b0", "context b0 extends c1 end")?;
+    edit(alloc, core, "c0", ONE)?;
+    Ok(())
+}
+
+#[test]
+fn a_build_tells_the_first_fault_of_each_text(rt: HostRuntime) -> Result<(), Fail> {
+    let alloc = rt.alloc();
+    let mut core = Core::start(alloc, Durable::empty(alloc))?;
+    set_four(alloc, &mut core)?;
+    assert!(rt; tells(&core, &[])?);
+    assert_eq!(rt; numbers(&mut core)?, (4, 2, 1));
+    let both = [("a0", 3, 3, 6, "∈"), ("c1", 1, 2, 8, "")];
+    assert!(rt; tells(&core, &both)?);
+    edit(alloc, &mut core, "a0", "context a0 end")?;
+    assert!(rt; tells(&core, &both)?);
+    assert_eq!(rt; numbers(&mut core)?, (4, 1, 1));
+    assert!(rt; tells(&core, &both[1..])?);
+    Ok(())
+}

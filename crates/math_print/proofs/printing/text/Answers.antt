@@ -1,4 +1,4 @@
-use Rattle.std.proofs.Common.{arith, ◌≡◌, ◌+◌, ◌<◌, ◌^◌, ℕ, List, length, map}
+use Rattle.std.proofs.Common.{arith, ◌≡◌, ◌+◌, ◌<◌, ◌^◌, ℕ, List, length}
 use Rattle.std.proofs.lemmas.List.{length-map}
 use Rattle.std.specs.Map.{keys_of}
 use Rattle.formula_core.specs.declared.ty.Ty.{Ty}
@@ -11,5 +11,5 @@ use Rattle.math_print.proofs.printing.text.Goals as goal
 pub returns-clause-typed : goal.returns-clause-typed
 returns-clause-typed c =
     let same : length (keys_of (identifiers c.args.formula.now)) ≡ length (identifiers c.args.formula.now) = length-map (identifiers c.args.formula.now) (λ (e : List ℕ × Ty). e.0) in
-    let small : deepest c.args.formula.now + length (keys_of (identifiers c.args.formula.now)) < 2 ^ 64 = omega (arith, c.in_ok-names.ensures.small, same) in
+    let small : deepest c.args.formula.now + length (keys_of (identifiers c.args.formula.now)) < 2 ^ 64 = omega (arith, c.in_ok-names.ensures.held.counted, same) in
     typed_back c.args.formula.now c.requires (fresh (keys_of (identifiers c.args.formula.now)) (deepest c.args.formula.now) small)

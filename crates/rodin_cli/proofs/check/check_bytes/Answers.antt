@@ -2,6 +2,7 @@ use Rattle.std.proofs.Common.{◌∙◌, ap, inl, inr}
 use Rattle.status_core.specs.State.{opened}
 use Rattle.status_core.proofs.Projects.{empty_small}
 use Rattle.rodin_cli.specs.declared.session.Session.{Session}
+use Rattle.rodin_cli.specs.Check.{status_of}
 use Rattle.rodin_cli.proofs.Sessions.{front_of_whole, Keeps-same}
 use Rattle.rodin_cli.proofs.Answering.{answered, ran_out, ran_out_at_once}
 use Rattle.rodin_cli.proofs.check.check_bytes.Goals as goal
@@ -40,30 +41,30 @@ returns-in-Err-play g c =
     })
     c.args.bytes.now _ c.in-Ok-Some.parts.items c.part_from.ensures.status made front.1 (Keeps-same _)))
 
-pub returns-in-Err-status_lines : goal.returns-in-Err-status_lines
-returns-in-Err-status_lines g c =
+pub returns-in-Err-printed : goal.returns-in-Err-printed
+returns-in-Err-printed g c =
     let old : Session = record { core = c.in-Ok.core; history = c.new.result } in
     let answers = g.P.Prover.answers c.args.prover.now in
     let sure = g.P.Prover.sure c.args.prover.now in
     let whole = c.in-Ok-play.ensures.whole in
     let made = rw c.in-Ok-Some.field-0-is at c.in-Ok-Some.ensures.made in
-    inr (inr (ran_out answers sure old c.play.new.session whole.0 c.part_from-in-Err-status_lines.result
+    inr (inr (ran_out answers sure old c.play.new.session whole.0 c.part_from-in-Err-printed.result
     (record {
       fresh = c.in-Ok.ensures ∙ ap opened c.empty.ensures;
       empty = c.new.ensures.items;
       extends = whole.2;
-      history = c.part_from-in-Err-status_lines.ensures.history;
-      last = c.part_from-in-Err-status_lines.ensures.last;
+      history = c.part_from-in-Err-printed.ensures.history;
+      last = c.part_from-in-Err-printed.ensures.last;
     })
-    c.args.bytes.now _ c.in-Ok-Some.parts.items c.part_from-in-Err-status_lines.ensures.status made
-    (front_of_whole answers sure c.in-Ok-Some.parts.items c.in-Ok-play.shown whole.0 whole.1) (Keeps-same _)))
+    c.args.bytes.now _ c.in-Ok-Some.parts.items c.part_from-in-Err-printed.ensures.status made
+    (front_of_whole answers sure c.in-Ok-Some.parts.items c.in-Ok-play.shown.faults c.in-Ok-play.shown.statuses whole.0 whole.1) (Keeps-same _)))
 
 pub returns-in-Ok-write_text : goal.returns-in-Ok-write_text
 returns-in-Ok-write_text g c =
     let old : Session = record { core = c.in-Ok.core; history = c.new.result } in
     let whole = c.in-Ok-play.ensures.whole in
     let made = rw c.in-Ok-Some.field-0-is at c.in-Ok-Some.ensures.made in
-    let written = rw (c.deref.ensures.value, c.in-Ok-status_lines.ensures, c.items.ensures) at c.in-Ok-write_text.ensures.whole in
+    let written = rw (c.as_bytes.ensures.value, c.as_str.ensures.value, c.in-Ok-printed.ensures, c.items.ensures, c.items-2.ensures) at c.in-Ok-write_text.ensures.whole in
     inl (answered (g.P.Prover.answers c.args.prover.now) (g.P.Prover.sure c.args.prover.now) old c.play.new.session whole.0 c.part_from-in-Ok-write_text.result
     (record {
       fresh = c.in-Ok.ensures ∙ ap opened c.empty.ensures;
@@ -72,14 +73,14 @@ returns-in-Ok-write_text g c =
       history = c.part_from-in-Ok-write_text.ensures.history;
       last = c.part_from-in-Ok-write_text.ensures.last;
     })
-    c.args.bytes.now _ c.in-Ok-Some.parts.items c.in-Ok-play.shown made whole.1 (inl (c.part_from-in-Ok-write_text.ensures.status, written)))
+    c.args.bytes.now _ c.in-Ok-Some.parts.items c.in-Ok-play.shown.faults c.in-Ok-play.shown.statuses made whole.1 (inl (c.part_from-in-Ok-write_text.ensures.status ∙ (c.status_of.ensures ∙ ap status_of c.items-in-Ok-write_text.ensures), written)))
 
 pub returns : goal.returns
 returns g c =
     let old : Session = record { core = c.in-Ok.core; history = c.new.result } in
     let whole = c.in-Ok-play.ensures.whole in
     let made = rw c.in-Ok-Some.field-0-is at c.in-Ok-Some.ensures.made in
-    let written = rw (c.deref.ensures.value, c.in-Ok-status_lines.ensures, c.items.ensures) at c.in-Err-write_text.ensures.front in
+    let written = rw (c.as_bytes.ensures.value, c.as_str.ensures.value, c.in-Ok-printed.ensures, c.items.ensures, c.items-2.ensures) at c.in-Err-write_text.ensures.front in
     inl (answered (g.P.Prover.answers c.args.prover.now) (g.P.Prover.sure c.args.prover.now) old c.play.new.session whole.0 c.part_from-in-Err-write_text.result
     (record {
       fresh = c.in-Ok.ensures ∙ ap opened c.empty.ensures;
@@ -88,5 +89,5 @@ returns g c =
       history = c.part_from-in-Err-write_text.ensures.history;
       last = c.part_from-in-Err-write_text.ensures.last;
     })
-    c.args.bytes.now _ c.in-Ok-Some.parts.items c.in-Ok-play.shown made whole.1
+    c.args.bytes.now _ c.in-Ok-Some.parts.items c.in-Ok-play.shown.faults c.in-Ok-play.shown.statuses made whole.1
     (inr (c.part_from-in-Err-write_text.ensures.status, (c.in-Err-write_text.ensures.failed, written))))

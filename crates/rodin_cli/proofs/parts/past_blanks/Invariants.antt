@@ -1,5 +1,5 @@
 use Rattle.std.proofs.Common.{◌≡◌, length}
-use Rattle.camille_text.specs.Tokens.{blank_length}
+use Rattle.math_tokens.specs.Texts.{blank_length}
 use Rattle.rodin_cli.specs.Parts.{past_blanks}
 use Rattle.rodin_cli.proofs.parts.past_blanks.Given as goal
 

@@ -1,5 +1,0 @@
-use Rattle.std.proofs.Common.{◌≡◌, ◌++◌, map, take}
-use Rattle.camille_text.proofs.collect.add_texts.Given as goal
-
-abbrev pub invariant-loop-name : goal.invariant-loop-name
-invariant-loop-name l = map (λ text. text.now) l.texts.items ≡ map (λ text. text.now) l.initial.texts.items ++ take l.name-index l.names

@@ -1,0 +1,4 @@
+pub mod Checked
+pub mod Collecting
+pub mod FirstContexts
+pub mod Typing
