@@ -7,7 +7,7 @@ use Rattle.component_text.specs.Machines.{IsComponent}
 use Rattle.component_text.specs.Spelled.{Spells, Finds, IsReadFault}
 use Rattle.first_context.specs.declared.context.FirstContext.{FirstContext}
 use Rattle.first_context.specs.Checked.{Checks}
-use Rattle.first_context.specs.FirstContexts.{IsFirstContext, Faults}
+use Rattle.first_context.specs.FirstContexts.{IsFirstContext, TellsFault}
 
 pub if_ok : {T E : Type 0} (P Q : T → Type 0) (r : Result T E) → ((x : T) → P x → Q x) → IfOk r P → IfOk r Q
 if_ok P Q (Ok x) f h = f x h
@@ -20,6 +20,6 @@ module _ (name text : List ℕ) where
   first_of component spelled None h = tt
 
   -- the fault of a text that spells nothing
-  pub faults : (e : ReadFault) → IsReadFault IsComponent name text e → ((c : RawComponent) → Spells IsComponent name text c → Finds (Err e) c) → Faults name text e
+  pub faults : (e : ReadFault) → IsReadFault IsComponent name text e → ((c : RawComponent) → Spells IsComponent name text c → Finds (Err e) c) → TellsFault name text e
   faults (fault.Fault f) is only = record { first = is; unspelled = only }
   faults fault.OutOfMemory is only = tt

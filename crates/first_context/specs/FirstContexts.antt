@@ -27,6 +27,6 @@ pub record HasFault (name text : List ℕ) (f : Fault) : Type 0 where
   pub unspelled : (component : RawComponent) → Spells IsComponent name text component → ⊥
 
 -- what is answered in place of a component, unless memory runs out
-abbrev pub Faults : List ℕ → List ℕ → ReadFault → Type 0
-Faults name text (fault.Fault f) = HasFault name text f
-Faults name text fault.OutOfMemory = Unit {0}
+abbrev pub TellsFault : List ℕ → List ℕ → ReadFault → Type 0
+TellsFault name text (fault.Fault f) = HasFault name text f
+TellsFault name text fault.OutOfMemory = Unit {0}

@@ -1,7 +1,7 @@
 //! Reading the text of a first context.
 
 ghost use Rattle.std.specs.Prelude.{◌≡◌, ◌^◌, ◌<◌, ℕ, List, None, IfOk, IfErr, IfSome, length};
-ghost use Rattle.first_context.specs.FirstContexts.{IsFirstContext, IsOtherComponent, Faults};
+ghost use Rattle.first_context.specs.FirstContexts.{IsFirstContext, IsOtherComponent, TellsFault};
 ghost use Rattle.first_context.specs.declared.context.FirstContext.{FirstContext as Said};
 
 use crate::check::check;
@@ -19,7 +19,7 @@ pub fn read_first_context(
     requires { length text.now < 2 ^ 32 }
     ensures context { IfOk result (λ read. IfSome read (IsFirstContext name.now text.now)) }
     ensures other { IfOk result (λ read. read ≡ None → IsOtherComponent name.now text.now) }
-    ensures fault { IfErr result (Faults name.now text.now) }
+    ensures fault { IfErr result (TellsFault name.now text.now) }
 {
     let component = read(alloc, name, text)?;
     Ok(check(alloc, &component)?)

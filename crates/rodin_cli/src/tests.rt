@@ -115,7 +115,7 @@ fn first_contexts_are_checked(rt: HostRuntime) -> Result<(), Fail> {
 }
 
 /// Contexts with a fault, each with the line that is printed.
-const FAULTS: [(&str, &str); 10] = [
+const FAULTS: [(&str, &str); 11] = [
     (
         "context c0\nsets S\nconstants a\naxioms\n  @axm1 a ∈\nend\n",
         "fault c0 3 6:1 unexpected \"end\"\n",
@@ -141,6 +141,10 @@ const FAULTS: [(&str, &str); 10] = [
     (
         "// the first\ncontext c0 sets S axioms @axm1 @axm2 S = S end",
         "fault c0 3 2:32 unexpected \"@axm2\"\n",
+    ),
+    (
+        "/*\ncontext c1 */ context c0 end",
+        "fault c1 6 2:23 wrong name\n",
     ),
     (
         "context c0 axioms @a ∀x·x ∈ ∈ end",
