@@ -13,7 +13,11 @@ const LONGEST: usize = u32::MAX as usize;
 fn add_fault(text: &str, fault: &Fault, out: &mut String) -> Result<(), AllocError> {
     let at = position_of(text, (fault.place as usize).min(text.len()));
     let words = fault.words.as_text();
-    writeln!(out, "fault {} {}:{} {words}", fault.kind, at.line, at.column)
+    writeln!(
+        out,
+        "fault {} {}:{} {words}",
+        fault.kind, at.line, at.column
+    )
 }
 
 /// Whether a printed text is read and printed as itself.
