@@ -7,6 +7,7 @@ pub mod Numbers
 pub mod Places
 pub mod Rows
 pub mod SchemeView
+pub mod Same
 pub mod Schemes
 pub mod Scopes
 pub mod Shifting
@@ -14,6 +15,7 @@ pub mod Sizes
 pub mod Substitution
 pub mod Texts
 pub mod TypeTable
+pub mod Typed
 pub mod Types
 pub mod Wellness
 pub mod WholeSets

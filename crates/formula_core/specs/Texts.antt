@@ -36,3 +36,7 @@ is_po_name text = nat_le 1 (length text) && nat_le (length text) 300 && not (has
 -- the kind of an obligation: from 1 to 8 capital letters
 abbrev pub is_kind : List ℕ → Bool
 is_kind text = nat_le 1 (length text) && nat_le (length text) 8 && list_all is_ascii_uppercase text
+
+-- a part of an obligation's name that is a label or an identifier: from 1 to 65 characters of labels, among which are those of identifiers
+abbrev pub is_part : List ℕ → Bool
+is_part text = nat_le 1 (length text) && nat_le (length text) 65 && list_all is_in_label text

@@ -1,12 +1,18 @@
-ghost use Rattle.std.specs.Prelude.{◌≡◌, ◌↔◌, ◌++◌, ◌∷◌, [], IsTrue, IsSome, IfOk, OnErr, OnOk, IsErrOf};
+ghost use Rattle.std.specs.Prelude.{◌≡◌, ◌↔◌, ◌++◌, ◌∷◌, [], IsTrue, IsSome, IfOk, IfSome, OnErr, OnOk, IsErrOf, take};
+ghost use Rattle.std.specs.Map.{lookup};
+ghost use Rattle.std.specs.BTreeMap.{is_at};
+ghost use Rattle.std.specs.Ordering.{nat_cmp};
+ghost use Rattle.std.specs.Cmp.Lexicographic.{slice_cmp};
 ghost use Rattle.std.specs.Option.{option_copied};
 ghost use Rattle.formula_core.specs.Env.{type_in, HasDistinctNames};
+ghost use Rattle.formula_core.specs.Places.{AreAtPlaces, IsNoted, type_there};
 
 use crate::identifiers::{copy_identifiers, same_identifiers};
 use crate::memory::OutOfMemory;
 use crate::name::Name;
 use crate::ty::Ty;
 use std::alloc::{AllocFailed, Global};
+use std::collections::BTreeMap;
 use std::marker::Model;
 
 /// Why a name was not added.
@@ -40,6 +46,10 @@ impl<T: Drop> From<AllocFailed<T>> for EnvFault {
 #[derive(Drop)]
 pub struct Env {
     entries: Vec<(Name, Ty)>,
+    /// The place of each name, among places of names that were cut off.
+    places: BTreeMap<Name, usize>,
+    /// Whether each name has its place. Where memory ran out for the places, none is looked up.
+    has_places: bool,
 }
 
 impl Model for Env {
@@ -53,10 +63,12 @@ impl Model for Env {
     ghost coded = { Prim.hlevel (codes, ty.the_row.coded) };
 
     ghost use Rattle.formula_core.specs.Env.{HasDistinctNames};
+    ghost use Rattle.formula_core.specs.Places.{AreAtPlaces};
+    ghost use Rattle.std.specs.Bool.{OnTrue};
 
     ghost view = { λ a. a.entries.items };
 
-    ghost invariant = { λ a. HasDistinctNames a.entries.items };
+    ghost invariant = { λ a. HasDistinctNames a.entries.items × OnTrue a.has_places (AreAtPlaces a.entries.items a.places.entries) };
 }
 
 impl Env {
@@ -65,6 +77,8 @@ impl Env {
     {
         Env {
             entries: Vec::new(alloc),
+            places: BTreeMap::new(alloc),
+            has_places: true,
         }
     }
 
@@ -73,7 +87,19 @@ impl Env {
         requires { HasDistinctNames entries.items }
         ensures { result ≡ entries.items }
     {
-        Env { entries }
+        let alloc = *entries.allocator();
+        match places_of(alloc, &entries) {
+            Some(places) => Env {
+                entries,
+                places,
+                has_places: true,
+            },
+            None => Env {
+                entries,
+                places: BTreeMap::new(alloc),
+                has_places: false,
+            },
+        }
     }
 
     /// The names with their types, in the order in which they were added.
@@ -100,7 +126,10 @@ impl Env {
     pub fn get(&self, name: &Name) -> Option<&Ty>
         ensures { option_copied result ≡ type_in self.now name.now }
     {
-        type_at(&self.entries, name)
+        if !self.has_places {
+            return type_at(&self.entries, name);
+        }
+        type_there(&self.entries, self.places.get(name).copied(), name)
     }
 
     pub fn add(&mut self, name: Name, ty: Ty) -> Result<(), EnvFault>
@@ -111,8 +140,59 @@ impl Env {
         if self.get(&name).is_some() {
             return Err(EnvFault::Taken);
         }
+        let alloc = *self.entries.allocator();
+        let place = self.entries.len();
+        note_place(alloc, &mut self.places, &name, place)?;
         self.entries.push((name, ty))?;
         Ok(())
+    }
+
+    /// Keeps the first entries alone. It takes no memory.
+    pub fn cut(&mut self, len: usize)
+        ensures { self.new ≡ take len self.old }
+    {
+        self.entries.truncate(len);
+    }
+}
+
+/// The places of the names. None where memory runs out, or where a name stands there twice.
+fn places_of(alloc: Global, entries: &[(Name, Ty)]) -> Option<BTreeMap<Name, usize>>
+    ensures { IfSome result (λ places. AreAtPlaces entries.now places.entries) }
+{
+    let mut places = BTreeMap::new(alloc);
+    for at in 0..entries.len() {
+        let name = &entries[at].0;
+        if places.contains_key(name) {
+            return None;
+        }
+        note_place(alloc, &mut places, name, at).ok()?;
+    }
+    Some(places)
+}
+
+/// Notes the place of a name. Where memory runs out nothing changes.
+fn note_place(
+    alloc: Global,
+    places: &mut BTreeMap<Name, usize>,
+    name: &Name,
+    at: usize,
+) -> Result<(), OutOfMemory>
+    ensures noted { OnOk result (IsNoted places.old.entries places.new.entries name.now at) }
+    ensures unchanged { OnErr result (places.new.entries ≡ places.old.entries) }
+{
+    places.insert(name.copy(alloc)?, at)?;
+    Ok(())
+}
+
+/// The type at a place, if the name stands there.
+fn type_there<'a>(entries: &'a [(Name, Ty)], place: Option<usize>, name: &Name) -> Option<&'a Ty>
+    ensures { option_copied result ≡ type_there entries.now name.now place }
+{
+    let entry = entries.get(place?)?;
+    if name.same(&entry.0) {
+        Some(&entry.1)
+    } else {
+        None
     }
 }
 

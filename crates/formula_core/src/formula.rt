@@ -6,6 +6,7 @@ ghost use Rattle.std.specs.Option.{option_copied};
 ghost use Rattle.std.specs.Map.{lookup};
 ghost use Rattle.std.specs.Prelude.{map, [], bytes_eq, ℕ, min, ◌^◌, ◌+◌, length, IsSome, IfSome};
 ghost use Rattle.formula_core.specs.Wellness.{is_well, type_of};
+ghost use Rattle.formula_core.specs.Same.{same_formula};
 ghost use Rattle.formula_core.specs.Substitution.{HasWellTerms, TypesAgree, AreWell, bound_types};
 
 use crate::list::List;
@@ -26,8 +27,16 @@ pub enum Formula {
 }
 
 impl Formula {
-    #[cycle(same)]
+    /// Whether it is the same formula.
     pub fn same(&self, other: &Formula) -> bool
+        ensures exact { IsTrue result ↔ (self.now ≡ other.now) }
+        ensures test { result ≡ same_formula self.now other.now }
+    {
+        self.is_same(other)
+    }
+
+    #[cycle(same)]
+    fn is_same(&self, other: &Formula) -> bool
         ensures { IsTrue result ↔ (self.now ≡ other.now) }
     {
         match self {
@@ -100,7 +109,7 @@ pub fn same_formulas(xs: &[Formula], ys: &[Formula]) -> bool
         return false;
     }
     for i in 0..xs.len() {
-        if !xs[i].same(&ys[i]) {
+        if !xs[i].is_same(&ys[i]) {
             return false;
         }
     }

@@ -1,10 +1,10 @@
 //! Laws of formulas, one on each call. The calls do nothing.
 ghost use Rattle.std.specs.List.{IsDistinct};
-ghost use Rattle.std.specs.Prelude.{Contains, ◌≡◌, ◌↔◌, ◌++◌, ℕ, List, IsTrue, length, map};
+ghost use Rattle.std.specs.Prelude.{Contains, ◌≡◌, ◌↔◌, ◌++◌, [], ℕ, List, IsTrue, length, map};
 ghost use Rattle.formula_core.specs.declared.ty.Ty.{Ty};
 ghost use Rattle.formula_core.specs.Wellness.{is_well_in};
 ghost use Rattle.formula_core.specs.Formulas.{joined, same_identifier, free_of, occurrences, substituted, instantiated};
-ghost use Rattle.formula_core.specs.Laws.{occurrences_at, first_then};
+ghost use Rattle.formula_core.specs.Laws.{occurrences_at, first_then, KeepsProperties, IsWithin, Replaces, StaysTyped, QuantifiesTyped, InstantiatesTyped};
 ghost use Rattle.formula_core.specs.Shifting.{abstracted, as_terms, shifted};
 ghost use Rattle.formula_core.specs.TypeTable.{fits, binder_fits};
 ghost use Rattle.formula_core.specs.Schemes.{IsInstance, operand_schemes, result_scheme, part_schemes, binder_scheme};
@@ -71,4 +71,57 @@ pub fn binder_fits_by_schemes(binder: Binder, types: &[Ty], whole: &Ty)
     let _ = binder;
     let _ = types;
     let _ = whole;
+}
+
+/// What holds of all identifiers of a formula and of the terms holds of those of the formula that has the terms in it, that is shifted, or whose identifiers are bound.
+pub fn identifiers_are_kept(
+    f: &Formula,
+    pairs: &[(Name, Formula)],
+    terms: &[Formula],
+    bound: &[(Name, Ty)],
+)
+    ensures substituted { KeepsProperties (map (λ q. q.1) pairs.now) f.now (substituted pairs.now f.now) }
+    ensures instantiated { (depth : ℕ) → KeepsProperties terms.now f.now (instantiated terms.now depth f.now) }
+    ensures shifted { (by depth : ℕ) → KeepsProperties [] f.now (shifted by depth f.now) }
+    ensures bound { (depth : ℕ) → KeepsProperties [] f.now (abstracted bound.now depth f.now) }
+{
+    let _ = f;
+    let _ = pairs;
+    let _ = terms;
+    let _ = bound;
+}
+
+/// A formula that is typed in an environment is typed in each one in which the same names stand, such as a longer one.
+pub fn typed_in_larger(f: &Formula, env: &[(Name, Ty)], more: &[(Name, Ty)])
+    ensures typed { (new : List (List ℕ × Ty)) → IsWithin env.now new → StaysTyped env.now new f.now f.now }
+    ensures longer { IsWithin env.now (env.now ++ more.now) }
+{
+    let _ = f;
+    let _ = env;
+    let _ = more;
+}
+
+/// A substitution by which each name that has no place in another environment is replaced makes a formula that is typed there, of the same type.
+pub fn substituting_keeps_typed(f: &Formula, pairs: &[(Name, Formula)])
+    ensures { (old new : List (List ℕ × Ty)) → Replaces old new pairs.now → StaysTyped old new f.now (substituted pairs.now f.now) }
+{
+    let _ = f;
+    let _ = pairs;
+}
+
+/// A quantifier over a predicate is a predicate, typed in an environment that need not have the names that it binds.
+pub fn quantifying_keeps_typed(f: &Formula, identifiers: &[(Name, Ty)])
+    ensures exists { QuantifiesTyped Binder.Exists identifiers.now f.now }
+    ensures for_all { QuantifiesTyped Binder.ForAll identifiers.now f.now }
+{
+    let _ = f;
+    let _ = identifiers;
+}
+
+/// The body of a typed quantifier, with typed terms of the right types in the places of what is bound, is typed.
+pub fn instantiating_keeps_typed(f: &Formula, terms: &[Formula])
+    ensures { InstantiatesTyped f.now terms.now }
+{
+    let _ = f;
+    let _ = terms;
 }

@@ -1,6 +1,6 @@
-ghost use Rattle.std.specs.Prelude.{◌≡◌, ◌↔◌, ◌++◌, ◌∷◌, IsTrue, IfOk, IsErrOf, false, bytes_eq};
+ghost use Rattle.std.specs.Prelude.{◌≡◌, ◌↔◌, ◌++◌, ◌∷◌, IsTrue, IfOk, OnOk, IsErrOf, false, bytes_eq, string_bytes};
 ghost use Rattle.std.specs.List.{list_all};
-ghost use Rattle.formula_core.specs.Texts.{is_label, is_in_label, is_po_name, is_kind, has_blank, begins_with_blank, is_ascii_blank, begins_with};
+ghost use Rattle.formula_core.specs.Texts.{is_label, is_in_label, is_po_name, is_part, is_kind, has_blank, begins_with_blank, is_ascii_blank, begins_with};
 
 use crate::memory::OutOfMemory;
 use crate::name::{Name, NameFault};
@@ -112,6 +112,16 @@ impl PoName {
         Ok(PoName { text })
     }
 
+    /// The name of an obligation of a whole component: `component/KIND`.
+    pub fn of_component(alloc: Global, component: &Name, kind: &str) -> Result<PoName, OutOfMemory>
+        requires { IsTrue (is_kind kind.now) }
+        ensures { IfOk result (λ name. name ≡ component.now ++ 47 ∷ kind.now) }
+    {
+        let mut text = String::from_str(alloc, component.as_text())?;
+        add_part(&mut text, kind)?;
+        Ok(PoName { text })
+    }
+
     /// The name of an obligation that stands at a label of a component: `component/label/KIND`.
     pub fn of_labelled(
         alloc: Global,
@@ -123,12 +133,54 @@ impl PoName {
         ensures { IfOk result (λ name. name ≡ component.now ++ 47 ∷ label.now ++ 47 ∷ kind.now) }
     {
         let mut text = String::from_str(alloc, component.as_text())?;
-        text.push_str("/")?;
-        text.push_str(label.as_text())?;
-        text.push_str("/")?;
-        text.push_str(kind)?;
+        add_part(&mut text, label.as_text())?;
+        add_part(&mut text, kind)?;
         Ok(PoName { text })
     }
+
+    /// The name of an obligation of a whole event: `component/event/KIND`.
+    pub fn of_event(
+        alloc: Global,
+        component: &Name,
+        event: &Name,
+        kind: &str,
+    ) -> Result<PoName, OutOfMemory>
+        requires { IsTrue (is_kind kind.now) }
+        ensures { IfOk result (λ name. name ≡ component.now ++ 47 ∷ event.now ++ 47 ∷ kind.now) }
+    {
+        let mut text = String::from_str(alloc, component.as_text())?;
+        add_part(&mut text, event.as_text())?;
+        add_part(&mut text, kind)?;
+        Ok(PoName { text })
+    }
+
+    /// The name of an obligation at a part of an event, which has a label or is an identifier: `component/event/part/KIND`.
+    pub fn of_event_part(
+        alloc: Global,
+        component: &Name,
+        event: &Name,
+        part: &str,
+        kind: &str,
+    ) -> Result<PoName, OutOfMemory>
+        requires part { IsTrue (is_part part.now) }
+        requires kind { IsTrue (is_kind kind.now) }
+        ensures { IfOk result (λ name. name ≡ component.now ++ 47 ∷ event.now ++ 47 ∷ part.now ++ 47 ∷ kind.now) }
+    {
+        let mut text = String::from_str(alloc, component.as_text())?;
+        add_part(&mut text, event.as_text())?;
+        add_part(&mut text, part)?;
+        add_part(&mut text, kind)?;
+        Ok(PoName { text })
+    }
+}
+
+/// Adds a part to the text of a name, behind a slash.
+fn add_part(text: &mut String, part: &str) -> Result<(), OutOfMemory>
+    ensures { OnOk result (string_bytes text.new ≡ string_bytes text.old ++ 47 ∷ part.now) }
+{
+    text.push_str("/")?;
+    text.push_str(part)?;
+    Ok(())
 }
 
 /// A text.

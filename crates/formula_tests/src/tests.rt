@@ -1,4 +1,4 @@
-use super::*;
+use formula_core::*;
 use std::alloc::{AllocError, Global};
 use std::marker::Brand;
 use std::process::Abort;

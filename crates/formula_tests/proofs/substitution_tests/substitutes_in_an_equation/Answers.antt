@@ -5,7 +5,7 @@ use Rattle.formula_core.specs.declared.formula.Formula.TheVariants as formula
 use Rattle.formula_core.specs.declared.ty.Ty.TheVariants as ty
 use Rattle.formula_core.proofs.Schemes.{value-Int}
 use Rattle.formula_core.proofs.Wellness.{well-Free}
-use Rattle.formula_core.proofs.substitution_tests.substitutes_in_an_equation.Goals as goal
+use Rattle.formula_tests.proofs.substitution_tests.substitutes_in_an_equation.Goals as goal
 
 integer_is_well : (name : List ℕ) (f : Formula) → f ≡ formula.Free name ty.Int → is_well f ≡ true
 integer_is_well name f is = ap is_well is ∙ well-Free name ty.Int [] ∙ value-Int

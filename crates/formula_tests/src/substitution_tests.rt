@@ -7,7 +7,7 @@ ghost use Rattle.formula_core.specs.declared.op.Op.TheVariants as Op;
 ghost use Rattle.formula_core.specs.declared.op.Binder.TheVariants as Binder;
 ghost use Rattle.formula_core.specs.declared.formula.Formula.TheVariants as Formula;
 
-use super::*;
+use formula_core::*;
 use std::alloc::Global;
 use std::test::Fail;
 
