@@ -5,8 +5,6 @@ mod laws;
 mod reading;
 mod stages;
 mod steps;
-#[cfg(test)]
-mod tests;
 
 pub use laws::{action_or_fault, one_action, one_action_fault};
 pub use reading::action;

@@ -5,8 +5,6 @@ mod holes;
 mod levels;
 mod shapes;
 mod symbols;
-#[cfg(test)]
-mod tests;
 mod words;
 
 pub use holes::{Grade, Hole};

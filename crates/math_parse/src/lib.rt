@@ -10,8 +10,6 @@ mod laws;
 mod machine;
 mod nodes;
 mod parse;
-#[cfg(test)]
-mod tests;
 
 pub use begin::read_name;
 pub use fault::{ParseFault, StepFault};

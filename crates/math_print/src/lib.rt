@@ -6,8 +6,6 @@ mod levels;
 mod names;
 mod printing;
 mod signs;
-#[cfg(test)]
-mod tests;
 mod types;
 
 pub use printing::text;

@@ -3,8 +3,6 @@
 
 mod laws;
 mod rereading;
-#[cfg(test)]
-mod tests;
 
 pub use laws::{read_back, spelled_one_way, text_is_cut, written_is_spelled};
 pub use rereading::text;

@@ -9,11 +9,11 @@ use Rattle.std.proofs.Common.{get_or}
 use Rattle.std.proofs.lemmas.List.{take_more, map-append}
 use Rattle.math_tokens.specs.Lexemes.{Forms, sign_in, Best, better, length_of, table}
 
-abbrev or_else : Option ℕ → Option ℕ → Option ℕ
+abbrev pub or_else : Option ℕ → Option ℕ → Option ℕ
 or_else None o = o
 or_else (Some k) o = Some k
 
-or_else-none : (o : Option ℕ) → or_else o None ≡ o
+pub or_else-none : (o : Option ℕ) → or_else o None ≡ o
 or_else-none None = refl
 or_else-none (Some k) = refl
 
@@ -21,13 +21,12 @@ or_else-cond : (b : Bool) (k : ℕ) (x y z : Option ℕ) → x ≡ or_else y z �
 or_else-cond true k x y z h = refl
 or_else-cond false k x y z h = h
 
-sign_in-append : (forms : Forms) (e : List ℕ × ℕ) (bytes : List ℕ) → sign_in (forms ++ e ∷ []) bytes ≡ or_else (sign_in forms bytes) (cond (bytes_eq e.0 bytes) (Some e.1) None)
-sign_in-append [] e bytes = refl
-sign_in-append (f ∷ forms) e bytes =
-    or_else-cond (bytes_eq f.0 bytes) f.1 (sign_in (forms ++ e ∷ []) bytes) (sign_in forms bytes) (cond (bytes_eq e.0 bytes) (Some e.1) None)
-    (sign_in-append forms e bytes)
+pub sign_in-append : (forms more : Forms) (bytes : List ℕ) → sign_in (forms ++ more) bytes ≡ or_else (sign_in forms bytes) (sign_in more bytes)
+sign_in-append [] more bytes = refl
+sign_in-append (f ∷ forms) more bytes =
+    or_else-cond (bytes_eq f.0 bytes) f.1 (sign_in (forms ++ more) bytes) (sign_in forms bytes) (sign_in more bytes) (sign_in-append forms more bytes)
 
-false_from : (b : Bool) → (b ≡ true → ⊥) → b ≡ false
+pub false_from : (b : Bool) → (b ≡ true → ⊥) → b ≡ false
 false_from true h = absurd (h refl)
 false_from false h = refl
 
@@ -53,13 +52,13 @@ module _ (text form : List ℕ) where
 
 module _ (forms : Forms) (form text : List ℕ) (k : ℕ) where
   unchanged : (m : ℕ) → bytes_eq form (take m text) ≡ false → sign_in (forms ++ (form, k) ∷ []) (take m text) ≡ sign_in forms (take m text)
-  unchanged m f = sign_in-append forms (form, k) (take m text) ∙ rw f (or_else-none (sign_in forms (take m text)))
+  unchanged m f = sign_in-append forms ((form, k) ∷ []) (take m text) ∙ rw f (or_else-none (sign_in forms (take m text)))
 
   still_there : (m j : ℕ) → sign_in forms (take m text) ≡ Some j → sign_in (forms ++ (form, k) ∷ []) (take m text) ≡ Some j
-  still_there m j h = sign_in-append forms (form, k) (take m text) ∙ rw h
+  still_there m j h = sign_in-append forms ((form, k) ∷ []) (take m text) ∙ rw h
 
   added : (m : ℕ) → sign_in forms (take m text) ≡ None → bytes_eq form (take m text) ≡ true → sign_in (forms ++ (form, k) ∷ []) (take m text) ≡ Some k
-  added m h t = sign_in-append forms (form, k) (take m text) ∙ rw (h, t)
+  added m h t = sign_in-append forms ((form, k) ∷ []) (take m text) ∙ rw (h, t)
 
   -- nothing was found beyond the best
   pub none_beyond : (b : Option (ℕ × ℕ)) → Best forms text b → (m : ℕ) → length_of b < m → m ≤ length text → sign_in forms (take m text) ≡ None

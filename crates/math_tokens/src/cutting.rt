@@ -1,8 +1,9 @@
 //! The tokens of a text.
 
-ghost use Rattle.std.specs.Prelude.{◌≡◌, ◌^◌, ◌<◌, ◌≤◌, length};
+ghost use Rattle.std.specs.Prelude.{◌≡◌, ◌^◌, ◌<◌, ◌≤◌, length, IsTrue};
 ghost use Rattle.math_tokens.specs.Lexemes.{table};
 ghost use Rattle.math_tokens.specs.Texts.{blank_length, meaning, IsTokenAt, Cuts};
+ghost use Rattle.math_tokens.specs.Private.{are_groups};
 ghost use Rattle.math_tokens.specs.declared.cutting.TokenFault.TheVariants as fault;
 
 use crate::lexemes::{Lexeme, longest_lexeme, number};
@@ -96,7 +97,13 @@ fn meaning(bytes: &[u8], lexeme: Lexeme, at: u32) -> Result<TokenKind, TokenFaul
 }
 
 /// The longest token that begins at the byte.
-pub fn token_in(forms: &[(&str, u8)], text: &str, at: u32) -> Result<Option<Token>, TokenFault>
+pub fn token_in(
+    forms: &[(&str, u8)],
+    starts: &[u8; 257],
+    text: &str,
+    at: u32,
+) -> Result<Option<Token>, TokenFault>
+    requires groups { IsTrue (are_groups forms.now 0 starts.now) }
     requires fits { length text.now < 2 ^ 32 }
     requires within { at ≤ length text.now }
     ensures { IsTokenAt (table forms.now) text.now at result }
@@ -106,7 +113,7 @@ pub fn token_in(forms: &[(&str, u8)], text: &str, at: u32) -> Result<Option<Toke
     if rest.is_empty() || 0 < blank_length(rest) {
         return Ok(None);
     }
-    match longest_lexeme(forms, rest) {
+    match longest_lexeme(forms, starts, rest) {
         None => Err(TokenFault::BadSign(at)),
         Some((len, lexeme)) => match meaning(&rest[..len], lexeme, at) {
             Ok(kind) => Ok(Some(Token {
@@ -120,14 +127,20 @@ pub fn token_in(forms: &[(&str, u8)], text: &str, at: u32) -> Result<Option<Toke
 }
 
 /// The tokens of a text, or the first fault in it.
-pub fn tokens_in(alloc: Global, forms: &[(&str, u8)], text: &str) -> Result<Vec<Token>, TokenFault>
-    requires { length text.now < 2 ^ 32 }
+pub fn tokens_in(
+    alloc: Global,
+    forms: &[(&str, u8)],
+    starts: &[u8; 257],
+    text: &str,
+) -> Result<Vec<Token>, TokenFault>
+    requires groups { IsTrue (are_groups forms.now 0 starts.now) }
+    requires fits { length text.now < 2 ^ 32 }
     ensures { Cuts (table forms.now) text.now result }
 {
     let mut tokens = Vec::new(alloc);
     let mut at = 0;
     while at < text.len() {
-        match token_in(forms, text, at as u32) {
+        match token_in(forms, starts, text, at as u32) {
             Ok(None) => at += blank_length(&text.as_bytes()[at..]),
             Ok(Some(token)) => {
                 at = token.to as usize;

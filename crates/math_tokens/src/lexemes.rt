@@ -1,9 +1,10 @@
 //! The longest token at the front of a text.
 
-ghost use Rattle.std.specs.Prelude.{◌≡◌, ◌≤◌, ◌^◌, length, MatchOption, pos};
+ghost use Rattle.std.specs.Prelude.{◌≡◌, ◌≤◌, ◌^◌, length, IsTrue, MatchOption, pos};
 ghost use Rattle.std.specs.List.{prefix_len};
 ghost use Rattle.formula_core.specs.Names.{starts_word, is_in_word};
 ghost use Rattle.math_tokens.specs.Lexemes.{is_digit, word_length, name_length, table, Begins, choice, value_of};
+ghost use Rattle.math_tokens.specs.Private.{are_groups};
 
 use crate::signs::longest_form;
 use formula_core::is_in_word;
@@ -97,10 +98,15 @@ fn choose(
 }
 
 /// The longest token at the front of a text: how many bytes it has, and what it is.
-pub fn longest_lexeme(forms: &[(&str, u8)], bytes: &[u8]) -> Option<(usize, Lexeme)>
+pub fn longest_lexeme(
+    forms: &[(&str, u8)],
+    starts: &[u8; 257],
+    bytes: &[u8],
+) -> Option<(usize, Lexeme)>
+    requires { IsTrue (are_groups forms.now 0 starts.now) }
     ensures { Begins (table forms.now) bytes.now result }
 {
-    let sign = longest_form(forms, bytes);
+    let sign = longest_form(forms, starts, bytes);
     let word = word_length(bytes);
     let name = name_length(bytes, word);
     let digits = digits_length(bytes);

@@ -5,8 +5,6 @@ mod cutting;
 mod laws;
 mod lexemes;
 mod signs;
-#[cfg(test)]
-mod tests;
 mod text;
 
 pub use cutting::{Token, TokenFault, TokenKind, blank_length};

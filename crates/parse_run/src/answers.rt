@@ -5,7 +5,7 @@ use formula_core::{Raw, RawAction};
 use math_action::action;
 use math_grammar::symbol_of;
 use math_parse::{ParseFault, expression, predicate};
-use math_tokens::{Token, TokenFault, TokenKind, tokens};
+use math_tokens::{Token, TokenFault, TokenKind, token_at, tokens};
 use std::alloc::{AllocError, Global};
 
 fn of_fault(alloc: Global, fault: ParseFault) -> Result<String, AllocError> {
@@ -77,10 +77,34 @@ fn of_class(alloc: Global, text: &str, tokens: &[Token]) -> Result<String, Alloc
     }
 }
 
+fn of_first(alloc: Global, text: &str, at: u32) -> Result<String, AllocError> {
+    if text.len() < at as usize || text.len() > 1_000_000 {
+        return format!(in alloc; "text too short");
+    }
+    match token_at(text, at) {
+        Ok(Some(token)) => format!(in alloc; "{:?} {}", token.kind, token.to),
+        Ok(None) => format!(in alloc; "no token"),
+        Err(fault) => of_token_fault(alloc, fault),
+    }
+}
+
+fn of_reading(alloc: Global, read: Result<Raw, ParseFault>) -> Result<String, AllocError> {
+    match read {
+        Ok(_) => format!(in alloc; "read"),
+        Err(fault) => of_fault(alloc, fault),
+    }
+}
+
 /// What the text is read as, by the kind of the line.
 pub fn answer(alloc: Global, kind: &str, text: &str) -> Result<String, AllocError> {
     if text.len() > 1_000_000 {
         return format!(in alloc; "text too long");
+    }
+    match kind {
+        "k" => return of_first(alloc, text, 0),
+        "k1" => return of_first(alloc, text, 1),
+        "k2" => return of_first(alloc, text, 2),
+        _ => {}
     }
     let cut = match tokens(alloc, text) {
         Ok(cut) => cut,
@@ -93,6 +117,8 @@ pub fn answer(alloc: Global, kind: &str, text: &str) -> Result<String, AllocErro
         "E" => of_formula(alloc, expression(alloc, text, &cut), true),
         "a" => of_action(alloc, action(alloc, text, &cut), false),
         "A" => of_action(alloc, action(alloc, text, &cut), true),
+        "rp" => of_reading(alloc, predicate(alloc, text, &cut)),
+        "re" => of_reading(alloc, expression(alloc, text, &cut)),
         "t" => of_tokens(alloc, &cut),
         "c" => of_class(alloc, text, &cut),
         _ => format!(in alloc; "no such kind"),

@@ -1,9 +1,10 @@
 //! Reads texts as tokens, formulas and actions, and compares what comes of each with what should.
 //!
 //! Each line has a kind, a text and the answer wanted, with tabs between them. A line without an answer is only read; one
-//! that begins with `#`, or that is empty, is left out. The kinds are `c` for the class of the first token, `t` for the
-//! tokens, and `p`, `e` and `a` for a predicate, an expression and an action; by `P`, `E` and `A` the answer has the byte
-//! place of each node and name too. Lines with another answer are printed with it, and at the end how many lines there were.
+//! that begins with `#`, or that is empty, is left out. The kinds are `c` for the class of the first token, `k`, `k1` and `k2` for
+//! the token at byte 0, 1 and 2 and its end, `t` for the tokens, and `p`, `e` and `a` for a predicate, an expression and an action; by
+//! `P`, `E` and `A` the answer has the byte place of each node and name too, and by `rp` and `re` it is `read` or the fault. Lines with
+//! another answer are printed with it, and at the end how many lines there were.
 #![tactic(auto)]
 
 mod answers;

@@ -10,9 +10,6 @@ ghost use Rattle.math_grammar.specs.Grammar.{Spells};
 ghost use Rattle.plain_grammar.specs.Plain.{Accepts};
 ghost use Rattle.plain_grammar.specs.OpenType.{open_type};
 
-#[cfg(test)]
-mod tests;
-
 /// Without the condition, but for a type before ↦ in a pattern of λ, the grammar accepts the same token lists, at any limit
 /// of parts of a partition.
 pub fn same_sentences()

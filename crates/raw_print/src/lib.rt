@@ -5,8 +5,6 @@ mod actions;
 mod laws;
 mod printing;
 mod signs;
-#[cfg(test)]
-mod tests;
 
 pub use actions::print_action;
 pub use laws::{printed_action_is_spelled, printed_is_spelled};

@@ -9,6 +9,3 @@ mod predicate;
 
 pub use condition::wd;
 pub use laws::{atoms_are_well_defined, total_formulas_are_well_defined};
-
-#[cfg(test)]
-mod tests;
