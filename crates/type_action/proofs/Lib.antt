@@ -1,3 +1,4 @@
 pub mod Told
 pub mod Typed
 pub mod UnknownNames
+pub mod Standing

@@ -20,7 +20,7 @@ use Rattle.type_action.specs.Results.{IsOnly, HasNone, HasTwo, IsAdded}
 use Rattle.type_action.specs.Answers.{TellsFault}
 use Rattle.type_action.proofs.Told.{IsFormOf, IsListOf, list_added, first_none, rest_fault, first_untyped}
 
-some_is : {A : Type 0} → (a b : A) → Some a ≡ Some b → a ≡ b
+pub some_is : {A : Type 0} → (a b : A) → Some a ≡ Some b → a ≡ b
 some_is a b e = cc
 
 pub two_formulas : (env : List (List ℕ × Ty)) (b : Bare) (t : Ty) → HasTwoFormulas env [] b (Some t) → HasTwo (IsFormulaOf env b t)
@@ -72,7 +72,7 @@ found_type : (b : Bool) (o : Option Ty) (t : Ty) → cond b o None ≡ Some t �
 found_type true o t e = e
 found_type false o t e = cc
 
-known_type : (env : List (List ℕ × Ty)) (x : List ℕ) (t : Ty) → target_type env x ≡ Some t → type_in env x ≡ Some t
+pub known_type : (env : List (List ℕ × Ty)) (x : List ℕ) (t : Ty) → target_type env x ≡ Some t → type_in env x ≡ Some t
 known_type env x t e = found_type (is_identifier x) (type_in env x) t e
 
 formula_is_well : (env : List (List ℕ × Ty)) (b : Bare) (t : Ty) (f : Formula) → IsFormulaOf env b t f → IsWellAs f (Some t)
@@ -93,7 +93,7 @@ target_stands : (env : List (List ℕ × Ty)) (x : List ℕ) (o : Option Ty) (xs
 target_stands env x None xs e h = h
 target_stands env x (Some t) xs e h = (known_type env x t e, h)
 
-targets_stand : (env : List (List ℕ × Ty)) (rs : List Ref) → AllByRecursion (λ y. type_in env y.0 ≡ Some y.1) (typed_targets env rs)
+pub targets_stand : (env : List (List ℕ × Ty)) (rs : List Ref) → AllByRecursion (λ y. type_in env y.0 ≡ Some y.1) (typed_targets env rs)
 targets_stand env [] = tt
 targets_stand env (r ∷ rs) = target_stands env r.name (target_type env r.name) (typed_targets env rs) refl (targets_stand env rs)
 

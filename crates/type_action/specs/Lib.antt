@@ -1,4 +1,5 @@
 pub mod Answers
 pub mod CoreActions
+pub mod Laws
 pub mod Results
 pub mod Typings

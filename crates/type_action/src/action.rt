@@ -1,11 +1,13 @@
 //! The one typing of a written action.
 ghost use Rattle.std.specs.Prelude.{◌≡◌, ℕ, [], ◌∷◌, ◌++◌, List, map, IfErr, IfOk, IsErrOf, IsOk, None, Some};
 ghost use Rattle.std.specs.Option.{option_map};
+ghost use Rattle.formula_core.specs.Typed.{HasCarriers};
 ghost use Rattle.type_core.specs.CoreForms.{core_form};
 ghost use Rattle.type_core.specs.Unknowns.{first_by_place, unknowns};
 ghost use Rattle.type_core.specs.Views.{bare_of};
 ghost use Rattle.type_action.specs.Answers.{IsActionTyping, Tells, TellsFault};
 ghost use Rattle.type_action.specs.CoreActions.{Assign, ChooseIn, ChooseSuch, core_action, overridden, target_type, typed_targets, unknown_in_action, unknown_targets, unknowns_of, primed_targets, env_after};
+ghost use Rattle.type_action.specs.Laws.{IsActionIn};
 ghost use Rattle.type_action.specs.Results.{HasNone, HasTwo, IsOnly};
 ghost use Rattle.type_action.specs.Typings.{IsActionOf, IsWellAction};
 
@@ -23,6 +25,7 @@ pub fn type_action(alloc: Global, env: &Env, raw: &RawAction) -> Result<Action, 
     // The typing, where there is exactly one.
     ensures typed { IfOk result (λ a. IsOnly (IsActionTyping env.now raw.now) a) }
     ensures well { IfOk result (λ a. IsWellAction env.now a) }
+    ensures standing { HasCarriers env.now → IfOk result (λ a. IsActionIn env.now a) }
     ensures clash { IsErrOf result TypeFault.Clash → HasNone (IsActionTyping env.now raw.now) }
     ensures untyped { IsErrOf result TypeFault.Untyped → HasTwo (IsActionTyping env.now raw.now) }
 

@@ -1,9 +1,11 @@
 -- Places of names in the scopes of the code.
-use Rattle.std.proofs.Common.{◌≡◌, ◌∙◌, sym, ap, subst, refl, ℕ, zero, suc, ◌+◌, Bool, true, false, cond, List, [], ◌∷◌, ◌++◌, length, take, map, replicate, Option, Some, None, Result, Ok, Err, OnOk, add-one, eqb, arith, append_assoc}
+use Rattle.std.proofs.Common.{◌≡◌, ◌∙◌, sym, ap, subst, refl, ℕ, zero, suc, ◌+◌, Bool, true, false, cond, List, [], ◌∷◌, ◌++◌, length, take, drop, get_or, drop-cons, ◌<◌, map, replicate, Option, Some, None, Result, Ok, Err, OnOk, add-one, eqb, arith, append_assoc}
 use Rattle.std.specs.Prelude.{bytes_eq, is_some}
 use Rattle.std.proofs.lemmas.List.{replicate_more}
 use Rattle.std.proofs.lemmas.Bool.{ne_eqb}
-use Rattle.unification.specs.Terms.{Open, variable, instance, term_of}
+use Rattle.std.proofs.lemmas.Cmp.{nat_list_eq_equiv}
+use Rattle.formula_core.specs.Env.{type_in}
+use Rattle.unification.specs.Terms.{Open, open_of, variable, instance, term_of}
 use Rattle.unification.specs.declared.term.Term.{Term}
 use Rattle.unification.specs.Solutions.{Equality}
 use Rattle.formula_core.specs.Schemes.{Scheme}
@@ -11,7 +13,7 @@ use Rattle.formula_core.specs.declared.ty.Ty.{Ty}
 use Rattle.type_core.specs.Bare.{Bare, Bounds, plain, typed, nothing}
 use Rattle.type_core.specs.Scopes.{Scope, one_further, position_of, has_name}
 use Rattle.type_core.specs.Generated.{with_variables, condition, all_generated}
-use Rattle.type_core.specs.Views.{entry, stacked, scope_of, found_of, place_of, terms_of}
+use Rattle.type_core.specs.Views.{numbered, free_scope, entry, stacked, scope_of, found_of, place_of, terms_of}
 use Rattle.type_core.specs.declared.scope.Entry.{Entry}
 
 pub stacked-push : (scope : Scope Open) (es : List Entry) (e : Entry) → stacked scope (es ++ e ∷ []) ≡ (e.name, variable e.variable) ∷ stacked scope es
@@ -116,3 +118,45 @@ copies-instances n m k s o h e = (λ i. e i ∷ replicate (h i) (e i)) ∙ ap (�
 
 pub collected_form : (es mid gen gen' : List Equality) (a b : Equality) → mid ≡ es ++ a ∷ [] → a ≡ b → gen ≡ gen' → mid ++ gen ≡ es ++ b ∷ gen'
 collected_form es mid gen gen' a b h e g = ap (λ xs. xs ++ gen) h ∙ append_assoc es (a ∷ []) gen ∙ (λ i. es ++ (e i ∷ g i))
+
+-- The places of wanted names.
+
+numbered_drop : (xs : List (List ℕ)) (i : ℕ) (x : List ℕ) → i < length xs → x ≡ get_or xs i x → numbered (drop i xs) i ≡ (x, variable i) ∷ numbered (drop (i + 1) xs) (i + 1)
+numbered_drop xs i x lt is =
+    ap (λ ys. numbered ys i) (drop-cons xs i x lt)
+    ∙ (λ k. (sym is k, variable i) ∷ numbered (drop (sym (add-one i) k) xs) (sym (add-one i) k))
+
+pub wanted_here : (xs : List (List ℕ)) (i : ℕ) (x name : List ℕ) → i < length xs → x ≡ get_or xs i x → bytes_eq x name ≡ true → found_of (position_of name (numbered (drop i xs) i)) ≡ Some (variable i)
+wanted_here xs i x name lt is e =
+    ap (λ s. found_of (position_of name s)) (numbered_drop xs i x lt is)
+    ∙ ap (λ b. found_of (cond b (Some (0, variable i)) (one_further (position_of name (numbered (drop (i + 1) xs) (i + 1)))))) e
+
+pub wanted_later : (xs : List (List ℕ)) (i : ℕ) (x name : List ℕ) → i < length xs → x ≡ get_or xs i x → bytes_eq x name ≡ false
+    → found_of (position_of name (numbered (drop (i + 1) xs) (i + 1))) ≡ found_of (position_of name (numbered (drop i xs) i))
+wanted_later xs i x name lt is e =
+    sym (ap (λ s. found_of (position_of name s)) (numbered_drop xs i x lt is)
+    ∙ ap (λ b. found_of (cond b (Some (0, variable i)) (one_further (position_of name (numbered (drop (i + 1) xs) (i + 1)))))) e
+    ∙ found_further (position_of name (numbered (drop (i + 1) xs) (i + 1))))
+
+-- a free name has its type in the environment, or else the variable of its place among the wanted names
+abbrev found_in : Option Ty → Option Open → Option Open
+found_in (Some t) o = Some (open_of t)
+found_in None o = o
+
+free_step : (a b : Bool) (t : Ty) (o : Option Ty) (p : Option (ℕ × Open)) (w : Option Open) → a ≡ b → found_of p ≡ found_in o w → found_of (cond a (Some (0, open_of t)) (one_further p)) ≡ found_in (cond b (Some t) o) w
+free_step true true t o p w e h = refl
+free_step true false t o p w e h = cc
+free_step false true t o p w e h = cc
+free_step false false t o p w e h = found_further p ∙ h
+
+free_found : (env : List (List ℕ × Ty)) (wanted : List (List ℕ)) (x : List ℕ) → found_of (position_of x (free_scope env wanted)) ≡ found_in (type_in env x) (found_of (position_of x (numbered wanted 0)))
+free_found [] wanted x = refl
+free_found (e ∷ env) wanted x =
+    free_step (bytes_eq e.0 x) (bytes_eq x e.0) e.1 (type_in env x) (position_of x (free_scope env wanted)) (found_of (position_of x (numbered wanted 0)))
+    (nat_list_eq_equiv.symm e.0 x) (free_found env wanted x)
+
+pub free_there : (env : List (List ℕ × Ty)) (wanted : List (List ℕ)) (x : List ℕ) (t : Ty) → type_in env x ≡ Some t → found_of (position_of x (free_scope env wanted)) ≡ Some (open_of t)
+free_there env wanted x t h = free_found env wanted x ∙ ap (λ o. found_in o (found_of (position_of x (numbered wanted 0)))) h
+
+pub free_wanted : (env : List (List ℕ × Ty)) (wanted : List (List ℕ)) (x : List ℕ) → type_in env x ≡ None → found_of (position_of x (free_scope env wanted)) ≡ found_of (position_of x (numbered wanted 0))
+free_wanted env wanted x h = free_found env wanted x ∙ ap (λ o. found_in o (found_of (position_of x (numbered wanted 0)))) h

@@ -6,6 +6,10 @@ pub mod Determined
 pub mod Entries
 pub mod PartitionParts
 pub mod InARow
+pub mod Named
 pub mod Places
+pub mod Retyped
+pub mod Settled
 pub mod Sound
+pub mod Standing
 pub mod WellTyped

@@ -3,6 +3,7 @@ pub mod Bare
 pub mod Closed
 pub mod CoreForms
 pub mod Generated
+pub mod Laws
 pub mod Partition
 pub mod Scopes
 pub mod TypeExpressions

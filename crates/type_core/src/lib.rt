@@ -6,6 +6,7 @@ mod collect;
 mod denote;
 mod forms;
 mod free;
+mod laws;
 mod partition;
 mod predicate;
 mod reading;
@@ -15,10 +16,8 @@ mod terms;
 mod tree;
 mod unknown;
 
+pub use laws::{typed_formulas_stand, typed_predicates_stand};
 pub use predicate::{TypeFault, type_expression, type_predicate, type_tree};
 pub use reading::read;
 pub use tree::{BoundNames, Tree, Trees, before, form, pair};
 pub use unknown::{keep_earlier, keep_unknown};
-
-#[cfg(test)]
-mod tests;

@@ -1,10 +1,12 @@
 //! The one typing of a written formula.
-ghost use Rattle.std.specs.Prelude.{◌≡◌, ℕ, suc, ◌+◌, ◌<◌, ◌^◌, length, List, [], IfOk, OnOk, IsOk, IsErrOf, IsTrue, None, Some};
+ghost use Rattle.std.specs.Prelude.{◌≡◌, ℕ, suc, ◌+◌, ◌<◌, ◌^◌, length, take, List, [], IfOk, OnOk, OnErr, IsOk, IsErrOf, IsTrue, None, Some};
 ghost use Rattle.formula_core.specs.Env.{type_in};
 ghost use Rattle.formula_core.specs.Formulas.{free_of};
+ghost use Rattle.formula_core.specs.Typed.{HasCarriers, IsTypedIn};
 ghost use Rattle.formula_core.specs.Wellness.{is_well, type_of};
 ghost use Rattle.type_core.specs.Answers.{with_name, extended, IsExpected, IsTheTyping, HasNoTyping, HasTwoTypings, IsTheFormula, HasNoFormula, HasTwoFormulas};
 ghost use Rattle.type_core.specs.CoreForms.{core_form};
+ghost use Rattle.type_core.specs.Laws.{IsExpectedOver, IsStanding, StandsAfter};
 ghost use Rattle.type_core.specs.Unknowns.{unknowns, first_by_place, unknown_in};
 ghost use Rattle.type_core.specs.Views.{bare_of, free_scope, expected_term};
 ghost use Rattle.type_core.specs.Generated.{generated};
@@ -54,27 +56,28 @@ impl From<OutOfMemory> for TypeFault {
 /// Types a predicate, and adds the wanted names that occur in it to the environment, in their order.
 pub fn type_predicate(
     alloc: Global,
-    env: &Env,
+    env: &mut Env,
     wanted: &[Name],
     raw: &Raw,
-) -> Result<(Formula, Env), TypeFault>
+) -> Result<Formula, TypeFault>
     // The typing, where there is exactly one.
-    ensures typed { IfOk result (λ r. IsTheTyping env.now wanted.now raw.now r.0 r.1) }
-    ensures well { IfOk result (λ r. IsTrue (is_well r.0)) }
-    ensures is_predicate { IfOk result (λ r. type_of r.0 ≡ Ty.Truth) }
-    ensures clash { IsErrOf result TypeFault.Clash → HasNoTyping env.now wanted.now raw.now }
-    ensures untyped { IsErrOf result TypeFault.Untyped → HasTwoTypings env.now wanted.now raw.now }
+    ensures typed { IfOk result (λ f. IsTheTyping env.old wanted.now raw.now f env.new) }
+    ensures well { IfOk result (λ f. IsTrue (is_well f)) }
+    ensures is_predicate { IfOk result (λ f. type_of f ≡ Ty.Truth) }
+    ensures clash { IsErrOf result TypeFault.Clash → HasNoTyping env.old wanted.now raw.now }
+    ensures untyped { IsErrOf result TypeFault.Untyped → HasTwoTypings env.old wanted.now raw.now }
+    ensures unchanged { OnErr result (env.new ≡ env.old) }
+    ensures standing { HasCarriers env.old → IfOk result (λ f. IsStanding env.old env.new f) }
 
     // An unknown name goes first.
-    ensures unknown { (name : List ℕ) (place : ℕ) → IsErrOf result (TypeFault.Unknown name place) → unknown_in env.now wanted.now raw.now ≡ Some (name, place) }
-    ensures known { IsOk result → unknown_in env.now wanted.now raw.now ≡ None }
-    ensures known_clash { IsErrOf result TypeFault.Clash → unknown_in env.now wanted.now raw.now ≡ None }
-    ensures known_untyped { IsErrOf result TypeFault.Untyped → unknown_in env.now wanted.now raw.now ≡ None }
+    ensures unknown { (name : List ℕ) (place : ℕ) → IsErrOf result (TypeFault.Unknown name place) → unknown_in env.old wanted.now raw.now ≡ Some (name, place) }
+    ensures known { IsOk result → unknown_in env.old wanted.now raw.now ≡ None }
+    ensures known_clash { IsErrOf result TypeFault.Clash → unknown_in env.old wanted.now raw.now ≡ None }
+    ensures known_untyped { IsErrOf result TypeFault.Untyped → unknown_in env.old wanted.now raw.now ≡ None }
 {
     let formula = type_formula(alloc, env, wanted, raw, Some(&Ty::Truth))?;
-    let mut names = env.copy(alloc)?;
-    extend(alloc, &mut names, wanted, &formula)?;
-    Ok((formula, names))
+    extend(alloc, env, wanted, &formula)?;
+    Ok(formula)
 }
 
 /// Types an expression, of the expected type where one is given.
@@ -90,6 +93,7 @@ pub fn type_expression(
     ensures is_of_type { IfOk result (λ f. IsExpected (option_copied expected.entry) (type_of f)) }
     ensures clash { IsErrOf result TypeFault.Clash → HasNoFormula env.now [] (core_form raw.now) (option_copied expected.entry) }
     ensures untyped { IsErrOf result TypeFault.Untyped → HasTwoFormulas env.now [] (core_form raw.now) (option_copied expected.entry) }
+    ensures standing { HasCarriers env.now → IsExpectedOver env.now (option_copied expected.entry) → IfOk result (λ f. IsTypedIn env.now f) }
 
     // An unknown name goes first.
     ensures unknown { (name : List ℕ) (place : ℕ) → IsErrOf result (TypeFault.Unknown name place) → unknown_in env.now [] raw.now ≡ Some (name, place) }
@@ -153,6 +157,7 @@ pub fn type_tree(
     ensures is_of_type { IfOk result (λ f. IsExpected (option_copied expected.entry) (type_of f)) }
     ensures clash { IsErrOf result TypeFault.Clash → HasNoFormula env.now wanted.now (bare_of tree.now) (option_copied expected.entry) }
     ensures untyped { IsErrOf result TypeFault.Untyped → HasTwoFormulas env.now wanted.now (bare_of tree.now) (option_copied expected.entry) }
+    ensures standing { HasCarriers env.now → IsExpectedOver env.now (option_copied expected.entry) → IfOk result (λ f. StandsAfter env.now wanted.now f) }
     ensures unknown { (name : List ℕ) (place : ℕ) → IsErrOf result (TypeFault.Unknown name place) → ⊥ }
 {
     if wanted.len() >= u32::MAX as usize {
@@ -212,14 +217,35 @@ fn equations_of_tree(
     Ok(equations)
 }
 
-/// Adds the wanted names that occur in a formula.
+/// Adds the wanted names that occur in a formula. Where memory runs out nothing changes.
 fn extend(
     alloc: Global,
     env: &mut Env,
     wanted: &[Name],
     formula: &Formula,
 ) -> Result<(), OutOfMemory>
-    ensures { OnOk result (env.new ≡ extended env.old wanted.now formula.now) }
+    ensures extended { OnOk result (env.new ≡ extended env.old wanted.now formula.now) }
+    ensures unchanged { OnErr result (env.new ≡ env.old) }
+{
+    let len = env.entries().len();
+    match add_names(alloc, env, wanted, formula) {
+        Ok(()) => Ok(()),
+        Err(fault) => {
+            env.cut(len);
+            Err(fault)
+        }
+    }
+}
+
+/// Adds the wanted names that occur in a formula, as long as there is memory.
+fn add_names(
+    alloc: Global,
+    env: &mut Env,
+    wanted: &[Name],
+    formula: &Formula,
+) -> Result<(), OutOfMemory>
+    ensures added { OnOk result (env.new ≡ extended env.old wanted.now formula.now) }
+    ensures kept { take (length env.old) env.new ≡ env.old }
 {
     let free = formula.free(alloc)?;
     for name in wanted {
@@ -234,7 +260,8 @@ fn add_name(
     name: &Name,
     free: &[(Name, Ty)],
 ) -> Result<(), OutOfMemory>
-    ensures { OnOk result (env.new ≡ with_name env.old name.now (type_in free.now name.now)) }
+    ensures added { OnOk result (env.new ≡ with_name env.old name.now (type_in free.now name.now)) }
+    ensures unchanged { OnErr result (env.new ≡ env.old) }
 {
     match type_among(free, name) {
         Some(ty) => add_typed(alloc, env, name, ty),
@@ -243,7 +270,8 @@ fn add_name(
 }
 
 fn add_typed(alloc: Global, env: &mut Env, name: &Name, ty: &Ty) -> Result<(), OutOfMemory>
-    ensures { OnOk result (env.new ≡ with_name env.old name.now (Some ty.now)) }
+    ensures added { OnOk result (env.new ≡ with_name env.old name.now (Some ty.now)) }
+    ensures unchanged { OnErr result (env.new ≡ env.old) }
 {
     let name = name.copy(alloc)?;
     match env.add(name, ty.copy(alloc)?) {

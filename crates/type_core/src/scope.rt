@@ -4,7 +4,7 @@ ghost use Rattle.type_core.specs.Scopes.{position_of, has_name};
 ghost use Rattle.type_core.specs.Generated.{nearest};
 ghost use Rattle.type_core.specs.Views.{scope_of, free_scope, numbered, place_of, found_of, variable_of, term_in};
 
-use formula_core::{Env, Name, OutOfMemory, Ty};
+use formula_core::{Env, Name, OutOfMemory};
 use std::alloc::Global;
 use unification::Term;
 
@@ -42,45 +42,35 @@ pub(crate) fn is_bound(scope: &[Entry], name: &Name) -> bool
     find_bound(scope, name).is_some()
 }
 
-/// The variable of a wanted name, of which the first has the variable `first`.
-fn find_wanted(wanted: &[Name], first: u32, name: &Name) -> Option<u32>
-    requires { first + length wanted.now < 2 ^ 32 }
-    ensures { variable_of result ≡ found_of (position_of name.now (numbered wanted.now first)) }
+/// The variable of a wanted name, which is its place among them.
+fn find_wanted(wanted: &[Name], name: &Name) -> Option<u32>
+    requires { length wanted.now < 2 ^ 32 }
+    ensures { variable_of result ≡ found_of (position_of name.now (numbered wanted.now 0)) }
 {
-    match wanted.split_first() {
-        None => None,
-        Some((x, rest)) => {
-            if x.same(name) {
-                Some(first)
-            } else {
-                find_wanted(rest, first + 1, name)
-            }
+    for i in 0..wanted.len() {
+        if wanted[i].same(name) {
+            return Some(i as u32);
         }
     }
+    None
 }
 
 /// The type of a name that isn't bound.
 fn find_free(
     alloc: Global,
-    entries: &[(Name, Ty)],
+    env: &Env,
     wanted: &[Name],
     name: &Name,
 ) -> Result<Option<Term>, OutOfMemory>
     requires { length wanted.now < 2 ^ 32 }
-    ensures { IfOk result (λ t. term_in t ≡ found_of (position_of name.now (free_scope entries.now wanted.now))) }
+    ensures { IfOk result (λ t. term_in t ≡ found_of (position_of name.now (free_scope env.now wanted.now))) }
 {
-    match entries.split_first() {
-        None => match find_wanted(wanted, 0, name) {
-            None => Ok(None),
-            Some(i) => Ok(Some(Term::Var(i))),
-        },
-        Some((entry, rest)) => {
-            if entry.0.same(name) {
-                Ok(Some(Term::of_type(alloc, &entry.1)?))
-            } else {
-                find_free(alloc, rest, wanted, name)
-            }
-        }
+    if let Some(ty) = env.get(name) {
+        return Ok(Some(Term::of_type(alloc, ty)?));
+    }
+    match find_wanted(wanted, name) {
+        None => Ok(None),
+        Some(i) => Ok(Some(Term::Var(i))),
     }
 }
 
@@ -96,7 +86,7 @@ pub(crate) fn name_term(
     ensures { IfOk result (λ t. term_in t ≡ found_of (nearest (position_of name.now (scope_of scope.now)) (position_of name.now (free_scope env.now wanted.now)))) }
 {
     match find_bound(scope, name) {
-        None => find_free(alloc, env.entries(), wanted, name),
+        None => find_free(alloc, env, wanted, name),
         Some((_, variable)) => Ok(Some(Term::Var(variable))),
     }
 }

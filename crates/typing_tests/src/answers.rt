@@ -11,10 +11,11 @@ fn write_typed_predicate(
     alloc: Global,
     out: &mut String,
     first: usize,
-    typed: &Result<(Formula, Env), TypeFault>,
+    typed: &Result<Formula, TypeFault>,
+    after: &Env,
 ) -> Result<(), AllocError> {
     match typed {
-        Ok((formula, after)) => {
+        Ok(formula) => {
             write_formula(alloc, out, formula)?;
             write_entries(out, after.entries(), first)
         }
@@ -29,8 +30,11 @@ fn write_predicate(
     wanted: &[Name],
     raw: &Raw,
 ) -> Result<(), AllocError> {
-    let typed = type_predicate(alloc, env, wanted, raw);
-    write_typed_predicate(alloc, out, env.entries().len(), &typed)
+    let Ok(mut after) = env.copy(alloc) else {
+        return Err(AllocError);
+    };
+    let typed = type_predicate(alloc, &mut after, wanted, raw);
+    write_typed_predicate(alloc, out, env.entries().len(), &typed, &after)
 }
 
 /// Writes the answer to a predicate of which these names are wanted.

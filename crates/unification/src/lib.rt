@@ -12,6 +12,3 @@ mod term;
 pub use closing::{close, type_of};
 pub use equations::{Equation, SolveFault, solve};
 pub use term::Term;
-
-#[cfg(test)]
-mod tests;

@@ -1,7 +1,6 @@
-use Rattle.std.proofs.Common.{ap, ◌∙◌}
 use Rattle.std.proofs.lemmas.Result.{err_from_is_err_and}
-use Rattle.type_core.specs.Answers.{extended}
 use Rattle.type_core.proofs.Answered.{the_typing, no_typing}
+use Rattle.type_core.proofs.Standing.{predicates_stand}
 use Rattle.type_core.proofs.predicate.type_predicate.Goals as goal
 
 pub returns-in_err-formula-clause-clash : goal.returns-in_err-formula-clause-clash
@@ -14,4 +13,10 @@ returns-in_err-formula-clause-clash c e =
 pub returns-clause-typed : goal.returns-clause-typed
 returns-clause-typed c =
     the_typing c.args.env.now c.args.wanted.now c.args.raw.now c.in_ok-formula.formula _ c.in_ok-formula.ensures.typed
-    (c.in_ok-extend.ensures ∙ ap (λ e. extended e c.args.wanted.now c.in_ok-formula.formula) c.in_ok-names.ensures)
+    c.in_ok-extend.ensures.extended
+
+pub returns-clause-standing : goal.returns-clause-standing
+returns-clause-standing c has =
+    predicates_stand c.args.env.now c.args.wanted.now c.args.raw.now c.in_ok-formula.formula _
+    (the_typing c.args.env.now c.args.wanted.now c.args.raw.now c.in_ok-formula.formula _ c.in_ok-formula.ensures.typed
+    c.in_ok-extend.ensures.extended) has

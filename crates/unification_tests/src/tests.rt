@@ -1,9 +1,9 @@
 ghost use Rattle.std.specs.Prelude.{◌+◌, ◌<◌, ◌^◌};
 
-use super::*;
 use formula_core::{BinaryRow, Name, OutOfMemory, Ty};
 use std::alloc::Global;
 use std::test::Fail;
+use unification::*;
 
 fn set_of(alloc: Global, members: Term) -> Result<Term, OutOfMemory> {
     Ok(Term::Pow(Box::new(alloc, members)?))

@@ -1,6 +1,0 @@
-use Rattle.std.proofs.Common.{◌≡◌, drop}
-use Rattle.type_core.specs.Answers.{extended}
-use Rattle.type_core.proofs.predicate.extend.Given as goal
-
-abbrev pub invariant-loop-name : goal.invariant-loop-name
-invariant-loop-name l = extended l.env (drop l.name-index l.wanted) l.formula ≡ extended l.initial.env l.wanted l.formula
