@@ -1,1 +1,3 @@
 pub mod Components
+pub mod Each
+pub mod Faults

@@ -5,13 +5,22 @@ ghost use Rattle.model_core.specs.Components.{heading};
 
 use formula_core::{Label, List, Raw, RawAction, Ref};
 
-/// A labelled formula as it is written. The place is that of its label.
+/// A labelled formula as it is written. The place is that of its label, and `first` that of the formula's first token,
+/// which may be a parenthesis.
 #[derive(Drop)]
 pub struct RawLabelled {
     pub label: Label,
     pub theorem: bool,
     pub formula: Raw,
     pub place: u32,
+    pub first: u32,
+}
+
+/// A variant as it is written, with the place of its first token.
+#[derive(Drop)]
+pub struct RawVariant {
+    pub formula: Raw,
+    pub first: u32,
 }
 
 /// A labelled action as it is written. The place is that of its label.
@@ -58,7 +67,7 @@ pub enum RawComponent {
         sees: List<Ref>,
         variables: List<Ref>,
         invariants: List<RawLabelled>,
-        variant: Option<Raw>,
+        variant: Option<RawVariant>,
         events: List<RawEvent>,
     },
 }

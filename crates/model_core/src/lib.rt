@@ -1,10 +1,10 @@
-//! Components as they are written, and the faults of components.
+//! Components as they are written and as they are checked, and the faults of components.
 #![tactic(auto)]
 
+mod checked;
 mod component;
 mod fault;
-#[cfg(test)]
-mod tests;
 
-pub use component::{Convergence, RawComponent, RawEvent, RawLabelled, RawStep};
-pub use fault::Fault;
+pub use checked::{Checked, CheckedContext, CheckedEvent, CheckedMachine, Labelled};
+pub use component::{Convergence, RawComponent, RawEvent, RawLabelled, RawStep, RawVariant};
+pub use fault::{Fault, FaultKind, earlier, fault_at};
