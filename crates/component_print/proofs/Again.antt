@@ -14,7 +14,7 @@ use Rattle.math_grammar.specs.Grammar.{item}
 use Rattle.model_core.specs.declared.component.RawLabelled.{RawLabelled}
 use Rattle.component_text.specs.Marks.{Mark, word, label, plain, is_word, is_at}
 use Rattle.component_text.specs.Forms.{Bounds, One, Run, Nothing, Choice, taken, other, no_more, one_more}
-use Rattle.component_text.specs.Grammar.{IsFormula, reference, is_reference, label_at, is_a_label, Names, SomeNames, labelled, Labelled, Line, begins_line, Lines, NamesBehind, SomeNamesBehind}
+use Rattle.component_text.specs.Grammar.{IsFormula, first_place, IsPlaced, reference, is_reference, label_at, is_a_label, Names, SomeNames, labelled, Labelled, Line, begins_line, Lines, NamesBehind, SomeNamesBehind}
 use Rattle.component_text.specs.Machines.{IsAct}
 use Rattle.component_text.proofs.Parts.{Ended, at_word, at_label, run_of, behind_of}
 use Rattle.component_text.proofs.Whole.{same_word}
@@ -78,6 +78,9 @@ name_again r h x e =
       ap is_reference one.1 ∙ valid,
       (λ i. record { name = text i; place = 0 }),
     )
+
+abbrev pub unplaced_pair : (Raw × ℕ) → (Raw × ℕ)
+unplaced_pair x = (unplaced x.0, 0)
 
 module _ (b : Bounds) where
   pub one_name : (r : Ref) → IsName r → (x : Mark) → unplaced_mark x ≡ name_mark r → (rest : List Mark) → ReadsAgain (One reference b) unplaced_ref (x ∷ []) r rest
@@ -152,18 +155,22 @@ module _ (b : Bounds) where
       )
 
   module _ (IsGood : Hole → Raw → Type 0) (formulas : FormulaAgain IsGood) where
+    -- with the place of its first token
+    pub placed_again : (h : Hole) (x : Raw × ℕ) → IsGood h x.0 → (zs : List Item) → map unplaced_item zs ≡ raw_tokens x.0 → (again : Raw × ℕ) × IsPlaced h b zs again × (unplaced_pair again ≡ unplaced_pair x)
+    placed_again h x good zs e = let k = formulas h x.0 good zs e in ((k.0, first_place zs), (k.1, refl), λ i. (k.2 i, 0))
+
     pub labelled_again : (theorem : Bool) (l : RawLabelled) → l.theorem ≡ theorem → IsLine IsGood l → (s : List Mark) → map unplaced_mark s ≡ labelled_marks l → (rest : List Mark) → Ended rest →
         ReadsAgain (Labelled theorem b) unplaced_labelled s l rest
     labelled_again theorem l own good s e rest stop =
         let one = split_one s (label l.label 0) (map plain (raw_tokens l.formula)) e in
         let head = label_placed one.0 l.label one.3 in
-        let formula = run_again (IsFormula hole.Predicate) unplaced l.formula (raw_tokens l.formula) (formulas hole.Predicate l.formula good.1) one.1 one.4 rest stop in
+        let formula = run_again (IsPlaced hole.Predicate) unplaced_pair (l.formula, l.first) (raw_tokens l.formula) (placed_again hole.Predicate (l.formula, l.first) good.1) one.1 one.4 rest stop in
         let named : label_at one.0 ≡ Some (l.label, head.0) =
         ap label_at head.1 ∙ ap (λ t. cond {A = Option (List ℕ × ℕ)} t (Some (l.label, head.0)) None) good.0 in (
           labelled theorem ((l.label, head.0), formula.0),
           subst (λ t. Labelled theorem b (t ++ rest) (labelled theorem ((l.label, head.0), formula.0)) rest) (sym one.2)
               (record { from = ((l.label, head.0), formula.0); is = refl; part = record { middle = one.1 ++ rest; first = record { mark = one.0; there = refl; is = named }; second = formula.1 } }),
-          (λ i. record { label = l.label; theorem = (sym own) i; formula = formula.2 i; place = 0 }),
+          (λ i. record { label = l.label; theorem = (sym own) i; formula = (formula.2 i).0; place = 0; first = 0 }),
         )
 
     line_again : (theorem : Bool) (l : RawLabelled) → l.theorem ≡ theorem → IsLine IsGood l → (s : List Mark) → map unplaced_mark s ≡ theorem_marks theorem ++ labelled_marks l → (rest : List Mark) → Ended rest →

@@ -12,6 +12,7 @@ use Rattle.math_grammar.specs.Tokens.{Item}
 use Rattle.model_core.specs.declared.component.Convergence.{Convergence}
 use Rattle.model_core.specs.declared.component.Convergence.TheVariants.{Ordinary, Convergent, Anticipated}
 use Rattle.model_core.specs.declared.component.RawLabelled.{RawLabelled}
+use Rattle.model_core.specs.declared.component.RawVariant.{RawVariant}
 use Rattle.model_core.specs.declared.component.RawStep.{RawStep}
 use Rattle.model_core.specs.declared.component.RawEvent.{RawEvent}
 use Rattle.model_core.specs.declared.component.RawComponent.{RawComponent}
@@ -19,16 +20,16 @@ use Rattle.model_core.specs.declared.component.RawComponent.TheVariants.{Context
 use Rattle.component_text.specs.declared.machine.Abstracts.{Abstracts}
 use Rattle.component_text.specs.Marks.{Mark, word, label, plain, is_word, is_at}
 use Rattle.component_text.specs.Forms.{Bounds, taken, other, no_more, one_more}
-use Rattle.component_text.specs.Grammar.{IsFormula, label_at, is_a_label, context_of}
-use Rattle.component_text.specs.Machines.{IsAct, Refines, Variant, Witnesses, step, Step, Steps, extending, refining, References, either, With, Actions, EventParts, event_of, EventBody, Event, begins_event, EventList, Events, machine_of, IsComponent, a_context, a_machine}
+use Rattle.component_text.specs.Grammar.{IsPlaced, label_at, is_a_label, context_of}
+use Rattle.component_text.specs.Machines.{IsAct, Refines, Variant, variant_of, Witnesses, step, Step, Steps, extending, refining, References, either, With, Actions, EventParts, event_of, EventBody, Event, begins_event, EventList, Events, machine_of, IsComponent, a_context, a_machine}
 use Rattle.component_text.proofs.Parts.{Ended, at_word, at_label}
 use Rattle.component_text.proofs.Whole.{same_word}
-use Rattle.component_print.specs.Unplaced.{unplaced_labelled, unplaced_step, unplaced_event, unplaced_component}
+use Rattle.component_print.specs.Unplaced.{unplaced_labelled, unplaced_variant, unplaced_step, unplaced_event, unplaced_component}
 use Rattle.math_places.specs.Places.{unplaced, unplaced_action, unplaced_ref}
 use Rattle.raw_print.specs.Printing.{raw_tokens, action_tokens}
 use Rattle.component_print.proofs.Marked.{name_mark, names_marks, theorem_marks, line_marks, labelled_marks, lines_marks, section_marks, step_marks, step_lines_marks, steps_marks, convergence_marks, abstract_word, end_marks, event_body_marks, event_marks, event_list_marks, events_marks, variant_marks, component_marks, unplaced_mark, split_one, split_both, none_left, word_placed, label_placed, items_placed}
 use Rattle.component_print.proofs.Made.{IsWitness, IsStep, IsAbstracts, IsEvent, IsRefined, IsVariant, IsMade}
-use Rattle.component_print.proofs.Again.{Follows, here, there, ended, no_name, lacks, no_word, no_line, no_label, ReadsAgain, one_name, names_behind_again, some_names_behind_again, FormulaAgain, ActionAgain, run_again, labelled_again, lines_ended, section_again}
+use Rattle.component_print.proofs.Again.{Follows, here, there, ended, no_name, lacks, no_word, no_line, no_label, ReadsAgain, one_name, names_behind_again, some_names_behind_again, FormulaAgain, ActionAgain, run_again, unplaced_pair, placed_again, labelled_again, lines_ended, section_again}
 
 -- what stands behind a part that may be empty
 follow_names : (w : List ℕ) (rs : List Ref) (s : List Mark) → map unplaced_mark s ≡ names_marks w rs → (ws : List (List ℕ)) (rest : List Mark) → Follows ws rest → Follows (w ∷ ws) (s ++ rest)
@@ -52,10 +53,10 @@ follow_steps (a ∷ acts) s e ws rest f =
     let head = word_placed one.0 (codes "then") one.3 in
     subst (λ t. Follows (codes "then" ∷ ws) (t ++ rest)) (sym (one.2 ∙ ap (λ x. x ∷ one.1) head.1)) here
 
-follow_variant : (o : Option Raw) (s : List Mark) → map unplaced_mark s ≡ variant_marks o → (ws : List (List ℕ)) (rest : List Mark) → Follows ws rest → Follows (codes "variant" ∷ ws) (s ++ rest)
+follow_variant : (o : Option RawVariant) (s : List Mark) → map unplaced_mark s ≡ variant_marks o → (ws : List (List ℕ)) (rest : List Mark) → Follows ws rest → Follows (codes "variant" ∷ ws) (s ++ rest)
 follow_variant None s e ws rest f = rw (none_left s e) (there f)
 follow_variant (Some x) s e ws rest f =
-    let one = split_one s (word (codes "variant") 0) (map plain (raw_tokens x)) e in
+    let one = split_one s (word (codes "variant") 0) (map plain (raw_tokens x.formula)) e in
     let head = word_placed one.0 (codes "variant") one.3 in
     subst (λ t. Follows (codes "variant" ∷ ws) (t ++ rest)) (sym (one.2 ∙ ap (λ x. x ∷ one.1) head.1)) here
 
@@ -348,17 +349,17 @@ module _ (b : Bounds) (IsGood : Hole → Raw → Type 0) (formulas : FormulaAgai
         events.2,
       )
 
-  variant_again : (o : Option Raw) → IsVariant IsGood o → (s : List Mark) → map unplaced_mark s ≡ variant_marks o → (ws : List (List ℕ)) (rest : List Mark) → Follows ws rest → is_at (is_word (codes "variant")) rest ≡ false → ReadsAgain (Variant b) (option_map unplaced) s o rest
+  variant_again : (o : Option RawVariant) → IsVariant IsGood o → (s : List Mark) → map unplaced_mark s ≡ variant_marks o → (ws : List (List ℕ)) (rest : List Mark) → Follows ws rest → is_at (is_word (codes "variant")) rest ≡ false → ReadsAgain (Variant b) (option_map unplaced_variant) s o rest
   variant_again None good s e ws rest f free = (None, rw (none_left s e) (other free (record { is = refl; behind = refl })), refl)
   variant_again (Some x) good s e ws rest f free =
-      let one = split_one s (word (codes "variant") 0) (map plain (raw_tokens x)) e in
+      let one = split_one s (word (codes "variant") 0) (map plain (raw_tokens x.formula)) e in
       let head = word_placed one.0 (codes "variant") one.3 in
-      let formula = run_again b (IsFormula hole.Expression) unplaced x (raw_tokens x) (formulas hole.Expression x good) one.1 one.4 rest (ended ws rest f) in
-      let items = items_placed one.1 (raw_tokens x) one.4 in (
-        Some formula.0,
-        subst (λ t. Variant b (t ++ rest) (Some formula.0) rest) (sym (one.2 ∙ ap (λ y. y ∷ one.1) head.1))
+      let formula = run_again b (IsPlaced hole.Expression) unplaced_pair (x.formula, x.first) (raw_tokens x.formula) (placed_again b IsGood formulas hole.Expression (x.formula, x.first) good) one.1 one.4 rest (ended ws rest f) in
+      let items = items_placed one.1 (raw_tokens x.formula) one.4 in (
+        variant_of formula.0,
+        subst (λ t. Variant b (t ++ rest) (variant_of formula.0) rest) (sym (one.2 ∙ ap (λ y. y ∷ one.1) head.1))
             (taken (word (codes "variant") head.0) (one.1 ++ rest) refl refl (record { from = formula.0; is = refl; part = other (unlabelled items.0 one.1 items.1) formula.1 })),
-        (λ i. Some (formula.2 i)),
+        (λ i. Some (record { formula = (formula.2 i).0; first = 0 })),
       )
     where
       unlabelled : (zs : List Item) (m : List Mark) → m ≡ map plain zs → is_at is_a_label (m ++ rest) ≡ false
@@ -460,7 +461,7 @@ module _ (b : Bounds) (IsGood : Hole → Raw → Type 0) (formulas : FormulaAgai
         (λ i. Context (named.2 i) (extended.2 i) (carriers.2 i) (constants_again.2 i) (axioms_again.2 i)),
       )
 
-  machine_again : (name : Ref) (refines : Option Ref) (sees variables : List Ref) (invariants : List RawLabelled) (variant : Option Raw) (events : List RawEvent) →
+  machine_again : (name : Ref) (refines : Option Ref) (sees variables : List Ref) (invariants : List RawLabelled) (variant : Option RawVariant) (events : List RawEvent) →
       IsMade IsGood IsGoodAction (Machine name refines sees variables invariants variant events) → (s : List Mark) →
       map unplaced_mark s ≡ component_marks (Machine name refines sees variables invariants variant events) → ComponentAgain (Machine name refines sees variables invariants variant events) s
   machine_again name refines sees variables invariants variant events good s e =
@@ -502,7 +503,7 @@ module _ (b : Bounds) (IsGood : Hole → Raw → Type 0) (formulas : FormulaAgai
       let t1 : s0.1 ≡ r1 = s1.2 ∙ ap (λ t. s1.0 ++ t) t2 in
       let t0 : second.1 ≡ r0 = s0.2 ∙ ap (λ t. s0.0 ++ t) t1 in
       let at : s ≡ word (codes "machine") head.0 ∷ (second.0 ∷ r0) = first.2 ∙ (λ i. head.1 i ∷ (second.2 ∙ ap (λ t. second.0 ∷ t) t0) i) in
-      let from : Ref × (Option Ref × (List Ref × (List Ref × (List RawLabelled × (Option Raw × List RawEvent))))) = (named.0, (refined.0, (seen.0, (own.0, (invariants_again.0, (measure.0, happen.0)))))) in (
+      let from : Ref × (Option Ref × (List Ref × (List Ref × (List RawLabelled × (Option RawVariant × List RawEvent))))) = (named.0, (refined.0, (seen.0, (own.0, (invariants_again.0, (measure.0, happen.0)))))) in (
         machine_of from,
         a_machine (record {
           place = head.0;

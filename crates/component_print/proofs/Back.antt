@@ -12,6 +12,8 @@ use Rattle.component_text.specs.declared.pieces.ReadFault.TheVariants as fault
 use Rattle.component_text.specs.Marks.{Mark, marks_of}
 use Rattle.component_text.specs.Forms.{limits, parts, none}
 use Rattle.component_text.specs.Machines.{IsComponent}
+use Rattle.model_core.specs.declared.fault.FaultKind.{FaultKind}
+use Rattle.model_core.specs.declared.fault.FaultKind.TheVariants as kind
 use Rattle.component_text.specs.Faults.{IsUnexpectedAt}
 use Rattle.component_text.specs.Spelled.{IsFirst, bad_sign, number_too_wide, unexpected, unexpected_end, too_large, comment_not_closed, wrong_name}
 use Rattle.component_text.proofs.Unique.{OneFormula}
@@ -35,21 +37,21 @@ module _ (law : OneFormula) (action_law : OneAction) (ways : (text : List ℕ) (
   some_goes_on [] u = u.nowhere any (subst (λ s. IsComponent none s any) (u.is ∙ append-nil u.before) without)
   some_goes_on (x ∷ later) u = u.nowhere later any (subst (λ s. IsComponent none s any) u.is without)
 
-  first_fault : (o : Option CutFault) → o ≡ None → (kind place : ℕ) (words : List ℕ) → IsFirst IsComponent (heading c).name text (marks_of text tokens) o kind place words → kind ≡ 4
-  first_fault o e kind place words (bad_sign n h w) = cc
-  first_fault o e kind place words (number_too_wide n h w) = cc
-  first_fault o e kind place words (unexpected {x = x} {later = later} n u) = absurd (some_goes_on (x ∷ later) u)
-  first_fault o e kind place words (unexpected_end n u w) = absurd (some_goes_on [] u)
-  first_fault o e kind place words (too_large n u) = refl
-  first_fault o e kind place words (comment_not_closed n h w) = cc
-  first_fault o e kind place words (wrong_name n) =
+  first_fault : (o : Option CutFault) → o ≡ None → (k : FaultKind) (place : ℕ) (words : List ℕ) → IsFirst IsComponent (heading c).name text (marks_of text tokens) o k place words → k ≡ kind.FormulaTooLarge
+  first_fault o e k place words (bad_sign n h w) = cc
+  first_fault o e k place words (number_too_wide n h w) = cc
+  first_fault o e k place words (unexpected {x = x} {later = later} n u) = absurd (some_goes_on (x ∷ later) u)
+  first_fault o e k place words (unexpected_end n u w) = absurd (some_goes_on [] u)
+  first_fault o e k place words (too_large n u) = refl
+  first_fault o e k place words (comment_not_closed n h w) = cc
+  first_fault o e k place words (wrong_name n) =
       let named = component_named parts (marks_of text tokens) again (heading c).name within (same_heading again c same) in cc
 
   pub read_again : (answer : Result RawComponent ReadFault) → IsReadAs (heading c).name text answer → IsSame c answer
   read_again (Ok x) h =
       let cuts = ways text h.found.tokens tokens None None h.found.cut cut in
       let own : IsComponent limits (marks_of text tokens) x = subst (λ ts. IsComponent limits (marks_of text ts) x) cuts.0 h.found.sentence in
-      let one : x ≡ again = component_unique law action_law parts (marks_of text tokens) x again (component_loosens (marks_of text tokens) x own) within in
+      let one : x ≡ again = component_unique law action_law parts (marks_of text tokens) x again (component_loosens limits parts tt (marks_of text tokens) x own) within in
       ap unplaced_component one ∙ same
   read_again (Err (fault.Fault f)) h =
       let k = h.fault in

@@ -13,6 +13,7 @@ use Rattle.math_grammar.specs.Tokens.{Item}
 use Rattle.model_core.specs.declared.component.Convergence.{Convergence}
 use Rattle.model_core.specs.declared.component.Convergence.TheVariants.{Ordinary, Convergent, Anticipated}
 use Rattle.model_core.specs.declared.component.RawLabelled.{RawLabelled}
+use Rattle.model_core.specs.declared.component.RawVariant.{RawVariant}
 use Rattle.model_core.specs.declared.component.RawStep.{RawStep}
 use Rattle.model_core.specs.declared.component.RawEvent.{RawEvent}
 use Rattle.model_core.specs.declared.component.RawComponent.{RawComponent}
@@ -46,9 +47,9 @@ module _ (IsGood : Hole → Raw → Type 0) where
   abbrev pub IsWitness : RawLabelled → Type 0
   IsWitness l = (l.theorem ≡ false) × IsLine l
 
-  abbrev pub IsVariant : Option Raw → Type 0
+  abbrev pub IsVariant : Option RawVariant → Type 0
   IsVariant None = Unit {0}
-  IsVariant (Some e) = IsGood hole.Expression e
+  IsVariant (Some v) = IsGood hole.Expression v.formula
 
   module _ (IsGoodAction : RawAction → Type 0) where
     abbrev pub IsStep : RawStep → Type 0
@@ -132,7 +133,7 @@ module _ (Small : Item → Type 0) (IsGood : Hole → Raw → Type 0) (IsGoodAct
   labelled_made : (theorem : Bool) (s : List Mark) (l : RawLabelled) (rest : List Mark) → AreSmall Small s → Labelled theorem limits s l rest → IsLine IsGood l × (l.theorem ≡ theorem)
   labelled_made theorem s l rest small h =
       let middle : AreSmall Small h.part.middle = (subst (AreSmall Small) h.part.first.there small).1 in
-      let good : IsGood hole.Predicate h.from.1 = formula_good hole.Predicate (run h.part.middle) h.from.1 refl (small_run h.part.middle middle) h.part.second.spelled in
+      let good : IsGood hole.Predicate h.from.1.0 = formula_good hole.Predicate (run h.part.middle) h.from.1.0 refl (small_run h.part.middle middle) h.part.second.spelled.0 in
       subst (λ k. IsLine IsGood k × (k.theorem ≡ theorem)) h.is ((label_read h.part.first.mark h.from.0 h.part.first.is, good), refl)
 
   line_made : (s : List Mark) (l : RawLabelled) (rest : List Mark) → AreSmall Small s → Line limits s l rest → IsLine IsGood l
@@ -216,11 +217,11 @@ module _ (Small : Item → Type 0) (IsGood : Hole → Raw → Type 0) (IsGoodAct
   refines_made s o rest (taken x m e is h) = subst IsRefined h.is (name_read h.part.mark h.from h.part.is)
   refines_made s o rest (other isnt h) = subst IsRefined (sym h.is) tt
 
-  variant_expression_made : (s : List Mark) (e : Raw) (rest : List Mark) → AreSmall Small s → VariantExpression limits s e rest → IsGood hole.Expression e
-  variant_expression_made s e rest small (taken x m t is h) = formula_good hole.Expression (run m) e refl (small_run m (subst (AreSmall Small) t small).1) h.spelled
-  variant_expression_made s e rest small (other isnt h) = formula_good hole.Expression (run s) e refl (small_run s small) h.spelled
+  variant_expression_made : (s : List Mark) (e : Raw × ℕ) (rest : List Mark) → AreSmall Small s → VariantExpression limits s e rest → IsGood hole.Expression e.0
+  variant_expression_made s e rest small (taken x m t is h) = formula_good hole.Expression (run m) e.0 refl (small_run m (subst (AreSmall Small) t small).1) h.spelled.0
+  variant_expression_made s e rest small (other isnt h) = formula_good hole.Expression (run s) e.0 refl (small_run s small) h.spelled.0
 
-  variant_made : (s : List Mark) (o : Option Raw) (rest : List Mark) → AreSmall Small s → Variant limits s o rest → IsVariant IsGood o
+  variant_made : (s : List Mark) (o : Option RawVariant) (rest : List Mark) → AreSmall Small s → Variant limits s o rest → IsVariant IsGood o
   variant_made s o rest small (taken x m t is h) = subst (IsVariant IsGood) h.is (variant_expression_made m h.from rest (subst (AreSmall Small) t small).1 h.part)
   variant_made s o rest small (other isnt h) = subst (IsVariant IsGood) (sym h.is) tt
 

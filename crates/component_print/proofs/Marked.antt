@@ -10,6 +10,7 @@ use Rattle.math_grammar.specs.Grammar.{item}
 use Rattle.model_core.specs.declared.component.Convergence.{Convergence}
 use Rattle.model_core.specs.declared.component.Convergence.TheVariants.{Ordinary, Convergent, Anticipated}
 use Rattle.model_core.specs.declared.component.RawLabelled.{RawLabelled}
+use Rattle.model_core.specs.declared.component.RawVariant.{RawVariant}
 use Rattle.model_core.specs.declared.component.RawStep.{RawStep}
 use Rattle.model_core.specs.declared.component.RawEvent.{RawEvent}
 use Rattle.model_core.specs.declared.component.RawComponent.{RawComponent}
@@ -83,9 +84,9 @@ abbrev pub events_marks : List RawEvent → List Mark
 events_marks [] = []
 events_marks (e ∷ es) = word (codes "events") 0 ∷ event_list_marks (e ∷ es)
 
-abbrev pub variant_marks : Option Raw → List Mark
+abbrev pub variant_marks : Option RawVariant → List Mark
 variant_marks None = []
-variant_marks (Some e) = word (codes "variant") 0 ∷ map plain (raw_tokens e)
+variant_marks (Some v) = word (codes "variant") 0 ∷ map plain (raw_tokens v.formula)
 
 abbrev pub component_marks : RawComponent → List Mark
 component_marks (Context name extends sets constants axioms) =

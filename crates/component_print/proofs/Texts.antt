@@ -23,6 +23,7 @@ use Rattle.math_grammar.specs.Tokens.{Item, symbol_of}
 use Rattle.model_core.specs.declared.component.Convergence.{Convergence}
 use Rattle.model_core.specs.declared.component.Convergence.TheVariants.{Ordinary, Convergent, Anticipated}
 use Rattle.model_core.specs.declared.component.RawLabelled.{RawLabelled}
+use Rattle.model_core.specs.declared.component.RawVariant.{RawVariant}
 use Rattle.model_core.specs.declared.component.RawStep.{RawStep}
 use Rattle.model_core.specs.declared.component.RawEvent.{RawEvent}
 use Rattle.model_core.specs.declared.component.RawComponent.{RawComponent}
@@ -330,11 +331,11 @@ module _ (IsGood : Hole → Raw → Type 0) (IsGoodAction : RawAction → Type 0
   events_laid [] good s t more = more
   events_laid (x ∷ es) good s t more = laid-events _ _ refl (new_line _ _ (event_texts_laid (x ∷ es) good s t more))
 
-  variant_laid : (o : Option Raw) → IsVariant IsGood o → (s : List Mark) (t : List ℕ) → Laid s t → Laid (variant_marks o ++ s) (variant_line o ++ t)
+  variant_laid : (o : Option RawVariant) → IsVariant IsGood o → (s : List Mark) (t : List ℕ) → Laid s t → Laid (variant_marks o ++ s) (variant_line o ++ t)
   variant_laid None good s t more = more
   variant_laid (Some r) good s t more =
-      let formula : Laid (map plain (raw_tokens r) ++ s) (raw_text r ++ (10 ∷ t)) = formula_laid hole.Expression r good s t (new_line s t more) in
-      subst (λ u. Laid (variant_marks (Some r) ++ s) u) (back (push (codes "variant ") (raw_text r ++ codes "\n") t _ (push (raw_text r) (codes "\n") t _ refl))) (laid-variant _ _ refl (blank _ _ formula))
+      let formula : Laid (map plain (raw_tokens r.formula) ++ s) (raw_text r.formula ++ (10 ∷ t)) = formula_laid hole.Expression r.formula good s t (new_line s t more) in
+      subst (λ u. Laid (variant_marks (Some r) ++ s) u) (back (push (codes "variant ") (raw_text r.formula ++ codes "\n") t _ (push (raw_text r.formula) (codes "\n") t _ refl))) (laid-variant _ _ refl (blank _ _ formula))
 
   refined_names : (o : Option Ref) → IsRefined o → AllByRecursion IsName (option_to_list o)
   refined_names None h = tt

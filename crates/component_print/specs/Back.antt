@@ -1,6 +1,7 @@
 -- What the printed text of a component is read as.
 use Rattle.std.specs.Prelude.{◌≡◌, ℕ, List, Result, Ok, Err, IfOk, IfErr}
 use Rattle.model_core.specs.declared.component.RawComponent.{RawComponent}
+use Rattle.model_core.specs.declared.fault.FaultKind.TheVariants as kind
 use Rattle.model_core.specs.Components.{heading}
 use Rattle.component_text.specs.declared.pieces.ReadFault.{ReadFault}
 use Rattle.component_text.specs.declared.pieces.ReadFault.TheVariants as fault
@@ -21,7 +22,7 @@ pub record IsReadAs (name text : List ℕ) (answer : Result RawComponent ReadFau
 -- the same component but for places, or the fault of a formula that is too large, unless memory runs out
 abbrev pub IsSame : RawComponent → Result RawComponent ReadFault → Type 0
 IsSame c (Ok again) = unplaced_component again ≡ unplaced_component c
-IsSame c (Err (fault.Fault f)) = f.kind ≡ 4
+IsSame c (Err (fault.Fault f)) = f.kind ≡ kind.FormulaTooLarge
 IsSame c (Err fault.OutOfMemory) = Unit {0}
 
 -- whatever is read of the text

@@ -6,6 +6,7 @@ use Rattle.formula_core.specs.declared.raw.Ref.{Ref}
 use Rattle.model_core.specs.declared.component.Convergence.{Convergence}
 use Rattle.model_core.specs.declared.component.Convergence.TheVariants.{Ordinary, Convergent, Anticipated}
 use Rattle.model_core.specs.declared.component.RawLabelled.{RawLabelled}
+use Rattle.model_core.specs.declared.component.RawVariant.{RawVariant}
 use Rattle.model_core.specs.declared.component.RawStep.{RawStep}
 use Rattle.model_core.specs.declared.component.RawEvent.{RawEvent}
 use Rattle.model_core.specs.declared.component.RawComponent.{RawComponent}
@@ -77,9 +78,9 @@ abbrev pub events_section : List RawEvent → List ℕ
 events_section [] = []
 events_section (e ∷ es) = codes "events\n" ++ event_texts (e ∷ es)
 
-abbrev pub variant_line : Option Raw → List ℕ
+abbrev pub variant_line : Option RawVariant → List ℕ
 variant_line None = []
-variant_line (Some e) = codes "variant " ++ (raw_text e ++ codes "\n")
+variant_line (Some v) = codes "variant " ++ (raw_text v.formula ++ codes "\n")
 
 abbrev pub heading_text : List ℕ → Ref → List ℕ
 heading_text word name = word ++ (name.name ++ codes "\n")
@@ -88,7 +89,7 @@ abbrev pub context_sections : List Ref → List Ref → List Ref → List RawLab
 context_sections extends sets constants axioms =
     names_line (codes "extends") extends ++ (names_line (codes "sets") sets ++ (names_line (codes "constants") constants ++ section (codes "axioms") (codes "  ") axioms))
 
-abbrev pub machine_sections : Option Ref → List Ref → List Ref → List RawLabelled → Option Raw → List RawEvent → List ℕ
+abbrev pub machine_sections : Option Ref → List Ref → List Ref → List RawLabelled → Option RawVariant → List RawEvent → List ℕ
 machine_sections refines sees variables invariants variant events =
     names_line (codes "refines") (option_to_list refines) ++ (names_line (codes "sees") sees ++ (names_line (codes "variables") variables
     ++ (section (codes "invariants") (codes "  ") invariants ++ (variant_line variant ++ events_section events))))

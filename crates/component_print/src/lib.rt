@@ -4,7 +4,5 @@
 mod machine;
 mod printing;
 mod sections;
-#[cfg(test)]
-mod tests;
 
 pub use printing::print;

@@ -4,8 +4,8 @@ ghost use Rattle.std.specs.Prelude.{◌≡◌, ◌++◌, string_bytes, OnOk};
 ghost use Rattle.component_print.specs.Printed.{step_line, steps_section, convergence_text, abstract_words, event_heading, event_text, events_section, variant_line};
 
 use crate::sections::{print_names, print_section};
-use formula_core::{OutOfMemory, Raw};
-use model_core::{Convergence, RawEvent, RawStep};
+use formula_core::OutOfMemory;
+use model_core::{Convergence, RawEvent, RawStep, RawVariant};
 use raw_print::{print_action, print_formula};
 
 fn print_step(step: &RawStep, out: &mut String) -> Result<(), OutOfMemory>
@@ -91,12 +91,12 @@ pub fn print_events(events: &[RawEvent], out: &mut String) -> Result<(), OutOfMe
 }
 
 /// Adds the variant, if there is one.
-pub fn print_variant(variant: &Option<Raw>, out: &mut String) -> Result<(), OutOfMemory>
+pub fn print_variant(variant: &Option<RawVariant>, out: &mut String) -> Result<(), OutOfMemory>
     ensures { OnOk result (string_bytes out.new ≡ string_bytes out.old ++ variant_line variant.now) }
 {
-    if let Some(expression) = variant {
+    if let Some(variant) = variant {
         out.push_str("variant ")?;
-        print_formula(out, expression)?;
+        print_formula(out, &variant.formula)?;
         out.push_str("\n")?;
     }
     Ok(())

@@ -7,10 +7,10 @@ ghost use Rattle.component_print.specs.Back.{IsReadable, ReadsBack};
 use crate::machine::{print_events, print_variant};
 use crate::sections::{print_names, print_section};
 use component_tokens::pieces_one_way;
-use formula_core::{OutOfMemory, Raw, Ref};
+use formula_core::{OutOfMemory, Ref};
 use math_action::one_action;
 use math_parse::one_formula;
-use model_core::{RawComponent, RawEvent, RawLabelled};
+use model_core::{RawComponent, RawEvent, RawLabelled, RawVariant};
 use std::alloc::Global;
 
 fn print_context_sections(
@@ -33,7 +33,7 @@ fn print_machine_sections(
     sees: &[Ref],
     variables: &[Ref],
     invariants: &[RawLabelled],
-    variant: &Option<Raw>,
+    variant: &Option<RawVariant>,
     events: &[RawEvent],
     out: &mut String,
 ) -> Result<(), OutOfMemory>

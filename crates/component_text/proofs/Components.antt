@@ -15,22 +15,22 @@ use Rattle.math_grammar.specs.declared.holes.Hole.TheVariants as hole
 use Rattle.math_grammar.specs.declared.symbols.Symbol.TheVariants as sym_
 use Rattle.math_grammar.specs.Tokens.{Item}
 use Rattle.math_grammar.specs.Grammar.{item, Spells, a_truth}
-use Rattle.math_parse.specs.Limits.{most_parts}
+use Rattle.math_parse.specs.Limits.{most_parts, first_large}
 use Rattle.model_core.specs.declared.component.RawLabelled.{RawLabelled}
 use Rattle.model_core.specs.declared.component.RawComponent.{RawComponent}
 use Rattle.component_text.specs.declared.stop.Stop.{Stop}
 use Rattle.component_text.specs.declared.stop.Stop.TheVariants as stop
 use Rattle.component_text.specs.Marks.{Mark, word, label, plain, behind_run, is_word, is_at}
 use Rattle.component_text.specs.Forms.{Bounds, limits, parts, none, One, Run, Nothing, Then, Choice, taken, other, no_more, one_more}
-use Rattle.component_text.specs.Grammar.{IsFormula, reference, is_reference, label_at, Names, SomeNames, labelled, Labelled, Line, begins_line, Lines, NamesBehind, SomeNamesBehind, LinesBehind, context_of, ContextBody, IsContext}
+use Rattle.component_text.specs.Grammar.{IsFormula, IsPlaced, reference, is_reference, label_at, Names, SomeNames, labelled, Labelled, Line, begins_line, Lines, NamesBehind, SomeNamesBehind, LinesBehind, context_of, ContextBody, IsContext}
 use Rattle.component_text.specs.Reading.{end_mark, Begins, Refuses, Passes, Reads, Takes, Lacks, ReadsFormula, AddsNames, Ends, ReadsWhole}
-use Rattle.component_text.proofs.Parts.{Good, good_one, good_run, good_nothing, good_then, good_of, good_choice, good_many}
+use Rattle.component_text.proofs.Parts.{IsLooser, Good, good_one, good_run, good_nothing, good_then, good_of, good_choice, good_many}
 use Rattle.component_text.proofs.Refusing.{CanSkip, skip_begins, left_out, one_refused, one_then_refused, one_then_passes, first_refused, first_passes, both_skip, second_refused, second_passes, of_refused, of_passes, taken_refused, taken_passes, other_refused, other_passes, other_skip, many_skip, many_here, many_here_passes, many_later, many_later_passes}
 use Rattle.component_text.proofs.Formulas.{label_refused, label_passes}
 use Rattle.component_text.specs.Reading.{NoFormula, all_plain, behind_word}
 use Rattle.component_text.proofs.Looser.{formula_looser}
 use Rattle.std.proofs.lemmas.Slice.Eq.{bytes_eq-Decides}
-use Rattle.component_text.proofs.Placed.{Leaves, leaves_one, leaves_nothing, leaves_formula, leaves_of, leaves_then, leaves_choice, leaves_many, placed_behind}
+use Rattle.component_text.proofs.Placed.{Leaves, leaves_one, leaves_nothing, leaves_formula, leaves_of, leaves_then, leaves_choice, leaves_many}
 use Rattle.component_text.proofs.Whole.{word_is, whole, body_unexpected, body_too_large, head_unexpected, head_wrong, body_wrong, after_body, after_end, end_wrong}
 use Rattle.std.proofs.lemmas.Bool.Decides.{nat_tests}
 
@@ -62,8 +62,11 @@ pub top_spelled : Spells most_parts hole.Predicate (top_item ∷ []) top
 unfolding top_item
 top_spelled = record { g = grade.Literal; reads = a_truth; fit = refl }
 
-pub predicate_begins : Begins (Run (IsFormula hole.Predicate)) []
-predicate_begins = record { more = plain top_item ∷ []; value = top; goes_on = λ tail. record { spelled = top_spelled; behind = refl } }
+abbrev placed_top : Raw × ℕ
+placed_top = (top, top_item.from)
+
+pub predicate_begins : Begins (Run (IsPlaced hole.Predicate)) []
+predicate_begins = record { more = plain top_item ∷ []; value = placed_top; goes_on = λ tail. record { spelled = (top_spelled, refl); behind = refl } }
 
 -- names
 name_takes : (b : Bounds) (s : List Mark) (x : Ref) (m : List Mark) → One reference b s x m → length m < length s
@@ -112,29 +115,41 @@ pub names_read : (s rest : List Mark) (all : List Ref) → AddsNames [] all s re
 names_read s rest all k = subst (λ xs. Names limits s xs rest) (sym k.1) k.2
 
 -- labelled predicates
-pub loose : (h : Hole) (b : Bounds) (f : List Item) (t : Raw) → IsFormula h limits f t → IsFormula h b f t
-loose h limits f t k = k
-loose h parts f t k = k.0
-loose h none f t k = formula_looser h f t k.0
+loose : (h : Hole) (b c : Bounds) → IsLooser b c → (f : List Item) (t : Raw) → IsFormula h b f t → IsFormula h c f t
+loose h limits limits l f t k = k
+loose h limits parts l f t k = k.0
+loose h limits none l f t k = formula_looser h f t k.0
+loose h parts limits l f t k = absurd l
+loose h parts parts l f t k = k
+loose h parts none l f t k = formula_looser h f t k
+loose h none limits l f t k = absurd l
+loose h none parts l f t k = absurd l
+loose h none none l f t k = k
+
+pub loose_placed : (h : Hole) (b c : Bounds) → IsLooser b c → (f : List Item) (p : Raw × ℕ) → IsPlaced h b f p → IsPlaced h c f p
+loose_placed h b c l f p k = (loose h b c l f p.0 k.0, k.1)
+
+pub placed_few : (h : Hole) (f : List Item) (p : Raw × ℕ) → IsPlaced h limits f p → first_large f ≡ None
+placed_few h f p k = k.0.1
 
 pub good_labelled : (theorem : Bool) → Good (Labelled theorem)
-good_labelled theorem = good_of (labelled theorem) (Then (One label_at) (Run (IsFormula hole.Predicate)))
-    (good_then (One label_at) (Run (IsFormula hole.Predicate)) (good_one label_at) (good_run (IsFormula hole.Predicate) (loose hole.Predicate)))
+good_labelled theorem = good_of (labelled theorem) (Then (One label_at) (Run (IsPlaced hole.Predicate)))
+    (good_then (One label_at) (Run (IsPlaced hole.Predicate)) (good_one label_at) (good_run (IsPlaced hole.Predicate) (loose_placed hole.Predicate)))
 
 pub labelled_refused : (theorem : Bool) (s : List Mark) → Lacks label_at s → Refuses (Labelled theorem) s s
 labelled_refused theorem s h =
-    of_refused (labelled theorem) (Then (One label_at) (Run (IsFormula hole.Predicate))) s s
-    (one_refused label_at (Run (IsFormula hole.Predicate)) s some_label (codes "x", 0) h some_label_is predicate_begins)
+    of_refused (labelled theorem) (Then (One label_at) (Run (IsPlaced hole.Predicate))) s s
+    (one_refused label_at (Run (IsPlaced hole.Predicate)) s some_label (codes "x", 0) h some_label_is predicate_begins)
 
-pub labelled_read : (theorem : Bool) (s m rest : List Mark) (x : List ℕ × ℕ) (t : Raw) → One label_at limits s x m → Run (IsFormula hole.Predicate) limits m t rest → Labelled theorem limits s (labelled theorem (x, t)) rest
+pub labelled_read : (theorem : Bool) (s m rest : List Mark) (x : List ℕ × ℕ) (t : Raw × ℕ) → One label_at limits s x m → Run (IsPlaced hole.Predicate) limits m t rest → Labelled theorem limits s (labelled theorem (x, t)) rest
 labelled_read theorem s m rest x t o h = record { from = (x, t); is = refl; part = record { middle = m; first = o; second = h } }
 
-pub labelled_stops : (theorem : Bool) (s m rest : List Mark) (x : List ℕ × ℕ) (e : Stop) → One label_at limits s x m → ReadsFormula (IsFormula hole.Predicate) m (Err e) rest → Reads (Labelled theorem) s (Err e) rest
+pub labelled_stops : (theorem : Bool) (s m rest : List Mark) (x : List ℕ × ℕ) (e : Stop) → One label_at limits s x m → ReadsFormula (IsPlaced hole.Predicate) m (Err e) rest → Reads (Labelled theorem) s (Err e) rest
 labelled_stops theorem s m rest x stop.Unexpected o h =
-    of_refused (labelled theorem) (Then (One label_at) (Run (IsFormula hole.Predicate))) s rest
-    (label_refused (IsFormula hole.Predicate) s m x o rest h.0 h.1 h.2)
+    of_refused (labelled theorem) (Then (One label_at) (Run (IsPlaced hole.Predicate))) s rest
+    (label_refused (IsPlaced hole.Predicate) s m x o rest h.0 h.1 h.2)
 labelled_stops theorem s m rest x stop.TooLarge o h =
-    of_passes (labelled theorem) (Then (One label_at) (Run (IsFormula hole.Predicate))) s rest (label_passes (IsFormula hole.Predicate) s m x o rest h.0 h.1 h.2)
+    of_passes (labelled theorem) (Then (One label_at) (Run (IsPlaced hole.Predicate))) s rest (label_passes (IsPlaced hole.Predicate) s m x o rest h.0 h.1 h.2)
 labelled_stops theorem s m rest x stop.OutOfMemory o h = tt
 
 -- what stands behind names and lines
@@ -158,7 +173,7 @@ pub leaves_some_names : Leaves SomeNames
 leaves_some_names = leaves_of (λ p. p.0 ∷ p.1) (Then (One reference) Names) (leaves_then (One reference) Names (good_one reference) good_names leaves_name leaves_names)
 
 pub leaves_labelled : (theorem : Bool) → Leaves (Labelled theorem)
-leaves_labelled theorem = leaves_formula (labelled theorem) label_at (IsFormula hole.Predicate)
+leaves_labelled theorem = leaves_formula (labelled theorem) label_at (IsPlaced hole.Predicate) (placed_few hole.Predicate)
 
 -- lines
 pub good_line : Good Line
@@ -185,18 +200,18 @@ label_is_no_theorem = refl
 pub line_begins : Begins Line []
 line_begins = record {
   more = some_label ∷ (plain top_item ∷ []);
-  value = labelled false ((codes "x", 0), top);
+  value = labelled false ((codes "x", 0), placed_top);
   goes_on = λ tail. other label_is_no_theorem (record {
-    from = ((codes "x", 0), top);
+    from = ((codes "x", 0), placed_top);
     is = refl;
-    part = record { middle = plain top_item ∷ (end_mark ∷ tail); first = record { mark = some_label; there = refl; is = some_label_is }; second = record { spelled = top_spelled; behind = refl } };
+    part = record { middle = plain top_item ∷ (end_mark ∷ tail); first = record { mark = some_label; there = refl; is = some_label_is }; second = record { spelled = (top_spelled, refl); behind = refl } };
   });
 }
 
 pub line_reads : (s m rest : List Mark) (theorem : Bool) (r : Result RawLabelled Stop) → Takes (is_word (codes "theorem")) s theorem m → Reads (Labelled theorem) m r rest → Reads Line s r rest
 line_reads s m rest true (Ok x) k h = taken k.0 m k.1 k.2 h
 line_reads s m rest true (Err stop.Unexpected) k h = taken_refused (is_word (codes "theorem")) (Labelled true) (Labelled false) (word_alone (codes "theorem") refl) s m rest k.0 k.1 k.2 h
-line_reads s m rest true (Err stop.TooLarge) k h = taken_passes (is_word (codes "theorem")) (Labelled true) (Labelled false) s m rest k.0 k.1 k.2 h
+line_reads s m rest true (Err stop.TooLarge) k h = taken_passes (is_word (codes "theorem")) (Labelled true) (Labelled false) (word_alone (codes "theorem") refl) s m rest k.0 k.1 k.2 h
 line_reads s m rest true (Err stop.OutOfMemory) k h = tt
 line_reads s m rest false (Ok x) k h = other k.1 (subst (λ t. Labelled false limits t x rest) k.0 h)
 line_reads s m rest false (Err stop.Unexpected) k h = other_refused (is_word (codes "theorem")) (Labelled true) (Labelled false) s rest k.1 line_begins (subst (λ t. Refuses (Labelled false) t rest) k.0 h)
@@ -225,14 +240,14 @@ pub lines_later : (s m rest : List Mark) (x : RawLabelled) → is_at begins_line
 lines_later = many_later begins_line Line good_line refl line_takes leaves_line
 
 pub lines_later_passes : (s m rest : List Mark) (x : RawLabelled) → is_at begins_line s ≡ true → Line limits s x m → Passes Lines m rest → Passes Lines s rest
-lines_later_passes = many_later_passes begins_line Line good_line refl line_takes
+lines_later_passes = many_later_passes begins_line Line good_line refl line_takes leaves_line
 
 -- sections
 module _ {X : Type 0} (test : Mark → Bool) (P : Bounds → List Mark → List X → List Mark → Type 0) (words : (y : Mark) → test y ≡ true → NoFormula (y ∷ [])) where
   pub section_reads : (s m rest : List Mark) (r : Result (List X) Stop) → Takes test s true m → Reads P m r rest → Reads (Choice test P (Nothing [])) s r rest
   section_reads s m rest (Ok x) k h = taken k.0 m k.1 k.2 h
   section_reads s m rest (Err stop.Unexpected) k h = taken_refused test P (Nothing []) words s m rest k.0 k.1 k.2 h
-  section_reads s m rest (Err stop.TooLarge) k h = taken_passes test P (Nothing []) s m rest k.0 k.1 k.2 h
+  section_reads s m rest (Err stop.TooLarge) k h = taken_passes test P (Nothing []) words s m rest k.0 k.1 k.2 h
   section_reads s m rest (Err stop.OutOfMemory) k h = tt
 
   pub section_absent : (s m : List Mark) → Takes test s false m → Choice test P (Nothing []) limits s [] m
@@ -319,7 +334,7 @@ leaves_constants = leaves_section (is_word (codes "constants")) Names (word_alon
 leaves_axioms : Leaves Axioms
 leaves_axioms = leaves_section (is_word (codes "axioms")) Lines (word_alone (codes "axioms") refl) good_lines leaves_lines
 
-leaves_context_body : Leaves ContextBody
+pub leaves_context_body : Leaves ContextBody
 leaves_context_body = leaves_of context_of (Then (One reference) FromExtends)
     (leaves_then (One reference) FromExtends (good_one reference) (good_then Extends FromSets good_extends (good_then Sets FromConstants good_sets (good_then Constants Axioms good_constants good_axioms))) leaves_name
     (leaves_then Extends FromSets good_extends (good_then Sets FromConstants good_sets (good_then Constants Axioms good_constants good_axioms)) leaves_extends
@@ -344,10 +359,10 @@ module _ (s a : List Mark) (n : Ref) (name : One reference limits s n a) where
   behind_name_refused : (rest : List Mark) → Refuses FromExtends a rest → Refuses ContextBody s rest
   behind_name_refused rest h =
       of_refused context_of (Then (One reference) FromExtends) s rest
-      (one_then_refused reference FromExtends s a rest n name h (placed_behind (name.mark ∷ []) h.before rest (λ _. name_alone name.mark n name.is) h.placed))
+      (one_then_refused reference FromExtends s a rest n name h (name_alone name.mark n name.is))
 
   behind_name_passes : (rest : List Mark) → Passes FromExtends a rest → Passes ContextBody s rest
-  behind_name_passes rest h = of_passes context_of (Then (One reference) FromExtends) s rest (one_then_passes reference FromExtends s a rest n name h)
+  behind_name_passes rest h = of_passes context_of (Then (One reference) FromExtends) s rest (one_then_passes reference FromExtends s a rest n name h (name_alone name.mark n name.is))
 
   pub extends_stops : (rest : List Mark) (e : Stop) → Reads Extends a (Err e) rest → Reads ContextBody s (Err e) rest
   extends_stops rest stop.Unexpected h = behind_name_refused rest (first_refused Extends FromSets a rest h skip_from_sets)
@@ -359,7 +374,7 @@ module _ (s a : List Mark) (n : Ref) (name : One reference limits s n a) where
     behind_extends_refused rest h = behind_name_refused rest (second_refused Extends FromSets good_extends leaves_extends a b rest es extends h skip_from_sets)
 
     behind_extends_passes : (rest : List Mark) → Passes FromSets b rest → Passes ContextBody s rest
-    behind_extends_passes rest h = behind_name_passes rest (second_passes Extends FromSets good_extends a b rest es extends h skip_from_sets)
+    behind_extends_passes rest h = behind_name_passes rest (second_passes Extends FromSets good_extends leaves_extends a b rest es extends h skip_from_sets)
 
     pub sets_stop : (rest : List Mark) (e : Stop) → Reads Sets b (Err e) rest → Reads ContextBody s (Err e) rest
     sets_stop rest stop.Unexpected h = behind_extends_refused rest (first_refused Sets FromConstants b rest h skip_from_constants)
@@ -371,7 +386,7 @@ module _ (s a : List Mark) (n : Ref) (name : One reference limits s n a) where
       behind_sets_refused rest h = behind_extends_refused rest (second_refused Sets FromConstants good_sets leaves_sets b c rest ss sets h skip_from_constants)
 
       behind_sets_passes : (rest : List Mark) → Passes FromConstants c rest → Passes ContextBody s rest
-      behind_sets_passes rest h = behind_extends_passes rest (second_passes Sets FromConstants good_sets b c rest ss sets h skip_from_constants)
+      behind_sets_passes rest h = behind_extends_passes rest (second_passes Sets FromConstants good_sets leaves_sets b c rest ss sets h skip_from_constants)
 
       pub constants_stop : (rest : List Mark) (e : Stop) → Reads Constants c (Err e) rest → Reads ContextBody s (Err e) rest
       constants_stop rest stop.Unexpected h = behind_sets_refused rest (first_refused Constants Axioms c rest h skip_axioms)
@@ -381,7 +396,7 @@ module _ (s a : List Mark) (n : Ref) (name : One reference limits s n a) where
       module _ (d : List Mark) (cs : List Ref) (constants : Constants limits c cs d) where
         pub axioms_stop : (rest : List Mark) (e : Stop) → Reads Axioms d (Err e) rest → Reads ContextBody s (Err e) rest
         axioms_stop rest stop.Unexpected h = behind_sets_refused rest (second_refused Constants Axioms good_constants leaves_constants c d rest cs constants h skip_axioms)
-        axioms_stop rest stop.TooLarge h = behind_sets_passes rest (second_passes Constants Axioms good_constants c d rest cs constants h skip_axioms)
+        axioms_stop rest stop.TooLarge h = behind_sets_passes rest (second_passes Constants Axioms good_constants leaves_constants c d rest cs constants h skip_axioms)
         axioms_stop rest stop.OutOfMemory h = tt
 
         pub context_body_read : (rest : List Mark) (ls : List RawLabelled) → Axioms limits d ls rest → ContextBody limits s (context_of (n, (es, (ss, (cs, ls))))) rest
@@ -469,7 +484,7 @@ context_unended s m k rest p c e h (inl f) =
 context_unended s m k rest p c e h (inr f) =
     let is : k ≡ word (codes "end") f.0 ∷ (f.1 ∷ f.2) = f.3 ∙ ap (λ t. word (codes "end") f.0 ∷ t) f.4 in
     subst (λ t. ReadsWhole IsContext s (Err stop.Unexpected) t) (sym f.4) (
-      after_end (codes "context") refl ContextBody good_context_body s m k p f.0 f.1 f.2 c e h is,
+      after_end (codes "context") refl ContextBody good_context_body leaves_context_body s m k p f.0 f.1 f.2 c e h is,
       end_wrong (codes "context") refl ContextBody good_context_body s m k p c e h (λ q other. let clash : word (codes "end") q ∷ [] ≡ word (codes "end") f.0 ∷ (f.1 ∷ f.2) = sym other ∙ is in cc),
     )
 

@@ -9,8 +9,9 @@ use Rattle.component_text.specs.Marks.{Mark, word, label, plain, run, behind_run
 use Rattle.component_text.specs.Forms.{Bounds, limits, parts, none, One, Run, Then}
 use Rattle.component_text.specs.Grammar.{label_at}
 use Rattle.component_text.specs.Faults.{opens_formula}
-use Rattle.component_text.specs.Reading.{end_mark, BeginsIn, NoneHasIn, NoneHas, Refuses, IsLargeIn, is_long, is_wide, Passes, from_token, StartsIn, StopsAt, PassesAt, is_plain, Placed, not_plain, in_formula}
+use Rattle.component_text.specs.Reading.{end_mark, BeginsIn, NoneHasIn, NoneHas, Refuses, IsLargeIn, is_long, is_wide, Passes, from_token, StartsIn, StopsAt, PassesAt, is_plain, AreShort, Placed, not_plain, in_formula}
 use Rattle.component_text.proofs.Refusing.{one_begins, one_then_nowhere, one_then_wrong}
+use Rattle.component_text.proofs.Shorts.{taken_fewer, short_append, formula_short}
 use Rattle.component_text.proofs.Parts.{Ended, nothing_there, at_word, at_label, run_ends, run_of, behind_of}
 
 map_append : (f g : List Item) → map plain (f ++ g) ≡ map plain f ++ map plain g
@@ -115,7 +116,7 @@ nothing_dropped (z ∷ f) (suc i) l d = nothing_dropped f i (omega arith) d
 
 -- a part with a formula behind the token y, which opens it
 module _ {X Z : Type 0} (F : Bounds → List Item → X → Type 0) (R : Bounds → List Mark → Z → List Mark → Type 0)
-    (lead : List Mark) (y : Mark) (s m : List Mark) (there : s ≡ lead ++ y ∷ m) (opens : opens_formula y ≡ true)
+    (lead : List Mark) (y : Mark) (s m : List Mark) (there : s ≡ lead ++ y ∷ m) (opens : opens_formula y ≡ true) (lead_short : (t : List Mark) → AreShort lead (y ∷ t))
     (begins_as : (b : Bounds) (f : List Item) → StartsIn F b f → BeginsIn b R (lead ++ y ∷ map plain f))
     (nowhere_as : (b : Bounds) (before rest : List Mark) → m ≡ before ++ rest → NoneHasIn b (Run F) before rest → NoneHasIn b R (lead ++ y ∷ before) rest)
     (wrong_as : ((x : X) → F limits (run m) x → ⊥) → (z : Z) (r : List Mark) → R limits s z r → ⊥) where
@@ -131,6 +132,9 @@ module _ {X Z : Type 0} (F : Bounds → List Item → X → Type 0) (R : Bounds 
       let next = next_item (run m) i x g d in
       in_formula lead y (take i (run m)) x (map plain g ++ behind_run m) refl opens (e ∙ ap (λ t. map plain t ++ behind_run m) d) (ap first_large (sym next.1) ∙ k.few)
 
+  before_short : (i : ℕ) → first_large (take i (run m)) ≡ None → AreShort (lead ++ y ∷ map plain (take i (run m))) []
+  before_short i few = short_append lead (y ∷ map plain (take i (run m))) [] (lead_short (map plain (take i (run m)) ++ [])) (formula_short y (take i (run m)) few)
+
   pub opened_refused : (rest : List Mark) (i : ℕ) → rest ≡ from_token i m → StopsAt F (run m) i → Refuses R s rest
   opened_refused rest i e k = record {
     before = lead ++ y ∷ map plain (take i (run m));
@@ -138,6 +142,7 @@ module _ {X Z : Type 0} (F : Bounds → List Item → X → Type 0) (R : Bounds 
     begins = begins_as parts (take i (run m)) k.begins;
     nowhere = nowhere_as none (map plain (take i (run m))) rest (divided rest i e) (stops_nowhere F m rest i e k);
     placed = placed_there rest i e k (drop i (run m)) refl;
+    short = before_short i (taken_fewer i (run m) k.few);
     wrong = wrong_as k.wrong;
   }
 
@@ -166,6 +171,7 @@ module _ {X Z : Type 0} (F : Bounds → List Item → X → Type 0) (R : Bounds 
         is = all_is rest i e;
         next = rest_is;
         begins = begins_as parts (take i (run m)) k.begins;
+        short = before_short i k.few;
         large = large_there i x later (divided rest i e ∙ ap (λ t. map plain (take i (run m)) ++ t) rest_is) next.1 next.2 k.large;
         wrong = wrong_as k.wrong;
       }
@@ -180,10 +186,10 @@ module _ {X : Type 0} (F : Bounds → List Item → X → Type 0) (s m : List Ma
 
   pub label_refused : (rest : List Mark) (i : ℕ) → rest ≡ from_token i m → StopsAt F (run m) i → Refuses (Then (One label_at) (Run F)) s rest
   label_refused =
-      opened_refused F (Then (One label_at) (Run F)) [] o.mark s m o.there (label_opens o.mark x o.is) (λ b f c. one_begins label_at (Run F) b o.mark x (map plain f) o.is (run_begins F b f c))
+      opened_refused F (Then (One label_at) (Run F)) [] o.mark s m o.there (label_opens o.mark x o.is) (λ t. tt) (λ b f c. one_begins label_at (Run F) b o.mark x (map plain f) o.is (run_begins F b f c))
       (λ b before rest e. one_then_nowhere label_at (Run F) b o.mark before rest) wrong_behind
 
   pub label_passes : (rest : List Mark) (i : ℕ) → rest ≡ from_token i m → PassesAt F (run m) i → Passes (Then (One label_at) (Run F)) s rest
   label_passes =
-      opened_passes F (Then (One label_at) (Run F)) [] o.mark s m o.there (label_opens o.mark x o.is) (λ b f c. one_begins label_at (Run F) b o.mark x (map plain f) o.is (run_begins F b f c))
+      opened_passes F (Then (One label_at) (Run F)) [] o.mark s m o.there (label_opens o.mark x o.is) (λ t. tt) (λ b f c. one_begins label_at (Run F) b o.mark x (map plain f) o.is (run_begins F b f c))
       (λ b before rest e. one_then_nowhere label_at (Run F) b o.mark before rest) wrong_behind

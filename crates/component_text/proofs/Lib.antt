@@ -2,6 +2,7 @@ pub mod Texts
 pub mod Looser
 pub mod Marks
 pub mod Parts
+pub mod Shorts
 pub mod Placed
 pub mod Refusing
 pub mod Whole
@@ -14,3 +15,4 @@ pub mod Utf8
 pub mod Unique
 pub mod Once
 pub mod Texted
+pub mod Readings

@@ -1,5 +1,5 @@
 -- What is spelled with partitions within their limit is spelled without it.
-use Rattle.std.proofs.Common.{◌≡◌, ◌∙◌, ap, ℕ, List, [], ◌∷◌, Bool, true, false, Some, None, cond, refl, sym}
+use Rattle.std.proofs.Common.{◌≡◌, ◌∙◌, ap, List, [], ◌∷◌, Bool, true, false, Some, None, cond, sym}
 use Rattle.std.specs.Prelude.{Option}
 use Rattle.std.specs.Option.{option_map_or}
 use Rattle.formula_core.specs.declared.raw.Raw.{Raw}
@@ -9,7 +9,7 @@ use Rattle.math_grammar.specs.Tokens.{Item}
 use Rattle.math_grammar.specs.Grammar.{Spells}
 use Rattle.math_grammar.specs.Actions.{SpellsAction}
 use Rattle.math_parse.specs.Limits.{most_parts}
-use Rattle.math_parse.specs.Machine.{State, Outcome, want, step, found, refused, run}
+use Rattle.math_parse.specs.Machine.{State, want, step, found, refused, run}
 use Rattle.math_parse.specs.Reading.{is_full}
 use Rattle.math_parse.proofs.Small.{small, small_step}
 use Rattle.math_parse.proofs.Place.{found_sentence, sentence_found}

@@ -1,5 +1,5 @@
 -- The parts of machines.
-use Rattle.std.proofs.Common.{◌≡◌, ◌∙◌, ap, ℕ, ◌<◌, ◌≤◌, List, [], ◌∷◌, ◌++◌, Bool, true, false, ◌||◌, Some, None, Ok, Err, cond, length, map, refl, sym, subst, arith, append_assoc, length-append, bytes_eq}
+use Rattle.std.proofs.Common.{◌≡◌, ◌∙◌, ap, ℕ, ◌<◌, List, [], ◌∷◌, ◌++◌, Bool, true, false, ◌||◌, Some, None, Err, cond, length, map, refl, sym, subst, arith, length-append, bytes_eq}
 use Rattle.std.specs.Prelude.{Option, Result, codes}
 use Rattle.formula_core.specs.declared.raw.Raw.{Raw}
 use Rattle.formula_core.specs.declared.raw.RawAction.{RawAction}
@@ -15,26 +15,28 @@ use Rattle.math_grammar.specs.Tokens.{Item}
 use Rattle.model_core.specs.declared.component.Convergence.{Convergence}
 use Rattle.model_core.specs.declared.component.Convergence.TheVariants.{Ordinary, Convergent, Anticipated}
 use Rattle.model_core.specs.declared.component.RawLabelled.{RawLabelled}
+use Rattle.model_core.specs.declared.component.RawVariant.{RawVariant}
 use Rattle.model_core.specs.declared.component.RawStep.{RawStep}
 use Rattle.model_core.specs.declared.component.RawEvent.{RawEvent}
-use Rattle.model_core.specs.declared.component.RawComponent.{RawComponent}
 use Rattle.component_text.specs.declared.stop.Stop.{Stop}
 use Rattle.component_text.specs.declared.stop.Stop.TheVariants as stop
 use Rattle.component_text.specs.declared.machine.Abstracts.{Abstracts}
-use Rattle.component_text.specs.Marks.{Mark, word, label, plain, run, behind_run, is_word, is_at}
+use Rattle.component_text.specs.Marks.{Mark, word, label, plain, run, is_word, is_at}
 use Rattle.component_text.specs.Forms.{Bounds, limits, parts, none, One, Run, Nothing, Then, Choice, taken, other, Of}
-use Rattle.component_text.specs.Grammar.{IsFormula, reference, label_at, is_a_label, SomeNames, Names, Labelled, Lines, SomeNamesBehind, NamesBehind, LinesBehind}
-use Rattle.component_text.specs.Machines.{IsAct, word_at, Refines, Expression, VariantExpression, Variant, Witnesses, step, Step, Steps, extending, refining, References, either, Guards, With, Actions, event_of, EventBody, Event, begins_event, EventList, Events, machine_of, MachineBody, IsMachine}
+use Rattle.component_text.specs.Grammar.{IsPlaced, reference, label_at, is_a_label, SomeNames, Names, Labelled, Lines, SomeNamesBehind, NamesBehind, LinesBehind}
+use Rattle.component_text.specs.Machines.{IsAct, word_at, Refines, Expression, VariantExpression, variant_of, Variant, Witnesses, step, Step, Steps, extending, refining, References, either, Guards, With, Actions, event_of, EventBody, Event, begins_event, EventList, Events, machine_of, MachineBody}
 use Rattle.component_text.specs.Faults.{opens_formula}
-use Rattle.component_text.specs.Reading.{end_mark, BeginsIn, Begins, NoneHasIn, Refuses, Passes, Reads, Takes, Lacks, StartsIn, ReadsFormula, is_plain, NoFormula, behind_word, all_plain}
+use Rattle.component_text.specs.Reading.{end_mark, BeginsIn, Begins, NoneHasIn, Refuses, Reads, Takes, Lacks, StartsIn, ReadsFormula, is_plain, AreShort, NoFormula}
 use Rattle.component_text.proofs.Looser.{action_looser}
-use Rattle.component_text.proofs.Parts.{Good, Ended, run_ends, good_one, good_run, good_nothing, good_then, good_of, good_choice, good_many}
+use Rattle.std.proofs.lemmas.List.{append_cancel_right}
+use Rattle.component_text.proofs.Shorts.{short_append, run_short, before_label}
+use Rattle.component_text.proofs.Parts.{IsLooser, Good, Ended, run_ends, good_one, good_run, good_nothing, good_then, good_of, good_choice, good_many}
 use Rattle.component_text.proofs.Placed.{Leaves, not_ended, leaves_one, leaves_nothing, leaves_formula, leaves_of, leaves_then, leaves_choice, leaves_many}
-use Rattle.component_text.proofs.Refusing.{CanSkip, skip_begins, left_out, both_skip, of_skip, other_skip, many_skip, of_begins, of_nowhere, taken_begins, taken_nowhere, taken_wrong, other_nowhere, other_wrong}
+use Rattle.component_text.proofs.Refusing.{CanSkip, skip_begins, left_out, both_skip, of_skip, other_skip, of_begins, of_nowhere, taken_begins, taken_nowhere, taken_wrong, other_nowhere, other_wrong}
 use Rattle.component_text.proofs.Formulas.{run_begins, opened_refused, opened_passes, label_refused, label_passes}
-use Rattle.component_text.proofs.Whole.{word_is, same_word}
+use Rattle.component_text.proofs.Whole.{same_word}
 use Rattle.component_text.proofs.Stops.{then_first, then_later, of_stops, one_missing, one_stops, one_missing_first, taken_reads, other_reads}
-use Rattle.component_text.proofs.Components.{some_ref, some_name, some_name_is, name_alone, word_alone, word_there, loose, good_names, good_some_names, good_labelled, good_lines, leaves_name, leaves_names, leaves_some_names, leaves_labelled, leaves_lines, behind_shorter, good_section, leaves_section, section_skip}
+use Rattle.component_text.proofs.Components.{some_ref, some_name, some_name_is, name_alone, word_alone, word_there, loose_placed, placed_few, good_names, good_some_names, good_labelled, good_lines, leaves_name, leaves_names, leaves_some_names, leaves_labelled, leaves_lines, behind_shorter, good_section, leaves_section, section_skip}
 
 -- a structural word
 either_alone : (v w : List ℕ) → bytes_eq v (codes "variant") ≡ false → bytes_eq w (codes "variant") ≡ false → (y : Mark) → either v w y ≡ true → NoFormula (y ∷ [])
@@ -101,36 +103,51 @@ refines_read s m rest n t h = taken t.0 m t.1 t.2 (record { from = n; is = refl;
 
 -- "variant"
 pub good_expression : Good Expression
-good_expression = good_run (IsFormula hole.Expression) (loose hole.Expression)
+good_expression = good_run (IsPlaced hole.Expression) (loose_placed hole.Expression)
 
 pub good_variant_expression : Good VariantExpression
 good_variant_expression = good_choice is_a_label Expression Expression good_expression good_expression refl
 
 pub good_variant : Good Variant
-good_variant = good_optional (is_word (codes "variant")) None (Of Some VariantExpression) (good_of Some VariantExpression good_variant_expression) refl
+good_variant = good_optional (is_word (codes "variant")) None (Of variant_of VariantExpression) (good_of variant_of VariantExpression good_variant_expression) refl
 
 skip_variant : CanSkip Variant
-skip_variant = skip_optional (is_word (codes "variant")) None (Of Some VariantExpression) refl
+skip_variant = skip_optional (is_word (codes "variant")) None (Of variant_of VariantExpression) refl
 
-expression_ended : (b : Bounds) (s : List Mark) (x : Raw) (m : List Mark) → VariantExpression b s x m → Ended m
+expression_ended : (b : Bounds) (s : List Mark) (x : Raw × ℕ) (m : List Mark) → VariantExpression b s x m → Ended m
 expression_ended b s x m (taken y t e is h) = subst Ended (sym h.behind) (run_ends t)
 expression_ended b s x m (other isnt h) = subst Ended (sym h.behind) (run_ends s)
 
-variant_free : (b : Bounds) (front m : List Mark) (x : Option Raw) → Variant b (front ++ m) x m → is_at is_plain m ≡ true → NoFormula front
+variant_free : (b : Bounds) (front m : List Mark) (x : Option RawVariant) → Variant b (front ++ m) x m → is_at is_plain m ≡ true → NoFormula front
 variant_free b front m x (taken y t d is h) e = absurd (not_ended m (expression_ended b t h.from m h.part) e)
 variant_free b front m x (other isnt h) e = (leaves_nothing None).free b front m x h e
 
-leaves_variant : Leaves Variant
-leaves_variant = record { free = variant_free }
+-- the expression behind `variant`, or behind its label
+variant_short : (front m : List Mark) (x : Option RawVariant) → Variant limits (front ++ m) x m → AreShort front m
+variant_short front m x (taken y t d is h) = behind front y t d h.part
+  where
+    behind : (front : List Mark) (y : Mark) (t : List Mark) → front ++ m ≡ y ∷ t → VariantExpression limits t h.from m → AreShort front m
+    behind front y t d (other isnt k) = run_short (IsPlaced hole.Expression) (placed_few hole.Expression) y front t m h.from k d
+    behind front y t d (taken l u e is' k) =
+        let f = good_expression.split limits u h.from m k in
+        let all : front ++ m ≡ (y ∷ (l ∷ f.0)) ++ m = d ∙ ap (λ v. y ∷ v) (e ∙ ap (λ v. l ∷ v) f.1) in
+        let is_front : front ≡ (y ∷ []) ++ (l ∷ f.0) = append_cancel_right front (y ∷ (l ∷ f.0)) m all in
+        subst (λ v. AreShort v m) (sym is_front)
+        (short_append (y ∷ []) (l ∷ f.0) m (before_label y l (f.0 ++ m) is')
+        (run_short (IsPlaced hole.Expression) (placed_few hole.Expression) l (l ∷ f.0) u m h.from k (ap (λ v. l ∷ v) (sym f.1))))
+variant_short front m x (other isnt h) = (leaves_nothing None).short front m x h
 
-not_label : (b : Bounds) (s : List Mark) (x : Raw) (m : List Mark) → Expression b s x m → is_at is_a_label m ≡ false → is_at is_a_label s ≡ false
+leaves_variant : Leaves Variant
+leaves_variant = record { free = variant_free; short = variant_short }
+
+not_label : (b : Bounds) (s : List Mark) (x : Raw × ℕ) (m : List Mark) → Expression b s x m → is_at is_a_label m ≡ false → is_at is_a_label s ≡ false
 not_label b [] x m h e = refl
 not_label b (plain y ∷ s) x m h e = refl
 not_label b (word w p ∷ s) x m h e = refl
 not_label b (label l p ∷ s) x m h e = let contra : true ≡ false = sym (ap (is_at is_a_label) h.behind) ∙ e in cc
 
-abbrev IsExpression : Bounds → List Item → Raw → Type 0
-IsExpression = IsFormula hole.Expression
+abbrev IsExpression : Bounds → List Item → (Raw × ℕ) → Type 0
+IsExpression = IsPlaced hole.Expression
 
 unlabelled : (b : Bounds) (f : List Item) → StartsIn IsExpression b f → BeginsIn b VariantExpression (map plain f)
 unlabelled b f c =
@@ -148,21 +165,21 @@ label_opens_one (word w p) e = cc
 label_opens_one (plain x) e = cc
 
 module _ (s m k : List Mark) (v : Takes (is_word (codes "variant")) s true m) where
-  abbrev OfVariant : Bounds → List Mark → Option Raw → List Mark → Type 0
-  OfVariant = Of Some VariantExpression
+  abbrev OfVariant : Bounds → List Mark → Option RawVariant → List Mark → Type 0
+  OfVariant = Of variant_of VariantExpression
 
   module _ (l : Takes is_a_label m true k) where
     labelled_begins : (b : Bounds) (f : List Item) → StartsIn IsExpression b f → BeginsIn b Variant (v.0 ∷ (l.0 ∷ map plain f))
     labelled_begins b f c =
         taken_begins (is_word (codes "variant")) OfVariant (Nothing None) b v.0 (l.0 ∷ map plain f) v.2
-        (of_begins Some VariantExpression b (l.0 ∷ map plain f) (taken_begins is_a_label Expression Expression b l.0 (map plain f) l.2 (run_begins IsExpression b f c)))
+        (of_begins variant_of VariantExpression b (l.0 ∷ map plain f) (taken_begins is_a_label Expression Expression b l.0 (map plain f) l.2 (run_begins IsExpression b f c)))
 
     labelled_nowhere : (b : Bounds) (before rest : List Mark) → k ≡ before ++ rest → NoneHasIn b Expression before rest → NoneHasIn b Variant (v.0 ∷ (l.0 ∷ before)) rest
     labelled_nowhere b before rest e n =
         taken_nowhere (is_word (codes "variant")) OfVariant (Nothing None) b v.0 (l.0 ∷ before) rest v.2
-        (of_nowhere Some VariantExpression b (l.0 ∷ before) rest (taken_nowhere is_a_label Expression Expression b l.0 before rest l.2 n))
+        (of_nowhere variant_of VariantExpression b (l.0 ∷ before) rest (taken_nowhere is_a_label Expression Expression b l.0 before rest l.2 n))
 
-    labelled_wrong : ((x : Raw) → IsExpression limits (run k) x → ⊥) → (z : Option Raw) (r : List Mark) → Variant limits s z r → ⊥
+    labelled_wrong : ((x : Raw × ℕ) → IsExpression limits (run k) x → ⊥) → (z : Option RawVariant) (r : List Mark) → Variant limits s z r → ⊥
     labelled_wrong isnt =
         taken_wrong (is_word (codes "variant")) OfVariant (Nothing None) s m v.0 v.1 v.2
         (λ z r h. taken_wrong is_a_label Expression Expression m k l.0 l.1 l.2 (λ x t p. isnt x p.spelled) h.from r h.part)
@@ -172,36 +189,36 @@ module _ (s m k : List Mark) (v : Takes (is_word (codes "variant")) s true m) wh
 
     pub labelled_variant_stops : (rest : List Mark) (e : Stop) → ReadsFormula IsExpression k (Err e) rest → Reads Variant s (Err e) rest
     labelled_variant_stops rest stop.Unexpected h =
-        opened_refused IsExpression Variant (v.0 ∷ []) l.0 s k labelled_there (label_opens_one l.0 l.2) labelled_begins labelled_nowhere labelled_wrong rest h.0 h.1 h.2
+        opened_refused IsExpression Variant (v.0 ∷ []) l.0 s k labelled_there (label_opens_one l.0 l.2) (λ t. before_label v.0 l.0 t l.2) labelled_begins labelled_nowhere labelled_wrong rest h.0 h.1 h.2
     labelled_variant_stops rest stop.TooLarge h =
-        opened_passes IsExpression Variant (v.0 ∷ []) l.0 s k labelled_there (label_opens_one l.0 l.2) labelled_begins labelled_nowhere labelled_wrong rest h.0 h.1 h.2
+        opened_passes IsExpression Variant (v.0 ∷ []) l.0 s k labelled_there (label_opens_one l.0 l.2) (λ t. before_label v.0 l.0 t l.2) labelled_begins labelled_nowhere labelled_wrong rest h.0 h.1 h.2
     labelled_variant_stops rest stop.OutOfMemory h = tt
 
   module _ (isnt_label : is_at is_a_label m ≡ false) where
     bare_begins : (b : Bounds) (f : List Item) → StartsIn IsExpression b f → BeginsIn b Variant (v.0 ∷ map plain f)
     bare_begins b f c =
-        taken_begins (is_word (codes "variant")) OfVariant (Nothing None) b v.0 (map plain f) v.2 (of_begins Some VariantExpression b (map plain f) (unlabelled b f c))
+        taken_begins (is_word (codes "variant")) OfVariant (Nothing None) b v.0 (map plain f) v.2 (of_begins variant_of VariantExpression b (map plain f) (unlabelled b f c))
 
     bare_nowhere : (b : Bounds) (before rest : List Mark) → m ≡ before ++ rest → NoneHasIn b Expression before rest → NoneHasIn b Variant (v.0 ∷ before) rest
     bare_nowhere b before rest e n =
         taken_nowhere (is_word (codes "variant")) OfVariant (Nothing None) b v.0 before rest v.2
-        (of_nowhere Some VariantExpression b before rest (other_nowhere is_a_label Expression Expression b m before rest e isnt_label n))
+        (of_nowhere variant_of VariantExpression b before rest (other_nowhere is_a_label Expression Expression b m before rest e isnt_label n))
 
-    bare_wrong : ((x : Raw) → IsExpression limits (run m) x → ⊥) → (z : Option Raw) (r : List Mark) → Variant limits s z r → ⊥
+    bare_wrong : ((x : Raw × ℕ) → IsExpression limits (run m) x → ⊥) → (z : Option RawVariant) (r : List Mark) → Variant limits s z r → ⊥
     bare_wrong isnt =
         taken_wrong (is_word (codes "variant")) OfVariant (Nothing None) s m v.0 v.1 v.2
         (λ z r h. other_wrong is_a_label Expression Expression m isnt_label (λ x t p. isnt x p.spelled) h.from r h.part)
 
     bare_variant_stops : (rest : List Mark) (e : Stop) → ReadsFormula IsExpression m (Err e) rest → Reads Variant s (Err e) rest
-    bare_variant_stops rest stop.Unexpected h = opened_refused IsExpression Variant [] v.0 s m v.1 (variant_opens v.0 v.2) bare_begins bare_nowhere bare_wrong rest h.0 h.1 h.2
-    bare_variant_stops rest stop.TooLarge h = opened_passes IsExpression Variant [] v.0 s m v.1 (variant_opens v.0 v.2) bare_begins bare_nowhere bare_wrong rest h.0 h.1 h.2
+    bare_variant_stops rest stop.Unexpected h = opened_refused IsExpression Variant [] v.0 s m v.1 (variant_opens v.0 v.2) (λ t. tt) bare_begins bare_nowhere bare_wrong rest h.0 h.1 h.2
+    bare_variant_stops rest stop.TooLarge h = opened_passes IsExpression Variant [] v.0 s m v.1 (variant_opens v.0 v.2) (λ t. tt) bare_begins bare_nowhere bare_wrong rest h.0 h.1 h.2
     bare_variant_stops rest stop.OutOfMemory h = tt
 
   pub variant_stops : (rest : List Mark) (b : Bool) (e : Stop) → Takes is_a_label m b k → ReadsFormula IsExpression k (Err e) rest → Reads Variant s (Err e) rest
   variant_stops rest true e l h = labelled_variant_stops l rest e h
   variant_stops rest false e l h = bare_variant_stops l.1 rest e (subst (λ t. ReadsFormula IsExpression t (Err e) rest) l.0 h)
 
-  pub variant_read : (rest : List Mark) (b : Bool) (x : Raw) → Takes is_a_label m b k → Run IsExpression limits k x rest → Variant limits s (Some x) rest
+  pub variant_read : (rest : List Mark) (b : Bool) (x : Raw × ℕ) → Takes is_a_label m b k → Run IsExpression limits k x rest → Variant limits s (variant_of x) rest
   variant_read rest true x l h = taken v.0 m v.1 v.2 (record { from = x; is = refl; part = taken l.0 k l.1 l.2 h })
   variant_read rest false x l h = taken v.0 m v.1 v.2 (record { from = x; is = refl; part = other l.1 (subst (λ t. Expression limits t x rest) l.0 h) })
 
@@ -246,7 +263,7 @@ labelled_shorter : {X : Type 0} (F : Bounds → List Item → X → Type 0) (b :
 labelled_shorter F b s x m h = omega (arith, ap length h.first.there, ap length h.second.behind, behind_shorter h.middle)
 
 pub witness_takes : (b : Bounds) (s : List Mark) (x : RawLabelled) (m : List Mark) → Labelled false b s x m → length m < length s
-witness_takes b s x m h = labelled_shorter (IsFormula hole.Predicate) b s h.from m h.part
+witness_takes b s x m h = labelled_shorter (IsPlaced hole.Predicate) b s h.from m h.part
 
 pub good_witness : Good (Labelled false)
 good_witness = good_labelled false
@@ -260,10 +277,16 @@ leaves_witness = leaves_labelled false
 leaves_witnesses : Leaves Witnesses
 leaves_witnesses = leaves_many is_a_label (Labelled false) good_witness good_witnesses.split leaves_witness
 
-loose_action : (b : Bounds) (f : List Item) (a : RawAction) → IsAct limits f a → IsAct b f a
-loose_action limits f a k = k
-loose_action parts f a k = k.0
-loose_action none f a k = action_looser f a k.0
+loose_action : (b c : Bounds) → IsLooser b c → (f : List Item) (a : RawAction) → IsAct b f a → IsAct c f a
+loose_action limits limits l f a k = k
+loose_action limits parts l f a k = k.0
+loose_action limits none l f a k = action_looser f a k.0
+loose_action parts limits l f a k = absurd l
+loose_action parts parts l f a k = k
+loose_action parts none l f a k = action_looser f a k
+loose_action none limits l f a k = absurd l
+loose_action none parts l f a k = absurd l
+loose_action none none l f a k = k
 
 pub step_takes : (b : Bounds) (s : List Mark) (x : RawStep) (m : List Mark) → Step b s x m → length m < length s
 step_takes b s x m h = labelled_shorter IsAct b s h.from m h.part
@@ -275,7 +298,7 @@ pub good_steps : Good Steps
 good_steps = good_many is_a_label Step good_step refl step_takes
 
 pub leaves_step : Leaves Step
-leaves_step = leaves_formula step label_at IsAct
+leaves_step = leaves_formula step label_at IsAct (λ f a k. k.1)
 
 leaves_steps : Leaves Steps
 leaves_steps = leaves_many is_a_label Step good_step good_steps.split leaves_step
@@ -608,19 +631,19 @@ Variables = NamesBehind (codes "variables")
 abbrev Invariants : Bounds → List Mark → List RawLabelled → List Mark → Type 0
 Invariants = LinesBehind (codes "invariants")
 
-abbrev FromVariant : Bounds → List Mark → (Option Raw × List RawEvent) → List Mark → Type 0
+abbrev FromVariant : Bounds → List Mark → (Option RawVariant × List RawEvent) → List Mark → Type 0
 FromVariant = Then Variant Events
 
-abbrev FromInvariants : Bounds → List Mark → (List RawLabelled × (Option Raw × List RawEvent)) → List Mark → Type 0
+abbrev FromInvariants : Bounds → List Mark → (List RawLabelled × (Option RawVariant × List RawEvent)) → List Mark → Type 0
 FromInvariants = Then Invariants FromVariant
 
-abbrev FromVariables : Bounds → List Mark → (List Ref × (List RawLabelled × (Option Raw × List RawEvent))) → List Mark → Type 0
+abbrev FromVariables : Bounds → List Mark → (List Ref × (List RawLabelled × (Option RawVariant × List RawEvent))) → List Mark → Type 0
 FromVariables = Then Variables FromInvariants
 
-abbrev FromSees : Bounds → List Mark → (List Ref × (List Ref × (List RawLabelled × (Option Raw × List RawEvent)))) → List Mark → Type 0
+abbrev FromSees : Bounds → List Mark → (List Ref × (List Ref × (List RawLabelled × (Option RawVariant × List RawEvent)))) → List Mark → Type 0
 FromSees = Then Sees FromVariables
 
-abbrev FromRefines : Bounds → List Mark → (Option Ref × (List Ref × (List Ref × (List RawLabelled × (Option Raw × List RawEvent))))) → List Mark → Type 0
+abbrev FromRefines : Bounds → List Mark → (Option Ref × (List Ref × (List Ref × (List RawLabelled × (Option RawVariant × List RawEvent))))) → List Mark → Type 0
 FromRefines = Then Refines FromSees
 
 pub good_sees : Good Sees
@@ -734,7 +757,7 @@ module _ (s a : List Mark) (n : Ref) (name : One reference limits s n a) where
           pub variant_stop : (rest : List Mark) (e : Stop) → Reads Variant g (Err e) rest → Reads MachineBody s (Err e) rest
           variant_stop rest e h = behind_invariants rest e (then_first Variant Events skip_events g rest e h)
 
-          module _ (i : List Mark) (v : Option Raw) (variant : Variant limits g v i) where
+          module _ (i : List Mark) (v : Option RawVariant) (variant : Variant limits g v i) where
             pub events_stop : (rest : List Mark) (e : Stop) → Reads Events i (Err e) rest → Reads MachineBody s (Err e) rest
             events_stop rest e h = behind_invariants rest e (then_later Variant Events good_variant leaves_variant skip_events g i rest v e variant h)
 

@@ -1,5 +1,5 @@
 -- What a token is by its bytes, and the tokens before the next structural word or label.
-use Rattle.std.proofs.Common.{◌≡◌, ◌∙◌, ap, ℕ, zero, suc, ◌+◌, ◌-◌, ◌≤◌, List, [], ◌∷◌, ◌++◌, Bool, true, false, not, ◌||◌, ◌&&◌, bytes_eq, cond, length, take, drop, map, refl, sym, subst, arith}
+use Rattle.std.proofs.Common.{inl, inr, ◌≡◌, ◌∙◌, ap, ℕ, zero, suc, ◌+◌, ◌-◌, ◌≤◌, List, [], ◌∷◌, ◌++◌, Bool, true, false, not, ◌||◌, ◌&&◌, bytes_eq, cond, length, take, drop, map, refl, sym, subst, arith}
 use Rattle.std.proofs.Math.Seq.{take-length}
 use Rattle.std.specs.Prelude.{Some, slice_get, Err}
 use Rattle.std.proofs.lemmas.List.{take_rest}
@@ -10,15 +10,15 @@ use Rattle.math_parse.specs.Limits.{IsFault, IsSentence}
 use Rattle.component_text.specs.declared.stop.Stop.TheVariants as stop
 use Rattle.formula_core.specs.declared.raw.RawAction.{RawAction}
 use Rattle.math_action.specs.Limits.{IsAction, IsActionFault}
-use Rattle.component_text.specs.Forms.{Bounds, limits, Run}
-use Rattle.component_text.specs.Grammar.{IsFormula}
+use Rattle.component_text.specs.Forms.{Bounds, limits, parts, none, Run}
+use Rattle.component_text.specs.Grammar.{IsFormula, first_place, IsPlaced}
 use Rattle.component_text.specs.Machines.{IsAct, either}
 use Rattle.formula_core.specs.Texts.{begins_with}
 use Rattle.math_tokens.specs.declared.cutting.Token.{Token}
 use Rattle.math_grammar.specs.Tokens.{Item, bytes_of, item_of, items_of}
 use Rattle.component_tokens.specs.Pieces.{at_sign}
 use Rattle.component_text.specs.Marks.{Mark, word, label, plain, is_structural, mark_by, mark_of, marks_of, run, behind_run, is_word, is_at}
-use Rattle.component_text.specs.Reading.{Takes, from_token, StopsAt, PassesAt, ReadsFormula}
+use Rattle.component_text.specs.Reading.{Takes, from_token, StartsIn, StopsAt, PassesAt, ReadsFormula}
 use Rattle.component_text.specs.Texts.{is_plain_text, plain_length}
 
 -- it ends a formula
@@ -176,17 +176,33 @@ module _ {X : Type 0} (F : Bounds → List Item → X → Type 0) (text : List �
       (i, at_token i (omega (arith, there.short)), there)
 
 -- what the parsers of formulas and of actions tell
-pub formula_stops : (h : Hole) (f : List Item) (i : ℕ) → IsFault h f (fault.Unexpected i) → ((t : Raw) → IsSentence h f t → ⊥) → StopsAt (IsFormula h) f i
-formula_stops h f i k isnt = record { short = k.0; begins = k.1; there = k.2.there; at_end = k.2.at_end; few = k.3; wrong = isnt }
+starts_placed : (h : Hole) (b : Bounds) (f : List Item) → StartsIn (IsFormula h) b f → StartsIn (IsPlaced h) b f
+starts_placed h b f c = (c.0, (c.1, first_place (f ++ c.0)), (c.2, refl))
 
-pub formula_passes : (h : Hole) (f : List Item) (i : ℕ) → IsFault h f (fault.TooLarge i) → ((t : Raw) → IsSentence h f t → ⊥) → PassesAt (IsFormula h) f i
-formula_passes h f i k isnt = record { short = k.0; begins = k.1; large = k.3; wrong = isnt }
+pub formula_stops : (h : Hole) (f : List Item) (i : ℕ) → IsFault h f (fault.Unexpected i) → ((t : Raw) → IsSentence h f t → ⊥) → StopsAt (IsPlaced h) f i
+formula_stops h f i k isnt = record {
+  short = k.0;
+  begins = starts_placed h parts (take i f) k.1;
+  there = λ l c. k.2.there l (c.0, c.1.0, c.2.0);
+  at_end = λ e p s. k.2.at_end e p.0 s.0;
+  few = k.3;
+  wrong = λ p s. isnt p.0 s.0;
+}
+
+pub formula_passes : (h : Hole) (f : List Item) (i : ℕ) → IsFault h f (fault.TooLarge i) → ((t : Raw) → IsSentence h f t → ⊥) → PassesAt (IsPlaced h) f i
+formula_passes h f i k isnt = record {
+  short = k.0;
+  begins = starts_placed h parts (take i f) k.1;
+  few = k.2;
+  large = elim k.3 [ inl a ↦ inl a | inr a ↦ inr (starts_placed h none (take (i + 1) f) a.0, λ c. a.1 (c.0, c.1.0, c.2.0)) ];
+  wrong = λ p s. isnt p.0 s.0;
+}
 
 pub action_stops : (f : List Item) (i : ℕ) → IsActionFault f (fault.Unexpected i) → ((a : RawAction) → IsAction f a → ⊥) → StopsAt IsAct f i
 action_stops f i k isnt = record { short = k.0; begins = k.1; there = k.2.there; at_end = k.2.at_end; few = k.3; wrong = isnt }
 
 pub action_passes : (f : List Item) (i : ℕ) → IsActionFault f (fault.TooLarge i) → ((a : RawAction) → IsAction f a → ⊥) → PassesAt IsAct f i
-action_passes f i k isnt = record { short = k.0; begins = k.1; large = k.3; wrong = isnt }
+action_passes f i k isnt = record { short = k.0; begins = k.1; few = k.2; large = k.3; wrong = isnt }
 
 -- one of two words
 pub either_first : (v w : List ℕ) (s m : List Mark) → Takes (is_word v) s true m → Takes (either v w) s true m

@@ -1,7 +1,6 @@
 -- A machine is read in one way.
-use Rattle.std.proofs.Common.{◌≡◌, ◌∙◌, ap, ℕ, List, [], ◌∷◌, Bool, true, false, Some, None, refl, sym, subst}
+use Rattle.std.proofs.Common.{◌≡◌, ◌∙◌, ap, ℕ, List, ◌∷◌, true, false, Some, None, sym, subst}
 use Rattle.std.specs.Prelude.{Option, codes}
-use Rattle.formula_core.specs.declared.raw.Raw.{Raw}
 use Rattle.formula_core.specs.declared.raw.RawAction.{RawAction}
 use Rattle.math_grammar.specs.declared.holes.Hole.TheVariants as hole
 use Rattle.math_grammar.specs.Tokens.{Item}
@@ -11,10 +10,10 @@ use Rattle.model_core.specs.declared.component.Convergence.TheVariants.{Ordinary
 use Rattle.model_core.specs.declared.component.RawComponent.{RawComponent}
 use Rattle.component_text.specs.Marks.{Mark, word, is_word, is_at}
 use Rattle.component_text.specs.Forms.{Bounds, limits, parts, none, One, Run, Nothing, Then, Of}
-use Rattle.component_text.specs.Grammar.{IsFormula, reference, label_at, is_a_label, Names, SomeNames, Labelled, Lines, SomeNamesBehind, NamesBehind, LinesBehind, IsContext}
-use Rattle.component_text.specs.Machines.{IsAct, word_at, Refines, Expression, VariantExpression, Variant, Witnesses, step, Step, Steps, extending, refining, References, either, Guards, With, Actions, event_of, EventBody, Event, begins_event, EventList, Events, machine_of, MachineBody, IsMachine, IsComponent, a_context, a_machine}
+use Rattle.component_text.specs.Grammar.{IsPlaced, reference, label_at, is_a_label, Names, SomeNames, Labelled, Lines, SomeNamesBehind, NamesBehind, LinesBehind}
+use Rattle.component_text.specs.Machines.{IsAct, word_at, Refines, Expression, VariantExpression, variant_of, Variant, Witnesses, step, Step, Steps, extending, refining, References, either, Guards, With, Actions, event_of, EventBody, Event, begins_event, EventList, Events, machine_of, MachineBody, IsMachine, IsComponent, a_context, a_machine}
 use Rattle.component_text.proofs.Parts.{good_one}
-use Rattle.component_text.proofs.Unique.{Unique, OneFormula, formula_once, one_unique, run_unique, nothing_unique, then_unique, of_unique, choice_unique, many_unique, labelled_unique, lines_unique, names_unique, some_names_unique, section_unique, context_unique}
+use Rattle.component_text.proofs.Unique.{Unique, OneFormula, placed_once, one_unique, run_unique, nothing_unique, then_unique, of_unique, choice_unique, many_unique, labelled_unique, lines_unique, names_unique, some_names_unique, section_unique, context_unique}
 use Rattle.component_text.proofs.Machines.{good_refines, good_variant, good_witness, good_step, good_references, good_any, good_guards, good_with, good_actions, Unordinary, Unconvergent, good_event, good_sees, good_variables, good_invariants}
 
 abbrev pub OneAction : Type 0
@@ -25,11 +24,11 @@ module _ (law : OneFormula) (action_law : OneAction) where
   refines_unique = choice_unique (is_word (codes "refines")) (Of Some (One reference)) (Nothing None) (of_unique Some (One reference) (one_unique reference)) (nothing_unique None)
 
   expression_unique : Unique Expression
-  expression_unique = run_unique (IsFormula hole.Expression) (formula_once law hole.Expression)
+  expression_unique = run_unique (IsPlaced hole.Expression) (placed_once law hole.Expression)
 
   variant_unique : Unique Variant
-  variant_unique = choice_unique (is_word (codes "variant")) (Of Some VariantExpression) (Nothing None)
-      (of_unique Some VariantExpression (choice_unique is_a_label Expression Expression expression_unique expression_unique)) (nothing_unique None)
+  variant_unique = choice_unique (is_word (codes "variant")) (Of variant_of VariantExpression) (Nothing None)
+      (of_unique variant_of VariantExpression (choice_unique is_a_label Expression Expression expression_unique expression_unique)) (nothing_unique None)
 
   action_once : (b : Bounds) (s : List Item) (x y : RawAction) → IsAct b s x → IsAct b s y → x ≡ y
   action_once limits s x y h k = action_law _ s x y h.0 k.0

@@ -4,7 +4,7 @@ use Rattle.std.specs.Prelude.{Option}
 use Rattle.std.proofs.lemmas.List.{append_cancel_right}
 use Rattle.math_grammar.specs.Tokens.{Item}
 use Rattle.component_text.specs.Marks.{Mark, word, label, plain, run, behind_run, is_at}
-use Rattle.component_text.specs.Forms.{Bounds, limits, One, Run, Nothing, Then, Choice, taken, other, Many, no_more, one_more, Of}
+use Rattle.component_text.specs.Forms.{Bounds, limits, parts, none, One, Run, Nothing, Then, Choice, taken, other, Many, no_more, one_more, Of}
 use Rattle.component_text.specs.Reading.{end_mark}
 
 -- the same token stands first, or none
@@ -17,11 +17,21 @@ pub data MayFollow (m n : List Mark) : Type 0 where
   same : SameStart m n → MayFollow m n
   closing : (tail : List Mark) → n ≡ end_mark ∷ tail → MayFollow m n
 
+-- the second bounds no more than the first
+abbrev pub IsLooser : Bounds → Bounds → Type 0
+IsLooser limits c = Unit {0}
+IsLooser parts limits = ⊥
+IsLooser parts parts = Unit {0}
+IsLooser parts none = Unit {0}
+IsLooser none limits = ⊥
+IsLooser none parts = ⊥
+IsLooser none none = Unit {0}
+
 pub record Good {X : Type 0} (P : Bounds → List Mark → X → List Mark → Type 0) : Type 0 where
   pub split : (b : Bounds) (s : List Mark) (x : X) (m : List Mark) → P b s x m → (front : List Mark) × (s ≡ front ++ m)
   pub agrees : (b c : Bounds) (front m n : List Mark) (x y : X) (r : List Mark) → P b (front ++ m) x m → SameStart m n → P c (front ++ n) y r → r ≡ n
   pub keeps : (b : Bounds) (front m n : List Mark) (x : X) → P b (front ++ m) x m → MayFollow m n → P b (front ++ n) x n
-  pub loosens : (b : Bounds) (s : List Mark) (x : X) (m : List Mark) → P limits s x m → P b s x m
+  pub loosens : (b c : Bounds) → IsLooser b c → (s : List Mark) (x : X) (m : List Mark) → P b s x m → P c s x m
 
 -- lists
 none_before : (front m : List Mark) → m ≡ front ++ m → front ≡ []
@@ -73,11 +83,11 @@ module _ {X : Type 0} (value : Mark → Option X) where
     split = one_split;
     agrees = one_agrees;
     keeps = one_keeps;
-    loosens = λ b s x m h. record { mark = h.mark; there = h.there; is = h.is };
+    loosens = λ b c l s x m h. record { mark = h.mark; there = h.there; is = h.is };
   }
 
 -- formulas
-run_split : (s : List Mark) → s ≡ map plain (run s) ++ behind_run s
+pub run_split : (s : List Mark) → s ≡ map plain (run s) ++ behind_run s
 run_split [] = refl
 run_split (plain x ∷ s) = ap (λ t. plain x ∷ t) (run_split s)
 run_split (word w p ∷ s) = refl
@@ -140,12 +150,12 @@ module _ {X : Type 0} (F : Bounds → List Item → X → Type 0) where
       let again : run (front ++ n) ≡ f = ap (λ t. run (t ++ n)) is ∙ run_of f n ended in
       record { spelled = subst (λ g. F b g x) (sym again) h.spelled; behind = sym (ap (λ t. behind_run (t ++ n)) is ∙ behind_of f n ended) }
 
-  pub good_run : ((b : Bounds) (f : List Item) (x : X) → F limits f x → F b f x) → Good (Run F)
+  pub good_run : ((b c : Bounds) → IsLooser b c → (f : List Item) (x : X) → F b f x → F c f x) → Good (Run F)
   good_run loose = record {
     split = λ b s x m h. (map plain (run s), run_split s ∙ ap (λ t. map plain (run s) ++ t) (sym h.behind));
     agrees = run_agrees;
     keeps = run_keeps;
-    loosens = λ b s x m h. record { spelled = loose b (run s) x h.spelled; behind = h.behind };
+    loosens = λ b c l s x m h. record { spelled = loose b c l (run s) x h.spelled; behind = h.behind };
   }
 
 -- nothing
@@ -155,7 +165,7 @@ module _ {X : Type 0} (absent : X) where
     split = λ b s x m h. ([], sym h.behind);
     agrees = λ b c front m n x y r h e k. k.behind ∙ ap (λ f. f ++ n) (none_before front m h.behind);
     keeps = λ b front m n x h e. record { is = h.is; behind = sym (ap (λ f. f ++ n) (none_before front m h.behind)) };
-    loosens = λ b s x m h. record { is = h.is; behind = h.behind };
+    loosens = λ b c l s x m h. record { is = h.is; behind = h.behind };
   }
 
 -- one after another
@@ -212,7 +222,7 @@ module _ {X Y : Type 0} (P : Bounds → List Mark → X → List Mark → Type 0
     split = then_split;
     agrees = then_agrees;
     keeps = then_keeps;
-    loosens = λ b s x m h. record { middle = h.middle; first = p.loosens b s x.0 h.middle h.first; second = q.loosens b h.middle x.1 m h.second };
+    loosens = λ b c l s x m h. record { middle = h.middle; first = p.loosens b c l s x.0 h.middle h.first; second = q.loosens b c l h.middle x.1 m h.second };
   }
 
 -- another value
@@ -222,7 +232,7 @@ module _ {X Y : Type 0} (f : X → Y) (P : Bounds → List Mark → X → List M
     split = λ b s x m h. p.split b s h.from m h.part;
     agrees = λ b c front m n x y r h e k. p.agrees b c front m n h.from k.from r h.part e k.part;
     keeps = λ b front m n x h e. record { from = h.from; is = h.is; part = p.keeps b front m n h.from h.part e };
-    loosens = λ b s x m h. record { from = h.from; is = h.is; part = p.loosens b s h.from m h.part };
+    loosens = λ b c l s x m h. record { from = h.from; is = h.is; part = p.loosens b c l s h.from m h.part };
   }
 
 -- a choice by the first token
@@ -272,9 +282,9 @@ module _ {X : Type 0} (test : Mark → Bool) (P Q : Bounds → List Mark → X �
       taken w.y (w.f ++ n) (ap (λ u. u ++ n) w.whole) w.is (p.keeps b w.f m n x w.part e)
   choice_keeps b front m n x (other isnt h) e = other (still_other front m n isnt e) (q.keeps b front m n x h e)
 
-  choice_loosens : (b : Bounds) (s : List Mark) (x : X) (m : List Mark) → Choice test P Q limits s x m → Choice test P Q b s x m
-  choice_loosens b s x m (taken y t e is h) = taken y t e is (p.loosens b t x m h)
-  choice_loosens b s x m (other e h) = other e (q.loosens b s x m h)
+  choice_loosens : (b c : Bounds) → IsLooser b c → (s : List Mark) (x : X) (m : List Mark) → Choice test P Q b s x m → Choice test P Q c s x m
+  choice_loosens b c l s x m (taken y t e is h) = taken y t e is (p.loosens b c l t x m h)
+  choice_loosens b c l s x m (other e h) = other e (q.loosens b c l s x m h)
 
   pub good_choice : Good (Choice test P Q)
   good_choice = record { split = choice_split; agrees = choice_agrees; keeps = choice_keeps; loosens = choice_loosens }
@@ -335,9 +345,9 @@ module _ {X : Type 0} (test : Mark → Bool) (P : Bounds → List Mark → X →
       at_front [] n k some e = absurd (omega arith)
       at_front (y ∷ f) n k some e = e
 
-  many_loosens : (b : Bounds) (s : List Mark) (xs : List X) (m : List Mark) → Many test P limits s xs m → Many test P b s xs m
-  many_loosens b s xs m (no_more isnt e) = no_more isnt e
-  many_loosens b s xs m (one_more {m = k} {x = x} {xs = xs'} does h hs) = one_more does (p.loosens b s x k h) (many_loosens b k xs' m hs)
+  many_loosens : (b c : Bounds) → IsLooser b c → (s : List Mark) (xs : List X) (m : List Mark) → Many test P b s xs m → Many test P c s xs m
+  many_loosens b c l s xs m (no_more isnt e) = no_more isnt e
+  many_loosens b c l s xs m (one_more {m = k} {x = x} {xs = xs'} does h hs) = one_more does (p.loosens b c l s x k h) (many_loosens b c l k xs' m hs)
 
   pub good_many : Good (Many test P)
   good_many = record {

@@ -5,9 +5,10 @@ use Rattle.std.proofs.lemmas.List.{append_cancel_right}
 use Rattle.math_grammar.specs.Tokens.{Item}
 use Rattle.math_parse.specs.Limits.{first_large}
 use Rattle.component_text.specs.Marks.{Mark, word, label, plain, run, is_at}
-use Rattle.component_text.specs.Forms.{Bounds, One, Run, Nothing, Then, Choice, taken, other, Many, no_more, one_more, Of}
+use Rattle.component_text.specs.Forms.{Bounds, limits, One, Run, Nothing, Then, Choice, taken, other, Many, no_more, one_more, Of}
 use Rattle.component_text.specs.Faults.{opens_formula, IsLong}
-use Rattle.component_text.specs.Reading.{is_plain, NoFormula, behind_word, all_plain, Placed, not_plain, no_formula, in_formula}
+use Rattle.component_text.specs.Reading.{is_plain, NoFormula, behind_word, all_plain, AreShort, Placed, not_plain, no_formula, in_formula}
+use Rattle.component_text.proofs.Shorts.{alone_short, short_append, run_short}
 use Rattle.component_text.proofs.Parts.{Ended, nothing_there, at_word, at_label, run_ends, run_of, Good}
 
 map_append : (f g : List Item) → map plain (f ++ g) ≡ map plain f ++ map plain g
@@ -121,9 +122,10 @@ placed_after f rest h = go (is_at is_plain rest) refl
     go true e = no_formula (h e)
     go false e = not_plain e
 
--- what a part leaves before a token of formulas
+-- what a part leaves before a token of formulas, and that its formulas are within their limits
 pub record Leaves {X : Type 0} (P : Bounds → List Mark → X → List Mark → Type 0) : Type 0 where
   pub free : (b : Bounds) (front m : List Mark) (x : X) → P b (front ++ m) x m → is_at is_plain m ≡ true → NoFormula front
+  pub short : (front m : List Mark) (x : X) → P limits (front ++ m) x m → AreShort front m
 
 pub not_ended : (m : List Mark) → Ended m → is_at is_plain m ≡ true → ⊥
 not_ended [] nothing_there e = cc
@@ -136,22 +138,29 @@ cancel f g m e = append_cancel_right f g m e
 
 module _ {X : Type 0} (value : Mark → Option X) (plains : (y : Mark) (x : X) → value y ≡ Some x → NoFormula (y ∷ [])) where
   pub leaves_one : Leaves (One value)
-  leaves_one = record { free = λ b front m x h e. subst NoFormula (sym (cancel front (h.mark ∷ []) m h.there)) (plains h.mark x h.is) }
+  leaves_one = record {
+    free = λ b front m x h e. subst NoFormula (sym (cancel front (h.mark ∷ []) m h.there)) (plains h.mark x h.is);
+    short = λ front m x h. subst (λ f. AreShort f m) (sym (cancel front (h.mark ∷ []) m h.there)) (alone_short h.mark [] m (plains h.mark x h.is) tt);
+  }
 
 module _ {X : Type 0} (absent : X) where
   pub leaves_nothing : Leaves (Nothing absent)
-  leaves_nothing = record { free = λ b front m x h e. subst NoFormula (cancel [] front m h.behind) none_free }
+  leaves_nothing = record {
+    free = λ b front m x h e. subst NoFormula (cancel [] front m h.behind) none_free;
+    short = λ front m x h. subst (λ f. AreShort f m) (cancel [] front m h.behind) tt;
+  }
 
 -- a part that ends in a formula
-module _ {X Y Z : Type 0} (f : X × Y → Z) (value : Mark → Option X) (F : Bounds → List Item → Y → Type 0) where
+module _ {X Y Z : Type 0} (f : X × Y → Z) (value : Mark → Option X) (F : Bounds → List Item → Y → Type 0) (fits : (s : List Item) (y : Y) → F limits s y → first_large s ≡ None) where
   pub leaves_formula : Leaves (Of f (Then (One value) (Run F)))
   leaves_formula = record {
     free = λ b front m x h e. absurd (not_ended m (subst Ended (sym h.part.second.behind) (run_ends h.part.middle)) e);
+    short = λ front m x h. run_short F fits h.part.first.mark front h.part.middle m h.from.1 h.part.second h.part.first.there;
   }
 
 module _ {X Y : Type 0} (f : X → Y) (P : Bounds → List Mark → X → List Mark → Type 0) (p : Leaves P) where
   pub leaves_of : Leaves (Of f P)
-  leaves_of = record { free = λ b front m x h e. p.free b front m h.from h.part e }
+  leaves_of = record { free = λ b front m x h e. p.free b front m h.from h.part e; short = λ front m x h. p.short front m h.from h.part }
 
 module _ {X Y : Type 0} (P : Bounds → List Mark → X → List Mark → Type 0) (Q : Bounds → List Mark → Y → List Mark → Type 0) (good : Good P) (good' : Good Q) (p : Leaves P) (q : Leaves Q) where
   then_leaves : (b : Bounds) (front m : List Mark) (x : X × Y) → Then P Q b (front ++ m) x m → is_at is_plain m ≡ true → NoFormula front
@@ -163,8 +172,17 @@ module _ {X Y : Type 0} (P : Bounds → List Mark → X → List Mark → Type 0
       let second : Q b (g.0 ++ m) x.1 m = subst (λ t. Q b t x.1 m) g.1 h.second in
       subst NoFormula (sym whole) (join_free f.0 g.0 m (p.free b f.0 (g.0 ++ m) x.0 first) (q.free b g.0 m x.1 second e) e)
 
+  then_short : (front m : List Mark) (x : X × Y) → Then P Q limits (front ++ m) x m → AreShort front m
+  then_short front m x h =
+      let f = good.split limits (front ++ m) x.0 h.middle h.first in
+      let g = good'.split limits h.middle x.1 m h.second in
+      let whole : front ≡ f.0 ++ g.0 = cancel front (f.0 ++ g.0) m (f.1 ∙ ap (λ t. f.0 ++ t) g.1 ∙ sym (append_assoc f.0 g.0 m)) in
+      let first : P limits (f.0 ++ (g.0 ++ m)) x.0 (g.0 ++ m) = subst (λ t. P limits (f.0 ++ t) x.0 t) g.1 (subst (λ t. P limits t x.0 h.middle) f.1 h.first) in
+      let second : Q limits (g.0 ++ m) x.1 m = subst (λ t. Q limits t x.1 m) g.1 h.second in
+      subst (λ u. AreShort u m) (sym whole) (short_append f.0 g.0 m (p.short f.0 (g.0 ++ m) x.0 first) (q.short g.0 m x.1 second))
+
   pub leaves_then : Leaves (Then P Q)
-  leaves_then = record { free = then_leaves }
+  leaves_then = record { free = then_leaves; short = then_short }
 
 module _ {X : Type 0} (test : Mark → Bool) (P Q : Bounds → List Mark → X → List Mark → Type 0) (good : Good P) (words : (y : Mark) → test y ≡ true → NoFormula (y ∷ [])) (p : Leaves P) (q : Leaves Q) where
   choice_leaves : (b : Bounds) (front m : List Mark) (x : X) → Choice test P Q b (front ++ m) x m → is_at is_plain m ≡ true → NoFormula front
@@ -174,8 +192,15 @@ module _ {X : Type 0} (test : Mark → Bool) (P Q : Bounds → List Mark → X �
       subst NoFormula (sym whole) (both_free (y ∷ []) f.0 (words y is) (p.free b f.0 m x (subst (λ u. P b u x m) f.1 h) e))
   choice_leaves b front m x (other isnt h) e = q.free b front m x h e
 
+  choice_short : (front m : List Mark) (x : X) → Choice test P Q limits (front ++ m) x m → AreShort front m
+  choice_short front m x (taken y t d is h) =
+      let f = good.split limits t x m h in
+      let whole : front ≡ (y ∷ []) ++ f.0 = cancel front (y ∷ f.0) m (d ∙ ap (λ u. y ∷ u) f.1) in
+      subst (λ u. AreShort u m) (sym whole) (alone_short y f.0 m (words y is) (p.short f.0 m x (subst (λ u. P limits u x m) f.1 h)))
+  choice_short front m x (other isnt h) = q.short front m x h
+
   pub leaves_choice : Leaves (Choice test P Q)
-  leaves_choice = record { free = choice_leaves }
+  leaves_choice = record { free = choice_leaves; short = choice_short }
 
 module _ {X : Type 0} (test : Mark → Bool) (P : Bounds → List Mark → X → List Mark → Type 0) (good : Good P) (all : (b : Bounds) (s : List Mark) (xs : List X) (m : List Mark) → Many test P b s xs m → (front : List Mark) × (s ≡ front ++ m)) (p : Leaves P) where
   many_leaves : (b : Bounds) (s : List Mark) (xs : List X) (m : List Mark) → Many test P b s xs m → (front : List Mark) → s ≡ front ++ m → is_at is_plain m ≡ true → NoFormula front
@@ -187,5 +212,14 @@ module _ {X : Type 0} (test : Mark → Bool) (P : Bounds → List Mark → X →
       let first : P b (f.0 ++ (g.0 ++ m)) x (g.0 ++ m) = subst (λ t. P b (f.0 ++ t) x t) g.1 (subst (λ t. P b t x k) f.1 h) in
       subst NoFormula (sym whole) (join_free f.0 g.0 m (p.free b f.0 (g.0 ++ m) x first) (many_leaves b k ys m hs g.0 g.1 e) e)
 
+  many_short : (s : List Mark) (xs : List X) (m : List Mark) → Many test P limits s xs m → (front : List Mark) → s ≡ front ++ m → AreShort front m
+  many_short s xs m (no_more isnt d) front is = subst (λ u. AreShort u m) (cancel [] front m (d ∙ is)) tt
+  many_short s xs m (one_more {m = k} {x = x} {xs = ys} does h hs) front is =
+      let f = good.split limits s x k h in
+      let g = all limits k ys m hs in
+      let whole : front ≡ f.0 ++ g.0 = cancel front (f.0 ++ g.0) m (sym is ∙ f.1 ∙ ap (λ t. f.0 ++ t) g.1 ∙ sym (append_assoc f.0 g.0 m)) in
+      let first : P limits (f.0 ++ (g.0 ++ m)) x (g.0 ++ m) = subst (λ t. P limits (f.0 ++ t) x t) g.1 (subst (λ t. P limits t x k) f.1 h) in
+      subst (λ u. AreShort u m) (sym whole) (short_append f.0 g.0 m (p.short f.0 (g.0 ++ m) x first) (many_short k ys m hs g.0 g.1))
+
   pub leaves_many : Leaves (Many test P)
-  leaves_many = record { free = λ b front m xs h e. many_leaves b (front ++ m) xs m h front refl e }
+  leaves_many = record { free = λ b front m xs h e. many_leaves b (front ++ m) xs m h front refl e; short = λ front m xs h. many_short (front ++ m) xs m h front refl }

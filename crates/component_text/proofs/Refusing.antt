@@ -4,8 +4,9 @@ use Rattle.std.specs.Prelude.{Option}
 use Rattle.component_text.specs.Marks.{Mark, is_at}
 use Rattle.component_text.specs.Forms.{Bounds, limits, parts, none, One, Then, Choice, taken, other, Many, no_more, one_more, Of}
 use Rattle.component_text.specs.Faults.{IsLong}
-use Rattle.component_text.specs.Reading.{end_mark, BeginsIn, Begins, NoneHasIn, NoneHas, IsLargeIn, is_long, is_wide, Refuses, Passes, Lacks, is_plain, NoFormula, Placed, no_formula}
+use Rattle.component_text.specs.Reading.{end_mark, BeginsIn, Begins, NoneHasIn, NoneHas, IsLargeIn, is_long, is_wide, Refuses, Passes, Lacks, is_plain, NoFormula, no_formula}
 use Rattle.component_text.proofs.Placed.{none_free, placed_behind, Leaves}
+use Rattle.component_text.proofs.Shorts.{alone_short, short_behind}
 use Rattle.component_text.proofs.Parts.{SameStart, same_first, same, closing, Good, same_start_self}
 
 -- The part may begin with `end`: it is left out before it, or `end` is all of it.
@@ -76,6 +77,7 @@ module _ {X Y : Type 0} (value : Mark → Option X) (Q : Bounds → List Mark �
     };
     nowhere = one_nowhere s isnt;
     placed = no_formula none_free;
+    short = tt;
     wrong = λ z r h. one_wrong limits s z.0 h.middle isnt h.first;
   }
 
@@ -98,24 +100,26 @@ module _ {X Y : Type 0} (value : Mark → Option X) (Q : Bounds → List Mark �
       let tail : k.middle ≡ m = cc in
       q z.1 r (subst (λ t. Q limits t z.1 r) tail k.second)
 
-  pub one_then_refused : (s m rest : List Mark) (x : X) (h : One value limits s x m) (q : Refuses Q m rest) → Placed (h.mark ∷ q.before) rest → Refuses (Then (One value) Q) s rest
-  one_then_refused s m rest x h q where_it_is = record {
+  pub one_then_refused : (s m rest : List Mark) (x : X) (h : One value limits s x m) (q : Refuses Q m rest) → NoFormula (h.mark ∷ []) → Refuses (Then (One value) Q) s rest
+  one_then_refused s m rest x h q alone = record {
     before = h.mark ∷ q.before;
     is = h.there ∙ ap (λ t. h.mark ∷ t) q.is;
     begins = one_begins parts h.mark x q.before h.is q.begins;
     nowhere = one_then_nowhere none h.mark q.before rest q.nowhere;
-    placed = where_it_is;
+    placed = placed_behind (h.mark ∷ []) q.before rest (λ _. alone) q.placed;
+    short = alone_short h.mark q.before [] alone q.short;
     wrong = one_then_wrong s m x h q.wrong;
   }
 
-  pub one_then_passes : (s m rest : List Mark) (x : X) → One value limits s x m → Passes Q m rest → Passes (Then (One value) Q) s rest
-  one_then_passes s m rest x h q = record {
+  pub one_then_passes : (s m rest : List Mark) (x : X) (h : One value limits s x m) → Passes Q m rest → NoFormula (h.mark ∷ []) → Passes (Then (One value) Q) s rest
+  one_then_passes s m rest x h q alone = record {
     before = h.mark ∷ q.before;
     token = q.token;
     later = q.later;
     is = h.there ∙ ap (λ t. h.mark ∷ t) q.is;
     next = q.next;
     begins = one_begins parts h.mark x q.before h.is q.begins;
+    short = alone_short h.mark q.before [] alone q.short;
     large = large_as Q (Then (One value) Q) (h.mark ∷ []) q.before q.token q.later (one_begins none h.mark x (q.before ++ q.token ∷ []) h.is)
         (one_then_nowhere parts h.mark q.before (q.token ∷ q.later)) q.large;
     wrong = one_then_wrong s m x h q.wrong;
@@ -142,10 +146,10 @@ module _ {X Y : Type 0} (P : Bounds → List Mark → X → List Mark → Type 0
   first_nowhere b before (y ∷ rest) h = λ more x r k. h more x.0 k.middle k.first
 
   pub first_refused : (s rest : List Mark) → Refuses P s rest → CanSkip Q → Refuses (Then P Q) s rest
-  first_refused s rest h q = record { before = h.before; is = h.is; begins = first_begins parts h.before h.begins q; nowhere = first_nowhere none h.before rest h.nowhere; placed = h.placed; wrong = λ z r k. h.wrong z.0 k.middle k.first }
+  first_refused s rest h q = record { before = h.before; is = h.is; begins = first_begins parts h.before h.begins q; nowhere = first_nowhere none h.before rest h.nowhere; placed = h.placed; short = h.short; wrong = λ z r k. h.wrong z.0 k.middle k.first }
 
   pub first_passes : (s rest : List Mark) → Passes P s rest → CanSkip Q → Passes (Then P Q) s rest
-  first_passes s rest h q = record { before = h.before; token = h.token; later = h.later; is = h.is; next = h.next; begins = first_begins parts h.before h.begins q; large = large_as P (Then P Q) [] h.before h.token h.later (λ k. first_begins none (h.before ++ h.token ∷ []) k q) (first_nowhere parts h.before (h.token ∷ h.later)) h.large; wrong = λ z r k. h.wrong z.0 k.middle k.first }
+  first_passes s rest h q = record { before = h.before; token = h.token; later = h.later; is = h.is; next = h.next; begins = first_begins parts h.before h.begins q; short = h.short; large = large_as P (Then P Q) [] h.before h.token h.later (λ k. first_begins none (h.before ++ h.token ∷ []) k q) (first_nowhere parts h.before (h.token ∷ h.later)) h.large; wrong = λ z r k. h.wrong z.0 k.middle k.first }
 
   pub both_skip : CanSkip P → CanSkip Q → CanSkip (Then P Q)
   both_skip p q = record {
@@ -172,7 +176,7 @@ module _ {X Y : Type 0} (P : Bounds → List Mark → X → List Mark → Type 0
           let n : List Mark = skip.fill ++ end_mark ∷ tail in
           record {
             middle = n;
-            first = subst (λ t. P b (t ++ n) x n) (sym (append-nil front)) (p.keeps b front m n x (p.loosens b (front ++ m) x m h) (closing (skip.behind tail) (skip.starts tail)));
+            first = subst (λ t. P b (t ++ n) x n) (sym (append-nil front)) (p.keeps b front m n x (p.loosens limits b tt (front ++ m) x m h) (closing (skip.behind tail) (skip.starts tail)));
             second = skip.skips b tail;
           };
     }
@@ -184,7 +188,7 @@ module _ {X Y : Type 0} (P : Bounds → List Mark → X → List Mark → Type 0
           let follows : SameStart m n = subst (λ t. SameStart t n) (sym e) same_first in
           record {
             middle = n;
-            first = subst (λ t. P b t x n) (sym (append_assoc front (y ∷ before) (q.more ++ end_mark ∷ tail))) (p.keeps b front m n x (p.loosens b (front ++ m) x m h) (same follows));
+            first = subst (λ t. P b t x n) (sym (append_assoc front (y ∷ before) (q.more ++ end_mark ∷ tail))) (p.keeps b front m n x (p.loosens limits b tt (front ++ m) x m h) (same follows));
             second = q.goes_on tail;
           };
     }
@@ -220,11 +224,12 @@ module _ {X Y : Type 0} (P : Bounds → List Mark → X → List Mark → Type 0
           begins = second_begins parts front.0 m q.before rest x there q.is q.begins skip;
           nowhere = second_nowhere none front.0 m q.before rest x there q.is q.nowhere;
           placed = placed_behind front.0 q.before rest (λ e. leaves.free limits front.0 m x there (ap (is_at is_plain) q.is ∙ e)) q.placed;
+          short = short_behind front.0 m q.before rest q.is (leaves.short front.0 m x there) q.short;
           wrong = second_wrong s m front.0 x there front.1 q.wrong;
         }
 
-    pub second_passes : (s m rest : List Mark) (x : X) → P limits s x m → Passes Q m rest → CanSkip Q → Passes (Then P Q) s rest
-    second_passes s m rest x h q skip =
+    pub second_passes : Leaves P → (s m rest : List Mark) (x : X) → P limits s x m → Passes Q m rest → CanSkip Q → Passes (Then P Q) s rest
+    second_passes leaves s m rest x h q skip =
         let front = p.split limits s x m h in
         let there : P limits (front.0 ++ m) x m = subst (λ t. P limits t x m) front.1 h in
         record {
@@ -234,6 +239,7 @@ module _ {X Y : Type 0} (P : Bounds → List Mark → X → List Mark → Type 0
           is = behind_is front.0 s m q.before rest front.1 q.is;
           next = q.next;
           begins = second_begins parts front.0 m q.before rest x there q.is q.begins skip;
+          short = short_behind front.0 m q.before rest q.is (leaves.short front.0 m x there) q.short;
           large = large_as Q (Then P Q) front.0 q.before q.token q.later (λ k. second_begins none front.0 m (q.before ++ q.token ∷ []) q.later x there (further m q.before rest q.token q.later q.is q.next) k skip)
               (second_nowhere parts front.0 m q.before (q.token ∷ q.later) x there (q.is ∙ ap (λ t. q.before ++ t) q.next)) q.large;
           wrong = second_wrong s m front.0 x there front.1 q.wrong;
@@ -249,10 +255,10 @@ module _ {X Y : Type 0} (f : X → Y) (P : Bounds → List Mark → X → List M
   of_nowhere b before (y ∷ rest) h = λ more x r k. h more k.from r k.part
 
   pub of_refused : (s rest : List Mark) → Refuses P s rest → Refuses (Of f P) s rest
-  of_refused s rest h = record { before = h.before; is = h.is; begins = of_begins parts h.before h.begins; nowhere = of_nowhere none h.before rest h.nowhere; placed = h.placed; wrong = λ z r k. h.wrong k.from r k.part }
+  of_refused s rest h = record { before = h.before; is = h.is; begins = of_begins parts h.before h.begins; nowhere = of_nowhere none h.before rest h.nowhere; placed = h.placed; short = h.short; wrong = λ z r k. h.wrong k.from r k.part }
 
   pub of_passes : (s rest : List Mark) → Passes P s rest → Passes (Of f P) s rest
-  of_passes s rest h = record { before = h.before; token = h.token; later = h.later; is = h.is; next = h.next; begins = of_begins parts h.before h.begins; large = large_as P (Of f P) [] h.before h.token h.later (of_begins none (h.before ++ h.token ∷ [])) (of_nowhere parts h.before (h.token ∷ h.later)) h.large; wrong = λ z r k. h.wrong k.from r k.part }
+  of_passes s rest h = record { before = h.before; token = h.token; later = h.later; is = h.is; next = h.next; begins = of_begins parts h.before h.begins; short = h.short; large = large_as P (Of f P) [] h.before h.token h.later (of_begins none (h.before ++ h.token ∷ [])) (of_nowhere parts h.before (h.token ∷ h.later)) h.large; wrong = λ z r k. h.wrong k.from r k.part }
 
   pub of_skip : CanSkip P → CanSkip (Of f P)
   of_skip h = record { fill = h.fill; value = f h.value; behind = h.behind; starts = h.starts; skips = λ b tail. record { from = h.value; is = refl; part = h.skips b tail } }
@@ -277,27 +283,26 @@ module _ {X : Type 0} (test : Mark → Bool) (P Q : Bounds → List Mark → X �
   taken_wrong s m y e is h x r (taken z u e' is' k) = let there : y ∷ m ≡ z ∷ u = sym e ∙ e' in let tail : u ≡ m = cc in h x r (subst (λ v. P limits v x r) tail k)
   taken_wrong s m y e is h x r (other isnt k) = contrary (sym is ∙ ap (is_at test) (sym e) ∙ isnt)
 
-  pub taken_refused_at : (s m rest : List Mark) (y : Mark) → s ≡ y ∷ m → test y ≡ true → (h : Refuses P m rest) → Placed (y ∷ h.before) rest → Refuses (Choice test P Q) s rest
-  taken_refused_at s m rest y e is h where_it_is = record {
+  pub taken_refused : ((y : Mark) → test y ≡ true → NoFormula (y ∷ [])) → (s m rest : List Mark) (y : Mark) → s ≡ y ∷ m → test y ≡ true → Refuses P m rest → Refuses (Choice test P Q) s rest
+  taken_refused words s m rest y e is h = record {
     before = y ∷ h.before;
     is = e ∙ ap (λ t. y ∷ t) h.is;
     begins = taken_begins parts y h.before is h.begins;
     nowhere = taken_nowhere none y h.before rest is h.nowhere;
-    placed = where_it_is;
+    placed = placed_behind (y ∷ []) h.before rest (λ _. words y is) h.placed;
+    short = alone_short y h.before [] (words y is) h.short;
     wrong = taken_wrong s m y e is h.wrong;
   }
 
-  pub taken_refused : ((y : Mark) → test y ≡ true → NoFormula (y ∷ [])) → (s m rest : List Mark) (y : Mark) → s ≡ y ∷ m → test y ≡ true → Refuses P m rest → Refuses (Choice test P Q) s rest
-  taken_refused words s m rest y e is h = taken_refused_at s m rest y e is h (placed_behind (y ∷ []) h.before rest (λ _. words y is) h.placed)
-
-  pub taken_passes : (s m rest : List Mark) (y : Mark) → s ≡ y ∷ m → test y ≡ true → Passes P m rest → Passes (Choice test P Q) s rest
-  taken_passes s m rest y e is h = record {
+  pub taken_passes : ((y : Mark) → test y ≡ true → NoFormula (y ∷ [])) → (s m rest : List Mark) (y : Mark) → s ≡ y ∷ m → test y ≡ true → Passes P m rest → Passes (Choice test P Q) s rest
+  taken_passes words s m rest y e is h = record {
     before = y ∷ h.before;
     token = h.token;
     later = h.later;
     is = e ∙ ap (λ t. y ∷ t) h.is;
     next = h.next;
     begins = taken_begins parts y h.before is h.begins;
+    short = alone_short y h.before [] (words y is) h.short;
     large = large_as P (Choice test P Q) (y ∷ []) h.before h.token h.later (taken_begins none y (h.before ++ h.token ∷ []) is) (taken_nowhere parts y h.before (h.token ∷ h.later) is) h.large;
     wrong = taken_wrong s m y e is h.wrong;
   }
@@ -337,6 +342,7 @@ module _ {X : Type 0} (test : Mark → Bool) (P Q : Bounds → List Mark → X �
     begins = other_begins s h.before rest h.is isnt start h.begins;
     nowhere = other_nowhere none s h.before rest h.is isnt h.nowhere;
     placed = h.placed;
+    short = h.short;
     wrong = other_wrong s isnt h.wrong;
   }
 
@@ -348,6 +354,7 @@ module _ {X : Type 0} (test : Mark → Bool) (P Q : Bounds → List Mark → X �
     is = h.is;
     next = h.next;
     begins = other_begins s h.before rest h.is isnt start h.begins;
+    short = h.short;
     large = large_as Q (Choice test P Q) [] h.before h.token h.later (other_wide s h.before rest h.token h.later h.is h.next isnt)
         (other_nowhere parts s h.before (h.token ∷ h.later) (h.is ∙ ap (λ t. h.before ++ t) h.next) isnt) h.large;
     wrong = other_wrong s isnt h.wrong;
@@ -397,6 +404,7 @@ module _ {X : Type 0} (test : Mark → Bool) (P : Bounds → List Mark → X →
     begins = here_begins parts s h.before rest h.is does h.begins;
     nowhere = here_nowhere none s h.before rest h.is does h.nowhere;
     placed = h.placed;
+    short = h.short;
     wrong = here_wrong s does h.wrong;
   }
 
@@ -408,6 +416,7 @@ module _ {X : Type 0} (test : Mark → Bool) (P : Bounds → List Mark → X →
     is = h.is;
     next = h.next;
     begins = here_begins parts s h.before rest h.is does h.begins;
+    short = h.short;
     large = large_as P (Many test P) [] h.before h.token h.later (here_begins none s (h.before ++ h.token ∷ []) h.later (further s h.before rest h.token h.later h.is h.next) does)
         (here_nowhere parts s h.before (h.token ∷ h.later) (h.is ∙ ap (λ t. h.before ++ t) h.next) does) h.large;
     wrong = here_wrong s does h.wrong;
@@ -450,13 +459,14 @@ module _ {X : Type 0} (test : Mark → Bool) (P : Bounds → List Mark → X →
         begins = later_begins parts s both.before rest (front_some s m q.before rest front.0 x h front.1) both.is does both.begins;
         nowhere = later_nowhere none s both.before rest both.is does both.nowhere;
         placed = both.placed;
+        short = both.short;
         wrong = λ xs r. to_both limits s xs r does (λ ys. both.wrong ys r);
       }
 
-  pub many_later_passes : (s m rest : List Mark) (x : X) → is_at test s ≡ true → P limits s x m → Passes (Many test P) m rest → Passes (Many test P) s rest
+  pub many_later_passes : Leaves P → (s m rest : List Mark) (x : X) → is_at test s ≡ true → P limits s x m → Passes (Many test P) m rest → Passes (Many test P) s rest
   unfolding second_passes
-  many_later_passes s m rest x does h q =
-      let both = second_passes P (Many test P) p s m rest x h q many_skip in
+  many_later_passes leaves s m rest x does h q =
+      let both = second_passes P (Many test P) p leaves s m rest x h q many_skip in
       let front = p.split limits s x m h in
       record {
         before = both.before;
@@ -465,6 +475,7 @@ module _ {X : Type 0} (test : Mark → Bool) (P : Bounds → List Mark → X →
         is = both.is;
         next = both.next;
         begins = later_begins parts s both.before rest (front_some s m q.before rest front.0 x h front.1) both.is does both.begins;
+        short = both.short;
         large = large_as (Then P (Many test P)) (Many test P) [] both.before both.token both.later
             (later_begins none s (both.before ++ both.token ∷ []) both.later (omega (arith, front_some s m q.before rest front.0 x h front.1, length-append both.before (both.token ∷ [])))
             (further s both.before rest both.token both.later both.is both.next) does)

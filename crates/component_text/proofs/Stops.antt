@@ -1,14 +1,14 @@
 -- A part that is read, or stops, within a larger one.
-use Rattle.std.proofs.Common.{◌≡◌, ◌∙◌, ap, ◌<◌, List, [], ◌∷◌, ◌++◌, Bool, true, false, Some, None, Ok, Err, length, refl, sym, subst, append_assoc, append-nil}
+use Rattle.std.proofs.Common.{◌≡◌, ◌∙◌, ap, ◌<◌, List, [], ◌∷◌, ◌++◌, Bool, true, false, Some, Ok, Err, length, refl, sym, subst, append_assoc, append-nil}
 use Rattle.std.specs.Prelude.{Option, Result}
 use Rattle.component_text.specs.declared.stop.Stop.{Stop}
 use Rattle.component_text.specs.declared.stop.Stop.TheVariants as stop
 use Rattle.component_text.specs.Marks.{Mark, is_at}
-use Rattle.component_text.specs.Forms.{Bounds, limits, parts, none, One, Nothing, Then, Choice, taken, other, Many, no_more, one_more, Of}
+use Rattle.component_text.specs.Forms.{Bounds, limits, none, One, Nothing, Then, Choice, taken, other, Many, no_more, one_more, Of}
 use Rattle.component_text.specs.Reading.{end_mark, Begins, NoneHas, Refuses, Passes, Reads, Takes, Lacks, NoFormula, no_formula}
 use Rattle.component_text.proofs.Parts.{Good}
-use Rattle.component_text.proofs.Placed.{Leaves, none_free, placed_behind}
-use Rattle.component_text.proofs.Refusing.{CanSkip, skip_begins, one_refused, one_then_refused, one_then_passes, first_refused, first_passes, second_refused, second_passes, of_refused, of_passes, taken_refused, taken_passes, other_refused, other_passes, many_here, many_here_passes, many_later, many_later_passes}
+use Rattle.component_text.proofs.Placed.{Leaves, none_free}
+use Rattle.component_text.proofs.Refusing.{CanSkip, one_refused, one_then_refused, one_then_passes, first_refused, first_passes, second_refused, second_passes, of_refused, of_passes, taken_refused, taken_passes, other_refused, other_passes, many_here, many_here_passes}
 
 module _ {X Y : Type 0} (P : Bounds → List Mark → X → List Mark → Type 0) (Q : Bounds → List Mark → Y → List Mark → Type 0) where
   pub then_first : CanSkip Q → (s rest : List Mark) (e : Stop) → Reads P s (Err e) rest → Reads (Then P Q) s (Err e) rest
@@ -18,7 +18,7 @@ module _ {X Y : Type 0} (P : Bounds → List Mark → X → List Mark → Type 0
 
   pub then_later : Good P → Leaves P → CanSkip Q → (s m rest : List Mark) (x : X) (e : Stop) → P limits s x m → Reads Q m (Err e) rest → Reads (Then P Q) s (Err e) rest
   then_later good leaves skip s m rest x stop.Unexpected h k = second_refused P Q good leaves s m rest x h k skip
-  then_later good leaves skip s m rest x stop.TooLarge h k = second_passes P Q good s m rest x h k skip
+  then_later good leaves skip s m rest x stop.TooLarge h k = second_passes P Q good leaves s m rest x h k skip
   then_later good leaves skip s m rest x stop.OutOfMemory h k = tt
 
 pub of_stops : {X Y : Type 0} (f : X → Y) (P : Bounds → List Mark → X → List Mark → Type 0) (s rest : List Mark) (e : Stop) → Reads P s (Err e) rest → Reads (Of f P) s (Err e) rest
@@ -44,6 +44,7 @@ module _ {X : Type 0} (value : Mark → Option X) where
     begins = record { more = y ∷ []; value = x; goes_on = λ tail. record { mark = y; there = refl; is = is } };
     nowhere = one_nowhere s h.1;
     placed = no_formula none_free;
+    short = tt;
     wrong = λ z r k. one_wrong limits s z r h.1 k;
   })
 
@@ -51,8 +52,8 @@ module _ {X : Type 0} (value : Mark → Option X) where
   pub one_stops : {Y : Type 0} (Q : Bounds → List Mark → Y → List Mark → Type 0) → ((y : Mark) (x : X) → value y ≡ Some x → NoFormula (y ∷ [])) →
       (s m rest : List Mark) (x : X) (e : Stop) → One value limits s x m → Reads Q m (Err e) rest → Reads (Then (One value) Q) s (Err e) rest
   one_stops Q alone s m rest x stop.Unexpected h k =
-      one_then_refused value Q s m rest x h k (placed_behind (h.mark ∷ []) k.before rest (λ _. alone h.mark x h.is) k.placed)
-  one_stops Q alone s m rest x stop.TooLarge h k = one_then_passes value Q s m rest x h k
+      one_then_refused value Q s m rest x h k (alone h.mark x h.is)
+  one_stops Q alone s m rest x stop.TooLarge h k = one_then_passes value Q s m rest x h k (alone h.mark x h.is)
   one_stops Q alone s m rest x stop.OutOfMemory h k = tt
 
   pub one_missing_first : {Y : Type 0} (Q : Bounds → List Mark → Y → List Mark → Type 0) (s m : List Mark) (y : Mark) (x : X) → (m ≡ s) × Lacks value s → value y ≡ Some x → Begins Q [] → Refuses (Then (One value) Q) s m
@@ -63,7 +64,7 @@ module _ {X : Type 0} (test : Mark → Bool) (P Q : Bounds → List Mark → X �
   pub taken_reads : ((y : Mark) → test y ≡ true → NoFormula (y ∷ [])) → (s m rest : List Mark) (r : Result X Stop) → Takes test s true m → Reads P m r rest → Reads (Choice test P Q) s r rest
   taken_reads words s m rest (Ok x) k h = taken k.0 m k.1 k.2 h
   taken_reads words s m rest (Err stop.Unexpected) k h = taken_refused test P Q words s m rest k.0 k.1 k.2 h
-  taken_reads words s m rest (Err stop.TooLarge) k h = taken_passes test P Q s m rest k.0 k.1 k.2 h
+  taken_reads words s m rest (Err stop.TooLarge) k h = taken_passes test P Q words s m rest k.0 k.1 k.2 h
   taken_reads words s m rest (Err stop.OutOfMemory) k h = tt
 
   pub other_reads : Begins (Choice test P Q) [] → (s m rest : List Mark) (r : Result X Stop) → Takes test s false m → Reads Q m r rest → Reads (Choice test P Q) s r rest

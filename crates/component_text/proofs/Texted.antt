@@ -9,17 +9,22 @@ use Rattle.component_tokens.specs.declared.piece.CutFault.{CutFault}
 use Rattle.component_tokens.specs.declared.piece.CutFault.TheVariants as wrong
 use Rattle.component_tokens.specs.Pieces.{Cut}
 use Rattle.model_core.specs.declared.component.RawComponent.{RawComponent}
+use Rattle.model_core.specs.declared.fault.Fault.{Fault}
+use Rattle.model_core.specs.declared.fault.FaultKind.{FaultKind}
+use Rattle.model_core.specs.declared.fault.FaultKind.TheVariants as kind
 use Rattle.model_core.specs.Components.{heading}
 use Rattle.component_text.specs.declared.pieces.ReadFault.{ReadFault}
 use Rattle.component_text.specs.declared.pieces.ReadFault.TheVariants as fault
 use Rattle.component_text.specs.Marks.{Mark, word, marks_of}
 use Rattle.component_text.specs.Forms.{Bounds, limits, parts, One, Then, Of}
-use Rattle.component_text.specs.Grammar.{reference, context_of, Headed}
-use Rattle.component_text.specs.Machines.{machine_of, IsComponent, a_context, a_machine}
-use Rattle.component_text.specs.Faults.{HasContinuation, IsUnexpectedAt, IsTooLargeAt}
+use Rattle.component_text.specs.Grammar.{reference, context_of, ContextBody, Headed}
+use Rattle.component_text.specs.Machines.{machine_of, MachineBody, IsComponent, a_context, a_machine}
+use Rattle.component_text.specs.Faults.{NoneIsLong, BeginsWithin, IsUnexpectedAt, IsTooLargeAt}
 use Rattle.component_text.specs.Spelled.{Spells, Finds, place_of, text_of, other_name, misnamed_behind, misnamed, IsFirst, bad_sign, number_too_wide, unexpected, unexpected_end, too_large, comment_not_closed, wrong_name, IsReadFault, Tells, fault_kind, fault_place, TellsAtEnd, TellsUnexpected, TellsTooLarge, ReadsPieces}
-use Rattle.component_text.proofs.Components.{good_context_body}
-use Rattle.component_text.proofs.Machines.{good_machine_body}
+use Rattle.component_text.proofs.Parts.{IsLooser}
+use Rattle.component_text.proofs.Whole.{headed_short}
+use Rattle.component_text.proofs.Components.{good_context_body, leaves_context_body}
+use Rattle.component_text.proofs.Machines.{good_machine_body, leaves_machine_body}
 use Rattle.component_text.proofs.Unique.{OneFormula}
 use Rattle.component_text.proofs.Once.{OneAction, component_unique}
 
@@ -28,65 +33,66 @@ module _ (Whole : Bounds → List Mark → RawComponent → Type 0) (name text :
   abbrev NoComponent : Type 0
   NoComponent = (c : RawComponent) → Whole limits marks c → (heading c).name ≡ name → cut ≡ None → ⊥
 
-  told : (answer : ReadFault) (kind place : ℕ) (words : List ℕ) → Tells answer name kind place words → IsFirst Whole name text marks cut kind place words → NoComponent →
+  told : (answer : ReadFault) (k : FaultKind) (place : ℕ) (words : List ℕ) → Tells answer name k place words → IsFirst Whole name text marks cut k place words → NoComponent →
       ReadsPieces Whole name text marks cut (Err answer)
-  told (fault.Fault f) kind place words t first isnt = (
-    t.0,
-    subst (λ k. IsFirst Whole name text marks cut k f.place f.words) (sym t.1) (subst (λ p. IsFirst Whole name text marks cut kind p f.words) (sym t.2)
-        (subst (λ w. IsFirst Whole name text marks cut kind place w) (sym t.3) first)),
-    isnt,
-  )
-  told fault.OutOfMemory kind place words t first isnt = tt
+  told (fault.Fault f) k place words t first isnt =
+      (ap (λ g. g.component) t, subst (λ (g : Fault). IsFirst Whole name text marks cut g.kind g.place g.words) (sym t) first, isnt)
+  told fault.OutOfMemory k place words t first isnt = tt
 
-  pub told_wrong_name : (answer : ReadFault) (p : ℕ) → misnamed name marks ≡ Some p → Tells answer name 6 p [] → NoComponent → ReadsPieces Whole name text marks cut (Err answer)
-  told_wrong_name answer p e t isnt = told answer 6 p [] t (wrong_name e) isnt
+  pub told_wrong_name : (answer : ReadFault) (p : ℕ) → misnamed name marks ≡ Some p → Tells answer name kind.WrongName p [] → NoComponent → ReadsPieces Whole name text marks cut (Err answer)
+  told_wrong_name answer p e t isnt = told answer kind.WrongName p [] t (wrong_name e) isnt
 
   -- what is wrong behind the tokens
-  told_cut : (answer : ReadFault) (f : CutFault) → misnamed name marks ≡ None → HasContinuation Whole marks → cut ≡ Some f → Tells answer name (fault_kind f) (fault_place f) [] →
+  told_cut : (answer : ReadFault) (f : CutFault) → misnamed name marks ≡ None → BeginsWithin Whole marks → cut ≡ Some f → Tells answer name (fault_kind f) (fault_place f) [] →
       ReadsPieces Whole name text marks cut (Err answer)
-  told_cut answer (wrong.BadSign p) n h e t = told answer 1 p [] t (bad_sign n h e) (λ c w i k. let clash : Some (wrong.BadSign p) ≡ None = sym e ∙ k in cc)
-  told_cut answer (wrong.NumberTooWide p) n h e t = told answer 2 p [] t (number_too_wide n h e) (λ c w i k. let clash : Some (wrong.NumberTooWide p) ≡ None = sym e ∙ k in cc)
-  told_cut answer (wrong.CommentNotClosed p) n h e t = told answer 5 p [] t (comment_not_closed n h e) (λ c w i k. let clash : Some (wrong.CommentNotClosed p) ≡ None = sym e ∙ k in cc)
+  told_cut answer (wrong.BadSign p) n h e t = told answer kind.BadSign p [] t (bad_sign n h e) (λ c w i k. let clash : Some (wrong.BadSign p) ≡ None = sym e ∙ k in cc)
+  told_cut answer (wrong.NumberTooWide p) n h e t = told answer kind.NumberTooWide p [] t (number_too_wide n h e) (λ c w i k. let clash : Some (wrong.NumberTooWide p) ≡ None = sym e ∙ k in cc)
+  told_cut answer (wrong.CommentNotClosed p) n h e t = told answer kind.CommentNotClosed p [] t (comment_not_closed n h e) (λ c w i k. let clash : Some (wrong.CommentNotClosed p) ≡ None = sym e ∙ k in cc)
 
-  pub told_behind : (answer : ReadFault) (c : RawComponent) (f : CutFault) → misnamed name marks ≡ None → Whole parts marks c → cut ≡ Some f →
+  pub told_behind : (answer : ReadFault) (c : RawComponent) (f : CutFault) → misnamed name marks ≡ None → Whole parts marks c → NoneIsLong marks → cut ≡ Some f →
       Tells answer name (fault_kind f) (fault_place f) [] → ReadsPieces Whole name text marks cut (Err answer)
-  told_behind answer c f n h e t = told_cut answer f n ([], c, subst (λ s. Whole parts s c) (sym (append-nil marks)) h) e t
+  told_behind answer c f n h short e t = told_cut answer f n (record { continues = ([], c, subst (λ s. Whole parts s c) (sym (append-nil marks)) h); short = short }) e t
 
   pub told_unexpected : (answer : ReadFault) (rest : List Mark) → misnamed name marks ≡ None → IsUnexpectedAt Whole marks rest → ((c : RawComponent) → Whole limits marks c → ⊥) →
       TellsUnexpected answer name text rest cut → ReadsPieces Whole name text marks cut (Err answer)
-  told_unexpected answer (x ∷ later) n u isnt t = told answer 3 (place_of x) (text_of x) t (unexpected n u) (λ c w i k. isnt c w)
+  told_unexpected answer (x ∷ later) n u isnt t = told answer kind.Unexpected (place_of x) (text_of x) t (unexpected n u) (λ c w i k. isnt c w)
   told_unexpected answer [] n u isnt t = at_end cut refl t
     where
       at_end : (o : Option CutFault) → cut ≡ o → TellsAtEnd answer name text o → ReadsPieces Whole name text marks cut (Err answer)
-      at_end None e t = told answer 3 (length text) [] t (unexpected_end n u e) (λ c w i k. isnt c w)
+      at_end None e t = told answer kind.Unexpected (length text) [] t (unexpected_end n u e) (λ c w i k. isnt c w)
       at_end (Some f) e t =
-          told_cut answer f n (subst (HasContinuation Whole) (sym (u.is ∙ append-nil u.before)) u.begins) e t
+          told_cut answer f n (subst (BeginsWithin Whole) (sym (u.is ∙ append-nil u.before)) u.begins) e t
 
   pub told_too_large : (answer : ReadFault) (rest : List Mark) → misnamed name marks ≡ None → IsTooLargeAt Whole marks rest → ((c : RawComponent) → Whole limits marks c → ⊥) →
       TellsTooLarge answer name rest → ReadsPieces Whole name text marks cut (Err answer)
-  told_too_large answer (x ∷ later) n u isnt t = told answer 4 (place_of x) [] t (too_large n u) (λ c w i k. isnt c w)
+  told_too_large answer (x ∷ later) n u isnt t = told answer kind.FormulaTooLarge (place_of x) [] t (too_large n u) (λ c w i k. isnt c w)
   told_too_large answer [] n u isnt t = let e = u.next in cc
 
 -- a component within the limits begins one, and its heading is its own
-pub component_loosens : (s : List Mark) (c : RawComponent) → IsComponent limits s c → IsComponent parts s c
-component_loosens s c (a_context h) = a_context (record {
+pub component_loosens : (b c : Bounds) → IsLooser b c → (s : List Mark) (d : RawComponent) → IsComponent b s d → IsComponent c s d
+component_loosens b c l s d (a_context h) = a_context (record {
   place = h.place;
   behind = h.behind;
   rest = h.rest;
   head = h.head;
-  body = good_context_body.loosens parts h.behind c h.rest h.body;
+  body = good_context_body.loosens b c l h.behind d h.rest h.body;
   end_place = h.end_place;
   end = h.end;
 })
-component_loosens s c (a_machine h) = a_machine (record {
+component_loosens b c l s d (a_machine h) = a_machine (record {
   place = h.place;
   behind = h.behind;
   rest = h.rest;
   head = h.head;
-  body = good_machine_body.loosens parts h.behind c h.rest h.body;
+  body = good_machine_body.loosens b c l h.behind d h.rest h.body;
   end_place = h.end_place;
   end = h.end;
 })
+
+-- and no token of it passes a limit
+pub component_short : (s : List Mark) (c : RawComponent) → IsComponent limits s c → NoneIsLong s
+component_short s c (a_context h) = headed_short (codes "context") refl ContextBody good_context_body leaves_context_body s c h
+component_short s c (a_machine h) = headed_short (codes "machine") refl MachineBody good_machine_body leaves_machine_body s c h
 
 -- the heading of a component, and the name that is wanted
 named_one : (x : Mark) (r : Ref) (name : List ℕ) → reference x ≡ Some r → r.name ≡ name → other_name name (reference x) ≡ None

@@ -9,7 +9,7 @@ use Rattle.math_grammar.specs.Grammar.{Spells}
 use Rattle.model_core.specs.declared.component.RawComponent.{RawComponent}
 use Rattle.component_text.specs.Marks.{Mark, word, is_word, is_at}
 use Rattle.component_text.specs.Forms.{Bounds, limits, parts, none, One, Run, Nothing, Then, Choice, taken, other, Many, no_more, one_more, Of}
-use Rattle.component_text.specs.Grammar.{IsFormula, reference, is_reference, label_at, Names, SomeNames, labelled, Labelled, Line, begins_line, Lines, NamesBehind, SomeNamesBehind, LinesBehind, context_of, ContextBody, IsContext}
+use Rattle.component_text.specs.Grammar.{IsFormula, IsPlaced, reference, is_reference, label_at, Names, SomeNames, labelled, Labelled, Line, begins_line, Lines, NamesBehind, SomeNamesBehind, LinesBehind, context_of, ContextBody, IsContext}
 use Rattle.component_text.proofs.Parts.{Good, same_start_self, good_one}
 use Rattle.component_text.proofs.Components.{good_line, good_extends, good_sets, good_constants}
 
@@ -75,12 +75,15 @@ module _ (law : OneFormula) where
   formula_once h parts s t u k l = law _ h s t u k l
   formula_once h none s t u k l = law _ h s t u k l
 
-  predicate_unique : Unique (Run (IsFormula hole.Predicate))
-  predicate_unique = run_unique (IsFormula hole.Predicate) (formula_once hole.Predicate)
+  pub placed_once : (h : Hole) (b : Bounds) (s : List Item) (p q : Raw × ℕ) → IsPlaced h b s p → IsPlaced h b s q → p ≡ q
+  placed_once h b s p q k l = ap (λ (t : Raw). (t, p.1)) (formula_once h b s p.0 q.0 k.0 l.0) ∙ ap (λ (n : ℕ). (q.0, n)) (k.1 ∙ sym l.1)
+
+  predicate_unique : Unique (Run (IsPlaced hole.Predicate))
+  predicate_unique = run_unique (IsPlaced hole.Predicate) (placed_once hole.Predicate)
 
   pub labelled_unique : (theorem : Bool) → Unique (Labelled theorem)
-  labelled_unique theorem = of_unique (labelled theorem) (Then (One label_at) (Run (IsFormula hole.Predicate)))
-      (then_unique (One label_at) (Run (IsFormula hole.Predicate)) (good_one label_at) (one_unique label_at) predicate_unique)
+  labelled_unique theorem = of_unique (labelled theorem) (Then (One label_at) (Run (IsPlaced hole.Predicate)))
+      (then_unique (One label_at) (Run (IsPlaced hole.Predicate)) (good_one label_at) (one_unique label_at) predicate_unique)
 
   line_unique : Unique Line
   line_unique = choice_unique (is_word (codes "theorem")) (Labelled true) (Labelled false) (labelled_unique true) (labelled_unique false)

@@ -6,9 +6,10 @@ use Rattle.model_core.specs.declared.component.RawComponent.{RawComponent}
 use Rattle.component_text.specs.Marks.{Mark, word, label, plain, is_word, is_at}
 use Rattle.component_text.specs.Forms.{Bounds, limits, parts, none}
 use Rattle.component_text.specs.Grammar.{Headed}
-use Rattle.component_text.specs.Faults.{Continues, NoneGoesOn, IsLargeAt, long, wide, IsUnexpectedAt, IsTooLargeAt}
-use Rattle.component_text.specs.Reading.{end_mark, BeginsIn, Begins, NoneHasIn, NoneHas, IsLargeIn, is_long, is_wide, Refuses, Passes, behind_word, Placed, no_formula}
+use Rattle.component_text.specs.Faults.{NoneIsLong, Continues, BeginsWithin, NoneGoesOn, IsLargeAt, long, wide, IsUnexpectedAt, IsTooLargeAt}
+use Rattle.component_text.specs.Reading.{end_mark, BeginsIn, Begins, NoneHasIn, NoneHas, IsLargeIn, is_long, is_wide, AreShort, Refuses, Passes, behind_word, Placed, no_formula}
 use Rattle.component_text.proofs.Placed.{placed_small, placed_behind, placed_after, word_free, none_free, both_free, Leaves}
+use Rattle.component_text.proofs.Shorts.{short_less, short_append, word_short, short_within}
 use Rattle.component_text.proofs.Parts.{both_end, same_first, same, closing, Good, same_start_self}
 use Rattle.component_text.proofs.Refusing.{longer}
 
@@ -53,11 +54,14 @@ module _ (w : List ℕ) (no_variant : bytes_eq w (codes "variant") ≡ false) (B
   large_in_body p before x later (is_long h) = long (longer (word w p ∷ []) before x h)
   large_in_body p before x later (is_wide h k) = wide (begun none p (before ++ x ∷ []) h) (only_wider p before x later k)
 
+  body_within : (p : ℕ) (before : List Mark) → Begins Body before → AreShort before [] → BeginsWithin Whole (word w p ∷ before)
+  body_within p before h short = record { continues = begun parts p before h; short = short_within (word w p ∷ before) (word_short w p before [] no_variant short) }
+
   pub body_unexpected : (s m rest : List Mark) (p : ℕ) → s ≡ word w p ∷ m → Refuses Body m rest → IsUnexpectedAt Whole s rest
   body_unexpected s m rest p e h = record {
     before = word w p ∷ h.before;
     is = e ∙ ap (λ t. word w p ∷ t) h.is;
-    begins = begun parts p h.before h.begins;
+    begins = body_within p h.before h.begins h.short;
     nowhere = nowhere_in_body p h.before rest h.nowhere;
     small = not_large Whole (word w p ∷ h.before) rest (placed_behind (word w p ∷ []) h.before rest (λ _. word_free w p no_variant) h.placed) (nowhere_in_body p h.before rest h.nowhere);
   }
@@ -69,7 +73,7 @@ module _ (w : List ℕ) (no_variant : bytes_eq w (codes "variant") ≡ false) (B
     later = h.later;
     is = e ∙ ap (λ t. word w p ∷ t) h.is;
     next = h.next;
-    begins = begun parts p h.before h.begins;
+    begins = body_within p h.before h.begins h.short;
     large = large_in_body p h.before h.token h.later h.large;
   }
 
@@ -85,7 +89,10 @@ module _ (w : List ℕ) (no_variant : bytes_eq w (codes "variant") ≡ false) (B
   head_unexpected s e h = record {
     before = [];
     is = refl;
-    begins = (word w 0 ∷ (h.more ++ end_mark ∷ []), h.value, record { place = 0; behind = h.more ++ end_mark ∷ []; rest = end_mark ∷ []; head = refl; body = h.goes_on []; end_place = 0; end = refl });
+    begins = record {
+      continues = (word w 0 ∷ (h.more ++ end_mark ∷ []), h.value, record { place = 0; behind = h.more ++ end_mark ∷ []; rest = end_mark ∷ []; head = refl; body = h.goes_on []; end_place = 0; end = refl });
+      short = short_within [] tt;
+    };
     nowhere = no_head s e;
     small = not_large Whole [] s (no_formula none_free) (no_head s e);
   }
@@ -132,19 +139,22 @@ module _ (w : List ℕ) (no_variant : bytes_eq w (codes "variant") ≡ false) (B
         record {
           before = word w p ∷ front.0;
           is = e ∙ ap (λ t. word w p ∷ t) front.1;
-          begins = (
-            end_mark ∷ [],
-            c,
-            record {
-              place = p;
-              behind = front.0 ++ end_mark ∷ [];
-              rest = end_mark ∷ [];
-              head = refl;
-              body = good.keeps parts front.0 k (end_mark ∷ []) c (good.loosens parts (front.0 ++ k) c k there) (closing [] refl);
-              end_place = 0;
-              end = refl;
-            },
-          );
+          begins = record {
+            continues = (
+              end_mark ∷ [],
+              c,
+              record {
+                place = p;
+                behind = front.0 ++ end_mark ∷ [];
+                rest = end_mark ∷ [];
+                head = refl;
+                body = good.keeps parts front.0 k (end_mark ∷ []) c (good.loosens limits parts tt (front.0 ++ k) c k there) (closing [] refl);
+                end_place = 0;
+                end = refl;
+              },
+            );
+            short = short_within (word w p ∷ front.0) (word_short w p front.0 [] no_variant (short_less front.0 [] k (leaves.short front.0 k c there)));
+          };
           nowhere = no_end front.0 k p c there isnt;
           small = not_large Whole (word w p ∷ front.0) k
               (placed_after (word w p ∷ front.0) k (λ d. both_free (word w p ∷ []) front.0 (word_free w p no_variant) (leaves.free limits front.0 k c there d)))
@@ -163,29 +173,46 @@ module _ (w : List ℕ) (no_variant : bytes_eq w (codes "variant") ≡ false) (B
         let f = g.end in
         cc
 
+    -- with `end` behind the body
+    ended_short : (p q : ℕ) (front : List Mark) → AreShort front (word (codes "end") q ∷ []) → AreShort (word w p ∷ (front ++ word (codes "end") q ∷ [])) []
+    ended_short p q front h =
+        let last : Mark = word (codes "end") q in
+        word_short w p (front ++ last ∷ []) [] no_variant (short_append front (last ∷ []) [] h (word_short (codes "end") q [] [] refl tt))
+
+    -- no token of a component within the limits passes one
+    pub headed_short : Leaves Body → (s : List Mark) (c : RawComponent) → Whole limits s c → NoneIsLong s
+    headed_short leaves s c h =
+        let front = good.split limits h.behind c h.rest h.body in
+        let short : AreShort front.0 h.rest = leaves.short front.0 h.rest c (subst (λ t. Body limits t c h.rest) front.1 h.body) in
+        let is : s ≡ word w h.place ∷ (front.0 ++ word (codes "end") h.end_place ∷ []) = h.head ∙ ap (λ t. word w h.place ∷ t) (front.1 ∙ ap (λ t. front.0 ++ t) h.end) in
+        short_within s (subst (λ t. AreShort t []) (sym is) (ended_short h.place h.end_place front.0 (subst (AreShort front.0) h.end short)))
+
     -- something stands behind `end`
-    pub after_end : (s m k : List Mark) (p q : ℕ) (y : Mark) (t : List Mark) (c : RawComponent) → s ≡ word w p ∷ m → Body limits m c k → k ≡ word (codes "end") q ∷ (y ∷ t) → IsUnexpectedAt Whole s (y ∷ t)
-    after_end s m k p q y t c e h is =
+    pub after_end : Leaves Body → (s m k : List Mark) (p q : ℕ) (y : Mark) (t : List Mark) (c : RawComponent) → s ≡ word w p ∷ m → Body limits m c k → k ≡ word (codes "end") q ∷ (y ∷ t) → IsUnexpectedAt Whole s (y ∷ t)
+    after_end leaves s m k p q y t c e h is =
         let front = good.split limits m c k h in
         let last : Mark = word (codes "end") q in
         let there : Body limits (front.0 ++ last ∷ (y ∷ t)) c (last ∷ (y ∷ t)) = subst (λ u. Body limits (front.0 ++ u) c u) is (subst (λ u. Body limits u c k) front.1 h) in
         record {
           before = word w p ∷ (front.0 ++ last ∷ []);
           is = e ∙ ap (λ u. word w p ∷ u) (front.1 ∙ ap (λ u. front.0 ++ u) is ∙ sym (append_assoc front.0 (last ∷ []) (y ∷ t)));
-          begins = (
-            [],
-            c,
-            record {
-              place = p;
-              behind = (front.0 ++ last ∷ []) ++ [];
-              rest = last ∷ [];
-              head = refl;
-              body = subst (λ u. Body parts u c (last ∷ [])) (sym (append-nil (front.0 ++ last ∷ [])))
-                  (good.keeps parts front.0 (last ∷ (y ∷ t)) (last ∷ []) c (good.loosens parts (front.0 ++ last ∷ (y ∷ t)) c (last ∷ (y ∷ t)) there) (same same_first));
-              end_place = q;
-              end = refl;
-            },
-          );
+          begins = record {
+            continues = (
+              [],
+              c,
+              record {
+                place = p;
+                behind = (front.0 ++ last ∷ []) ++ [];
+                rest = last ∷ [];
+                head = refl;
+                body = subst (λ u. Body parts u c (last ∷ [])) (sym (append-nil (front.0 ++ last ∷ [])))
+                    (good.keeps parts front.0 (last ∷ (y ∷ t)) (last ∷ []) c (good.loosens limits parts tt (front.0 ++ last ∷ (y ∷ t)) c (last ∷ (y ∷ t)) there) (same same_first));
+                end_place = q;
+                end = refl;
+              },
+            );
+            short = short_within (word w p ∷ (front.0 ++ last ∷ [])) (ended_short p q front.0 (short_less front.0 (last ∷ []) (y ∷ t) (leaves.short front.0 (last ∷ (y ∷ t)) c there)));
+          };
           small = not_large Whole (word w p ∷ (front.0 ++ last ∷ [])) (y ∷ t) (no_formula (behind_word (word w p ∷ front.0) (codes "end") q [] refl refl)) (none_behind front.0 p q y t c there);
           nowhere = none_behind front.0 p q y t c there;
         }

@@ -8,8 +8,8 @@ use Rattle.component_text.specs.Marks.{Mark, word, is_word, is_at}
 use Rattle.component_text.specs.Forms.{Bounds, limits, parts, none}
 use Rattle.component_text.specs.Grammar.{Headed, IsContext}
 use Rattle.component_text.specs.Machines.{IsMachine, MachineBody, IsComponent, a_context, a_machine}
-use Rattle.component_text.specs.Faults.{Continues, NoneGoesOn, IsLargeAt, long, wide, IsUnexpectedAt, IsTooLargeAt}
-use Rattle.component_text.specs.Reading.{Begins, Reads, Takes, Ends, ReadsWhole}
+use Rattle.component_text.specs.Faults.{Continues, BeginsWithin, NoneGoesOn, IsLargeAt, long, wide}
+use Rattle.component_text.specs.Reading.{Begins, Reads, Ends, ReadsWhole}
 use Rattle.component_text.proofs.Parts.{Good}
 use Rattle.component_text.proofs.Placed.{Leaves}
 use Rattle.component_text.proofs.Whole.{whole, body_unexpected, body_too_large, head_unexpected, head_wrong, body_wrong, after_body, after_end, end_wrong}
@@ -38,7 +38,7 @@ module _ (w : List ℕ) (no_variant : bytes_eq w (codes "variant") ≡ false) (B
   whole_unended s m k rest p c e h (inr f) =
       let is : k ≡ word (codes "end") f.0 ∷ (f.1 ∷ f.2) = f.3 ∙ ap (λ t. word (codes "end") f.0 ∷ t) f.4 in
       subst (λ t. ReadsWhole IsWhole s (Err stop.Unexpected) t) (sym f.4) (
-        after_end w no_variant Body good s m k p f.0 f.1 f.2 c e h is,
+        after_end w no_variant Body good leaves s m k p f.0 f.1 f.2 c e h is,
         end_wrong w no_variant Body good s m k p c e h (λ q other. let clash : word (codes "end") q ∷ [] ≡ word (codes "end") f.0 ∷ (f.1 ∷ f.2) = sym other ∙ is in cc),
       )
 
@@ -82,6 +82,9 @@ module _ (v : Bool) (This That : Bounds → List Mark → RawComponent → Type 
   continues_both : (b : Bounds) (before : List Mark) → Continues This b before → Continues IsComponent b before
   continues_both b before h = (h.0, h.1, is_one b (before ++ h.0) h.1 h.2)
 
+  within_both : (before : List Mark) → BeginsWithin This before → BeginsWithin IsComponent before
+  within_both before h = record { continues = continues_both parts before h.continues; short = h.short }
+
   only_wider_both : (before : List Mark) (x : Mark) (rest : List Mark) → begins_machine (before ++ x ∷ rest) ≡ v → (Continues This parts (before ++ x ∷ []) → ⊥) → Continues IsComponent parts (before ++ x ∷ []) → ⊥
   only_wider_both before x rest e isnt h =
       let same : begins_machine ((before ++ x ∷ []) ++ h.0) ≡ v = ap begins_machine (append_assoc before (x ∷ []) h.0) ∙ same_before before x h.0 rest ∙ e in
@@ -102,7 +105,7 @@ module _ (v : Bool) (This That : Bounds → List Mark → RawComponent → Type 
   either_reads s rest (Err stop.Unexpected) e h =
       let u = h.0 in
       let nowhere : NoneGoesOn IsComponent u.before rest = none_of_both u.before rest (sym (ap begins_machine u.is) ∙ e) u.nowhere in
-      (record { before = u.before; is = u.is; begins = continues_both parts u.before u.begins; nowhere = nowhere; small = small_both u.before rest nowhere u.small }, λ c. of_this limits s c e (h.1 c))
+      (record { before = u.before; is = u.is; begins = within_both u.before u.begins; nowhere = nowhere; small = small_both u.before rest nowhere u.small }, λ c. of_this limits s c e (h.1 c))
   either_reads s rest (Err stop.TooLarge) e h =
       let u = h.0 in (
         record {
@@ -111,7 +114,7 @@ module _ (v : Bool) (This That : Bounds → List Mark → RawComponent → Type 
           later = u.later;
           is = u.is;
           next = u.next;
-          begins = continues_both parts u.before u.begins;
+          begins = within_both u.before u.begins;
           large = large_both u.before u.token u.later (sym (ap begins_machine (u.is ∙ ap (λ t. u.before ++ t) u.next)) ∙ e) u.large;
         },
         λ c. of_this limits s c e (h.1 c),

@@ -1,5 +1,5 @@
 -- The first place at which a text can't go on.
-use Rattle.std.specs.Prelude.{◌≡◌, ℕ, Bool, true, false, List, [], ◌∷◌, ◌++◌, Some, length, map, bytes_eq, codes}
+use Rattle.std.specs.Prelude.{◌≡◌, Bool, true, false, List, [], ◌∷◌, ◌++◌, Some, length, map, bytes_eq, codes}
 use Rattle.math_grammar.specs.Tokens.{Item}
 use Rattle.math_parse.specs.Limits.{first_large}
 use Rattle.component_text.specs.Marks.{Mark, word, label, plain}
@@ -26,9 +26,14 @@ pub record IsLong (before : List Mark) (x : Mark) : Type 0 where
 abbrev pub Continues : {C : Type 0} → (Bounds → List Mark → C → Type 0) → Bounds → List Mark → Type 0
 Continues {C} Whole b before = (more : List Mark) × (c : C) × Whole b (before ++ more) c
 
--- Some component begins so, with partitions within their limit.
-abbrev pub HasContinuation : {C : Type 0} → (Bounds → List Mark → C → Type 0) → List Mark → Type 0
-HasContinuation Whole before = Continues Whole parts before
+-- none of these tokens passes the limit of tokens or of open brackets of its formula
+abbrev pub NoneIsLong : List Mark → Type 0
+NoneIsLong s = (before : List Mark) (x : Mark) (later : List Mark) → s ≡ before ++ x ∷ later → IsLong before x → ⊥
+
+-- Some component begins so, with partitions within their limit, and none of these tokens passes another limit.
+pub record BeginsWithin {C : Type 0} (Whole : Bounds → List Mark → C → Type 0) (before : List Mark) : Type 0 where
+  pub continues : Continues Whole parts before
+  pub short : NoneIsLong before
 
 -- None goes on with the first of these behind those before, or ends there where there is none; limits play no part.
 abbrev pub NoneGoesOn : {C : Type 0} → (Bounds → List Mark → C → Type 0) → List Mark → List Mark → Type 0
@@ -40,20 +45,20 @@ pub data IsLargeAt {C : Type 0} (Whole : Bounds → List Mark → C → Type 0) 
   long : IsLong before x → IsLargeAt Whole before x
   wide : Continues Whole none (before ++ x ∷ []) → (Continues Whole parts (before ++ x ∷ []) → ⊥) → IsLargeAt Whole before x
 
--- The first token without continuation is the first of `rest`, or it is the end. It passes no limit.
+-- The first token without continuation is the first of `rest`, or it is the end. Neither it nor one before it passes a limit.
 pub record IsUnexpectedAt {C : Type 0} (Whole : Bounds → List Mark → C → Type 0) (s rest : List Mark) : Type 0 where
   pub before : List Mark
   pub is : s ≡ before ++ rest
-  pub begins : HasContinuation Whole before
+  pub begins : BeginsWithin Whole before
   pub nowhere : NoneGoesOn Whole before rest
   pub small : (x : Mark) (later : List Mark) → rest ≡ x ∷ later → IsLargeAt Whole before x → ⊥
 
--- The first of `rest` passes a limit of its formula, and what stands before it begins a component.
+-- The first of `rest` passes a limit of its formula. What stands before it begins a component, and passes none.
 pub record IsTooLargeAt {C : Type 0} (Whole : Bounds → List Mark → C → Type 0) (s rest : List Mark) : Type 0 where
   pub before : List Mark
   pub token : Mark
   pub later : List Mark
   pub is : s ≡ before ++ rest
   pub next : rest ≡ token ∷ later
-  pub begins : HasContinuation Whole before
+  pub begins : BeginsWithin Whole before
   pub large : IsLargeAt Whole before token

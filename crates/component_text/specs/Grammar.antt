@@ -20,6 +20,14 @@ IsFormula h limits s t = IsSentence h s t
 IsFormula h parts s t = Spells most_parts h s t
 IsFormula h none s t = Spells None h s t
 
+-- a formula with the place of its first token
+abbrev pub first_place : List Item → ℕ
+first_place [] = 0
+first_place (x ∷ s) = x.from
+
+abbrev pub IsPlaced : Hole → Bounds → List Item → (Raw × ℕ) → Type 0
+IsPlaced h b s p = IsFormula h b s p.0 × (p.1 ≡ first_place s)
+
 -- a name without prime
 abbrev pub reference : Mark → Option Ref
 reference (plain x) = if is_identifier x.text then Some (record { name = x.text; place = x.from }) else None
@@ -51,11 +59,11 @@ abbrev pub SomeNames : Bounds → List Mark → List Ref → List Mark → Type 
 SomeNames = Of (λ p. p.0 ∷ p.1) (Then (One reference) Names)
 
 -- label pred
-abbrev pub labelled : Bool → ((List ℕ × ℕ) × Raw) → RawLabelled
-labelled theorem p = record { label = p.0.0; theorem = theorem; formula = p.1; place = p.0.1 }
+abbrev pub labelled : Bool → ((List ℕ × ℕ) × (Raw × ℕ)) → RawLabelled
+labelled theorem p = record { label = p.0.0; theorem = theorem; formula = p.1.0; place = p.0.1; first = p.1.1 }
 
 abbrev pub Labelled : Bool → Bounds → List Mark → RawLabelled → List Mark → Type 0
-Labelled theorem = Of (labelled theorem) (Then (One label_at) (Run (IsFormula hole.Predicate)))
+Labelled theorem = Of (labelled theorem) (Then (One label_at) (Run (IsPlaced hole.Predicate)))
 
 -- ["theorem"] label pred
 abbrev pub Line : Bounds → List Mark → RawLabelled → List Mark → Type 0

@@ -1,5 +1,5 @@
 -- The grammar of machines.
-use Rattle.std.specs.Prelude.{◌≡◌, ℕ, Bool, true, false, ◌||◌, List, [], ◌∷◌, Option, Some, None, codes, bytes_eq, if◌then◌else◌}
+use Rattle.std.specs.Prelude.{ℕ, Bool, true, false, ◌||◌, List, [], ◌∷◌, Option, Some, None, codes, bytes_eq, if◌then◌else◌}
 use Rattle.formula_core.specs.declared.raw.Raw.{Raw}
 use Rattle.formula_core.specs.declared.raw.RawAction.{RawAction}
 use Rattle.formula_core.specs.declared.raw.Ref.{Ref}
@@ -11,14 +11,15 @@ use Rattle.math_action.specs.Limits.{IsAction}
 use Rattle.model_core.specs.declared.component.Convergence.{Convergence}
 use Rattle.model_core.specs.declared.component.Convergence.TheVariants.{Ordinary, Convergent, Anticipated}
 use Rattle.model_core.specs.declared.component.RawLabelled.{RawLabelled}
+use Rattle.model_core.specs.declared.component.RawVariant.{RawVariant}
 use Rattle.model_core.specs.declared.component.RawStep.{RawStep}
 use Rattle.model_core.specs.declared.component.RawEvent.{RawEvent}
 use Rattle.model_core.specs.declared.component.RawComponent.{RawComponent}
 use Rattle.model_core.specs.declared.component.RawComponent.TheVariants.{Machine}
 use Rattle.component_text.specs.declared.machine.Abstracts.{Abstracts}
-use Rattle.component_text.specs.Marks.{Mark, word, label, plain, is_word, is_at}
+use Rattle.component_text.specs.Marks.{Mark, word, label, plain, is_word}
 use Rattle.component_text.specs.Forms.{Bounds, limits, parts, none, One, Run, Nothing, Then, Choice, Many, Of}
-use Rattle.component_text.specs.Grammar.{IsFormula, reference, label_at, is_a_label, Names, SomeNames, Labelled, Lines, NamesBehind, SomeNamesBehind, LinesBehind, Headed, IsContext}
+use Rattle.component_text.specs.Grammar.{IsPlaced, reference, label_at, is_a_label, Labelled, Lines, NamesBehind, SomeNamesBehind, LinesBehind, Headed, IsContext}
 
 abbrev pub IsAct : Bounds → List Item → RawAction → Type 0
 IsAct limits s a = IsAction s a
@@ -36,14 +37,17 @@ abbrev pub Refines : Bounds → List Mark → Option Ref → List Mark → Type 
 Refines = Choice (is_word (codes "refines")) (Of Some (One reference)) (Nothing None)
 
 -- ["variant" [label] expr]
-abbrev pub Expression : Bounds → List Mark → Raw → List Mark → Type 0
-Expression = Run (IsFormula hole.Expression)
+abbrev pub Expression : Bounds → List Mark → (Raw × ℕ) → List Mark → Type 0
+Expression = Run (IsPlaced hole.Expression)
 
-abbrev pub VariantExpression : Bounds → List Mark → Raw → List Mark → Type 0
+abbrev pub VariantExpression : Bounds → List Mark → (Raw × ℕ) → List Mark → Type 0
 VariantExpression = Choice is_a_label Expression Expression
 
-abbrev pub Variant : Bounds → List Mark → Option Raw → List Mark → Type 0
-Variant = Choice (is_word (codes "variant")) (Of Some VariantExpression) (Nothing None)
+abbrev pub variant_of : (Raw × ℕ) → Option RawVariant
+variant_of p = Some (record { formula = p.0; first = p.1 })
+
+abbrev pub Variant : Bounds → List Mark → Option RawVariant → List Mark → Type 0
+Variant = Choice (is_word (codes "variant")) (Of variant_of VariantExpression) (Nothing None)
 
 -- {label pred}
 abbrev pub Witnesses : Bounds → List Mark → List RawLabelled → List Mark → Type 0
@@ -121,7 +125,7 @@ abbrev pub Events : Bounds → List Mark → List RawEvent → List Mark → Typ
 Events = Choice (is_word (codes "events")) EventList (Nothing [])
 
 -- name ["refines" name] ["sees" name {name}] ["variables" {name}] ["invariants" {line}] ["variant" [label] expr] ["events" {event}]
-abbrev pub machine_of : (Ref × (Option Ref × (List Ref × (List Ref × (List RawLabelled × (Option Raw × List RawEvent)))))) → RawComponent
+abbrev pub machine_of : (Ref × (Option Ref × (List Ref × (List Ref × (List RawLabelled × (Option RawVariant × List RawEvent)))))) → RawComponent
 machine_of p = Machine p.0 p.1.0 p.1.1.0 p.1.1.1.0 p.1.1.1.1.0 p.1.1.1.1.1.0 p.1.1.1.1.1.1
 
 abbrev pub MachineBody : Bounds → List Mark → RawComponent → List Mark → Type 0

@@ -47,12 +47,18 @@ pub data Placed (before rest : List Mark) : Type 0 where
   in_formula : (lead : List Mark) (y : Mark) (formula : List Item) (x : Item) (later : List Mark) →
       before ≡ lead ++ (y ∷ map plain formula) → opens_formula y ≡ true → rest ≡ plain x ∷ later → first_large (formula ++ x ∷ []) ≡ None → Placed before rest
 
+-- behind each of these that opens a formula its tokens, on into m, are within their limits
+abbrev pub AreShort : List Mark → List Mark → Type 0
+AreShort [] m = Unit {0}
+AreShort (x ∷ s) m = (opens_formula x ≡ true → first_large (run (s ++ m)) ≡ None) × AreShort s m
+
 pub record Refuses {X : Type 0} (P : Bounds → List Mark → X → List Mark → Type 0) (old rest : List Mark) : Type 0 where
   pub before : List Mark
   pub is : old ≡ before ++ rest
   pub begins : Begins P before
   pub nowhere : NoneHas P before rest
   pub placed : Placed before rest
+  pub short : AreShort before []
   pub wrong : (x : X) (r : List Mark) → P limits old x r → ⊥
 
 -- the first of `rest` passes a limit: of tokens or open brackets, or only larger partitions go on with it
@@ -67,6 +73,7 @@ pub record Passes {X : Type 0} (P : Bounds → List Mark → X → List Mark →
   pub is : old ≡ before ++ rest
   pub next : rest ≡ token ∷ later
   pub begins : Begins P before
+  pub short : AreShort before []
   pub large : IsLargeIn P before token later
   pub wrong : (x : X) (r : List Mark) → P limits old x r → ⊥
 
@@ -112,6 +119,7 @@ pub record StopsAt {X : Type 0} (F : Bounds → List Item → X → Type 0) (s :
 pub record PassesAt {X : Type 0} (F : Bounds → List Item → X → Type 0) (s : List Item) (i : ℕ) : Type 0 where
   pub short : i < length s
   pub begins : StartsIn F parts (take i s)
+  pub few : first_large (take i s) ≡ None
   pub large : (first_large (take (i + 1) s) ≡ Some i) ⊎ (StartsIn F none (take (i + 1) s) × (StartsIn F parts (take (i + 1) s) → ⊥))
   pub wrong : (x : X) → F limits s x → ⊥
 

@@ -3,6 +3,9 @@ use Rattle.std.specs.Prelude.{◌≡◌, ℕ, Bool, ◌||◌, List, [], ◌∷�
 use Rattle.std.specs.Borrow.{Bor}
 use Rattle.std.specs.Str.{IsUtf8}
 use Rattle.model_core.specs.declared.fault.Fault.{Fault}
+use Rattle.model_core.specs.declared.fault.FaultKind.{FaultKind}
+use Rattle.model_core.specs.declared.fault.FaultKind.TheVariants as kind
+use Rattle.model_core.specs.Faults.{fault_at}
 use Rattle.formula_core.specs.declared.raw.Ref.{Ref}
 use Rattle.math_tokens.specs.declared.cutting.Token.{Token}
 use Rattle.component_tokens.specs.declared.piece.CutFault.{CutFault}
@@ -15,7 +18,8 @@ use Rattle.component_text.specs.declared.pieces.ReadFault.TheVariants as fault
 use Rattle.component_text.specs.Marks.{Mark, word, label, plain, marks_of, is_word}
 use Rattle.component_text.specs.Forms.{Bounds, limits}
 use Rattle.component_text.specs.Grammar.{reference}
-use Rattle.component_text.specs.Faults.{HasContinuation, IsUnexpectedAt, IsTooLargeAt}
+use Rattle.component_text.specs.Machines.{IsComponent}
+use Rattle.component_text.specs.Faults.{BeginsWithin, IsUnexpectedAt, IsTooLargeAt}
 
 -- The text of the component of a name spells c: it is cut into tokens, which are a sentence of the grammar, and the heading has the name.
 pub record Spells (Whole : Bounds → List Mark → RawComponent → Type 0) (name text : List ℕ) (c : RawComponent) : Type 0 where
@@ -58,17 +62,17 @@ misnamed name [] = None
 misnamed name (x ∷ rest) = if is_heading x then misnamed_behind name rest else None
 
 -- The first fault of a text, by its tokens and what is wrong behind these: its kind, its place and its words.
-pub data IsFirst (Whole : Bounds → List Mark → RawComponent → Type 0) (name text : List ℕ) (marks : List Mark) (cut : Option CutFault) : ℕ → ℕ → List ℕ → Type 0 where
-  bad_sign : {p : ℕ} → misnamed name marks ≡ None → HasContinuation Whole marks → cut ≡ Some (wrong.BadSign p) → IsFirst Whole name text marks cut 1 p []
-  number_too_wide : {p : ℕ} → misnamed name marks ≡ None → HasContinuation Whole marks → cut ≡ Some (wrong.NumberTooWide p) → IsFirst Whole name text marks cut 2 p []
+pub data IsFirst (Whole : Bounds → List Mark → RawComponent → Type 0) (name text : List ℕ) (marks : List Mark) (cut : Option CutFault) : FaultKind → ℕ → List ℕ → Type 0 where
+  bad_sign : {p : ℕ} → misnamed name marks ≡ None → BeginsWithin Whole marks → cut ≡ Some (wrong.BadSign p) → IsFirst Whole name text marks cut kind.BadSign p []
+  number_too_wide : {p : ℕ} → misnamed name marks ≡ None → BeginsWithin Whole marks → cut ≡ Some (wrong.NumberTooWide p) → IsFirst Whole name text marks cut kind.NumberTooWide p []
   unexpected : {x : Mark} {later : List Mark} →
-      misnamed name marks ≡ None → IsUnexpectedAt Whole marks (x ∷ later) → IsFirst Whole name text marks cut 3 (place_of x) (text_of x)
-  unexpected_end : misnamed name marks ≡ None → IsUnexpectedAt Whole marks [] → cut ≡ None → IsFirst Whole name text marks cut 3 (length text) []
+      misnamed name marks ≡ None → IsUnexpectedAt Whole marks (x ∷ later) → IsFirst Whole name text marks cut kind.Unexpected (place_of x) (text_of x)
+  unexpected_end : misnamed name marks ≡ None → IsUnexpectedAt Whole marks [] → cut ≡ None → IsFirst Whole name text marks cut kind.Unexpected (length text) []
   too_large : {x : Mark} {later : List Mark} →
-      misnamed name marks ≡ None → IsTooLargeAt Whole marks (x ∷ later) → IsFirst Whole name text marks cut 4 (place_of x) []
+      misnamed name marks ≡ None → IsTooLargeAt Whole marks (x ∷ later) → IsFirst Whole name text marks cut kind.FormulaTooLarge (place_of x) []
   comment_not_closed : {p : ℕ} →
-      misnamed name marks ≡ None → HasContinuation Whole marks → cut ≡ Some (wrong.CommentNotClosed p) → IsFirst Whole name text marks cut 5 p []
-  wrong_name : {p : ℕ} → misnamed name marks ≡ Some p → IsFirst Whole name text marks cut 6 p []
+      misnamed name marks ≡ None → BeginsWithin Whole marks → cut ≡ Some (wrong.CommentNotClosed p) → IsFirst Whole name text marks cut kind.CommentNotClosed p []
+  wrong_name : {p : ℕ} → misnamed name marks ≡ Some p → IsFirst Whole name text marks cut kind.WrongName p []
 
 -- what is answered in place of a component, unless memory runs out
 abbrev pub IsReadFault : (Bounds → List Mark → RawComponent → Type 0) → List ℕ → List ℕ → ReadFault → Type 0
@@ -77,23 +81,29 @@ IsReadFault Whole name text (fault.Fault f) =
     × IsFirst Whole name text (marks_of text tokens) cut f.kind f.place f.words
 IsReadFault Whole name text fault.OutOfMemory = Unit {0}
 
+-- what is read of the text of the component of a name: what it spells, or its first fault
+abbrev pub IsRead : List ℕ → List ℕ → Result RawComponent Fault → Type 0
+IsRead name text (Ok c) = Spells IsComponent name text c
+IsRead name text (Err f) = IsReadFault IsComponent name text (fault.Fault f)
+
+-- No text has two: one that spells a component has no fault, and none has two faults.
+abbrev pub HasOneReading : Type 0
+HasOneReading = (name text : List ℕ) (one two : Result RawComponent Fault) → IsRead name text one → IsRead name text two → one ≡ two
+
 -- The words below stand in private contracts alone.
 
 -- the bytes of a token are text
 abbrev pub HasText : Mark → Type 0
 HasText x = IsUtf8 (text_of x)
 
-abbrev pub FaultIs : Fault → List ℕ → ℕ → ℕ → List ℕ → Type 0
-FaultIs f name kind place words = (f.component ≡ name) × (f.kind ≡ kind) × (f.place ≡ place) × (f.words ≡ words)
+abbrev pub Tells : ReadFault → List ℕ → FaultKind → ℕ → List ℕ → Type 0
+Tells (fault.Fault f) name k place words = f ≡ fault_at name k place words
+Tells fault.OutOfMemory name k place words = Unit {0}
 
-abbrev pub Tells : ReadFault → List ℕ → ℕ → ℕ → List ℕ → Type 0
-Tells (fault.Fault f) name kind place words = FaultIs f name kind place words
-Tells fault.OutOfMemory name kind place words = Unit {0}
-
-abbrev pub fault_kind : CutFault → ℕ
-fault_kind (wrong.BadSign p) = 1
-fault_kind (wrong.NumberTooWide p) = 2
-fault_kind (wrong.CommentNotClosed p) = 5
+abbrev pub fault_kind : CutFault → FaultKind
+fault_kind (wrong.BadSign p) = kind.BadSign
+fault_kind (wrong.NumberTooWide p) = kind.NumberTooWide
+fault_kind (wrong.CommentNotClosed p) = kind.CommentNotClosed
 
 abbrev pub fault_place : CutFault → ℕ
 fault_place (wrong.BadSign p) = p
@@ -102,16 +112,16 @@ fault_place (wrong.CommentNotClosed p) = p
 
 -- what is told where nothing goes on with the first of these
 abbrev pub TellsAtEnd : ReadFault → List ℕ → List ℕ → Option CutFault → Type 0
-TellsAtEnd answer name text None = Tells answer name 3 (length text) []
+TellsAtEnd answer name text None = Tells answer name kind.Unexpected (length text) []
 TellsAtEnd answer name text (Some f) = Tells answer name (fault_kind f) (fault_place f) []
 
 abbrev pub TellsUnexpected : ReadFault → List ℕ → List ℕ → List Mark → Option CutFault → Type 0
 TellsUnexpected answer name text [] cut = TellsAtEnd answer name text cut
-TellsUnexpected answer name text (x ∷ later) cut = Tells answer name 3 (place_of x) (text_of x)
+TellsUnexpected answer name text (x ∷ later) cut = Tells answer name kind.Unexpected (place_of x) (text_of x)
 
 abbrev pub TellsTooLarge : ReadFault → List ℕ → List Mark → Type 0
 TellsTooLarge answer name [] = Unit {0}
-TellsTooLarge answer name (x ∷ later) = Tells answer name 4 (place_of x) []
+TellsTooLarge answer name (x ∷ later) = Tells answer name kind.FormulaTooLarge (place_of x) []
 
 -- the first token, if there is one
 abbrev pub IsFirstMark : Option (ℕ × Bor (List ℕ)) → List Mark → Type 0

@@ -1,10 +1,10 @@
 //! Going through the tokens of a component's text from left to right.
 
-ghost use Rattle.std.specs.Prelude.{◌≡◌, ◌≤◌, length, IfOk, ◌==◌};
+ghost use Rattle.std.specs.Prelude.{◌≡◌, ◌≤◌, List, ℕ, length, IfOk, ◌==◌};
 ghost use Rattle.math_grammar.specs.declared.holes.Hole.TheVariants as hole;
-ghost use Rattle.math_grammar.specs.Tokens.{bytes_of};
+ghost use Rattle.math_grammar.specs.Tokens.{bytes_of, items_of};
 ghost use Rattle.component_text.specs.Marks.{is_word, is_at, marks_of};
-ghost use Rattle.component_text.specs.Grammar.{IsFormula, reference, label_at, is_a_label, begins_line};
+ghost use Rattle.component_text.specs.Grammar.{first_place, IsPlaced, reference, label_at, is_a_label, begins_line};
 ghost use Rattle.component_text.specs.Machines.{IsAct, either, begins_event};
 ghost use Rattle.component_text.specs.Reading.{Takes, ReadsOne, ReadsFormula};
 ghost use Rattle.component_text.specs.Texts.{IsNameOf, IsLabelOf, is_plain_text, plain_length, IsKindOf, is_word_text};
@@ -85,6 +85,16 @@ fn plain_length(text: &str, tokens: &[Token]) -> usize
         n += 1;
     }
     n
+}
+
+/// The place of the first of these tokens.
+fn first_place(tokens: &[Token]) -> u32
+    ensures { (text : List ℕ) → result ≡ first_place (items_of text tokens.now) }
+{
+    match tokens {
+        [first, ..] => first.from,
+        [] => 0,
+    }
 }
 
 /// What a token with these bytes is to the grammar of components.
@@ -240,15 +250,16 @@ impl<'t, 'a> Cursor<'t, 'a> {
         Ok(Some((label, place)))
     }
 
-    /// Reads the predicate before the next structural word or label.
-    pub fn predicate(&mut self, alloc: Global) -> Result<Raw, Stop>
-        ensures { ReadsFormula (IsFormula hole.Predicate) self.old result self.new }
+    /// Reads the predicate before the next structural word or label, with its place.
+    pub fn predicate(&mut self, alloc: Global) -> Result<(Raw, u32), Stop>
+        ensures { ReadsFormula (IsPlaced hole.Predicate) self.old result self.new }
     {
         let length = plain_length(self.text, self.rest);
         match predicate(alloc, self.text, &self.rest[..length]) {
             Ok(formula) => {
+                let first = first_place(&self.rest[..length]);
                 self.rest = &self.rest[length..];
-                Ok(formula)
+                Ok((formula, first))
             }
             Err(ParseFault::Unexpected(index)) => {
                 self.rest = &self.rest[index as usize..];
@@ -290,15 +301,16 @@ impl<'t, 'a> Cursor<'t, 'a> {
             || self.is_at_word("anticipated")
     }
 
-    /// Reads the expression before the next structural word or label.
-    pub fn expression(&mut self, alloc: Global) -> Result<Raw, Stop>
-        ensures { ReadsFormula (IsFormula hole.Expression) self.old result self.new }
+    /// Reads the expression before the next structural word or label, with its place.
+    pub fn expression(&mut self, alloc: Global) -> Result<(Raw, u32), Stop>
+        ensures { ReadsFormula (IsPlaced hole.Expression) self.old result self.new }
     {
         let length = plain_length(self.text, self.rest);
         match expression(alloc, self.text, &self.rest[..length]) {
             Ok(formula) => {
+                let first = first_place(&self.rest[..length]);
                 self.rest = &self.rest[length..];
-                Ok(formula)
+                Ok((formula, first))
             }
             Err(ParseFault::Unexpected(index)) => {
                 self.rest = &self.rest[index as usize..];

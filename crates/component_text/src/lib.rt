@@ -2,15 +2,15 @@
 #![tactic(auto)]
 
 mod cursor;
+mod laws;
 mod machine;
 mod parse;
 mod pieces;
 mod reader;
 mod stop;
-#[cfg(test)]
-mod tests;
 mod words;
 
+pub use laws::one_reading;
 pub use pieces::ReadFault;
 pub use reader::read;
 pub use words::STRUCTURAL;

@@ -7,8 +7,8 @@ ghost use Rattle.component_text.specs.Reading.{Reads, ReadsWhole};
 use crate::cursor::Cursor;
 use crate::parse::{context, ends, labelled, lines, lines_behind, names_behind, some_names_behind};
 use crate::stop::Stop;
-use formula_core::{List, Raw, Ref};
-use model_core::{Convergence, RawComponent, RawEvent, RawLabelled, RawStep};
+use formula_core::{List, Ref};
+use model_core::{Convergence, RawComponent, RawEvent, RawLabelled, RawStep, RawVariant};
 use std::alloc::Global;
 
 /// What an event extends, which is one, or refines.
@@ -31,15 +31,15 @@ fn refines(alloc: Global, cursor: &mut Cursor<'_, '_>) -> Result<Option<Ref>, St
 }
 
 /// The variant, whose label isn't kept.
-fn variant(alloc: Global, cursor: &mut Cursor<'_, '_>) -> Result<Option<Raw>, Stop>
+fn variant(alloc: Global, cursor: &mut Cursor<'_, '_>) -> Result<Option<RawVariant>, Stop>
     ensures { Reads Variant cursor.old result cursor.new }
 {
     if !cursor.take_word("variant") {
         return Ok(None);
     }
     let _ = cursor.take_label();
-    let expression = cursor.expression(alloc)?;
-    Ok(Some(expression))
+    let (formula, first) = cursor.expression(alloc)?;
+    Ok(Some(RawVariant { formula, first }))
 }
 
 fn references(alloc: Global, cursor: &mut Cursor<'_, '_>) -> Result<Abstracts, Stop>

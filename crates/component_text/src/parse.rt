@@ -87,12 +87,13 @@ pub fn labelled(
     let Some((label, place)) = cursor.label(alloc)? else {
         return Err(Stop::Unexpected);
     };
-    let formula = cursor.predicate(alloc)?;
+    let (formula, first) = cursor.predicate(alloc)?;
     Ok(RawLabelled {
         label,
         theorem,
         formula,
         place,
+        first,
     })
 }
 

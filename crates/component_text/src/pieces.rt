@@ -3,15 +3,15 @@
 ghost use Rattle.std.specs.Prelude.{◌≡◌, ◌^◌, ◌<◌, [], None, IfOk, IfErr, length, Option};
 ghost use Rattle.std.specs.List.{AllByRecursion};
 ghost use Rattle.component_text.specs.Marks.{marks_of};
-ghost use Rattle.component_text.specs.Spelled.{misnamed, HasText, FaultIs, Tells, fault_kind, fault_place, TellsUnexpected, TellsTooLarge, ReadsPieces};
+ghost use Rattle.component_text.specs.Spelled.{misnamed, HasText, Tells, fault_kind, fault_place, TellsUnexpected, TellsTooLarge, ReadsPieces};
 ghost use Rattle.component_text.specs.Machines.{IsComponent};
 
 use crate::cursor::Cursor;
 use crate::machine::component;
 use crate::stop::Stop;
 use component_tokens::{CutFault, Pieces};
-use formula_core::{Name, OutOfMemory, Text};
-use model_core::{Fault, RawComponent};
+use formula_core::{Name, OutOfMemory};
+use model_core::{Fault, FaultKind, RawComponent, fault_at};
 use std::alloc::Global;
 
 /// Why a text isn't read.
@@ -33,22 +33,11 @@ impl From<OutOfMemory> for ReadFault {
     }
 }
 
-fn made(alloc: Global, name: &Name, kind: u8, place: u32, words: &str) -> Result<Fault, OutOfMemory>
-    ensures { IfOk result (λ f. FaultIs f name.now kind place words.now) }
-{
-    Ok(Fault {
-        component: name.copy(alloc)?,
-        kind,
-        place,
-        words: Text::of(alloc, words)?,
-    })
-}
-
 /// The fault, unless memory runs out.
-fn fault(alloc: Global, name: &Name, kind: u8, place: u32, words: &str) -> ReadFault
+fn fault(alloc: Global, name: &Name, kind: FaultKind, place: u32, words: &str) -> ReadFault
     ensures { Tells result name.now kind place words.now }
 {
-    match made(alloc, name, kind, place, words) {
+    match fault_at(alloc, name, kind, place, words) {
         Ok(fault) => ReadFault::Fault(fault),
         Err(OutOfMemory) => ReadFault::OutOfMemory,
     }
@@ -58,9 +47,15 @@ fn cut_fault(alloc: Global, name: &Name, wrong: CutFault) -> ReadFault
     ensures { Tells result name.now (fault_kind wrong) (fault_place wrong) [] }
 {
     match wrong {
-        CutFault::BadSign(place) => fault(alloc, name, 1, place, ""),
-        CutFault::NumberTooWide(place) => fault(alloc, name, 2, place, ""),
-        CutFault::CommentNotClosed(place) => fault(alloc, name, 5, place, ""),
+        CutFault::BadSign(place) => fault(alloc, name, FaultKind::BadSign, place, ""),
+        CutFault::NumberTooWide(place) => fault(alloc, name, FaultKind::NumberTooWide, place, ""),
+        CutFault::CommentNotClosed(place) => fault(
+            alloc,
+            name,
+            FaultKind::CommentNotClosed,
+            place,
+            "",
+        ),
     }
 }
 
@@ -99,13 +94,13 @@ fn unexpected(
 {
     if let Some((place, bytes)) = cursor.first() {
         match std::str::from_utf8(bytes) {
-            Ok(words) => fault(alloc, name, 3, place, words),
+            Ok(words) => fault(alloc, name, FaultKind::Unexpected, place, words),
             Err(_) => unreachable!(),
         }
     } else if let Some(wrong) = wrong {
         cut_fault(alloc, name, wrong)
     } else {
-        fault(alloc, name, 3, text.len() as u32, "")
+        fault(alloc, name, FaultKind::Unexpected, text.len() as u32, "")
     }
 }
 
@@ -115,7 +110,7 @@ fn too_large(alloc: Global, name: &Name, cursor: &Cursor<'_, '_>) -> ReadFault
     ensures { TellsTooLarge result name.now cursor.now }
 {
     match cursor.first() {
-        Some((place, _)) => fault(alloc, name, 4, place, ""),
+        Some((place, _)) => fault(alloc, name, FaultKind::FormulaTooLarge, place, ""),
         None => unreachable!(),
     }
 }
@@ -132,7 +127,7 @@ pub fn read_pieces(
     ensures { ReadsPieces IsComponent name.now text.now (marks_of text.now pieces.now.tokens.items) pieces.now.fault result }
 {
     if let Some(place) = misnamed(alloc, &mut Cursor::new(text, &pieces.tokens), name)? {
-        return Err(fault(alloc, name, 6, place, ""));
+        return Err(fault(alloc, name, FaultKind::WrongName, place, ""));
     }
     let mut cursor = Cursor::new(text, &pieces.tokens);
     match component(alloc, &mut cursor) {

@@ -6,8 +6,6 @@ mod gap;
 mod laws;
 mod piece;
 mod positions;
-#[cfg(test)]
-mod tests;
 
 pub use cutting::{Pieces, cut};
 pub use gap::{Gap, gap_in};

@@ -1,7 +1,6 @@
 use Rattle.std.proofs.Common.{refl, sym}
 use Rattle.component_text.specs.Forms.{limits}
-use Rattle.component_text.specs.Grammar.{is_a_label, Labelled}
-use Rattle.component_text.specs.Machines.{Witnesses, Step, Steps, Event, begins_event, EventList}
+use Rattle.component_text.specs.Machines.{Event, begins_event, EventList}
 use Rattle.component_text.proofs.Components.{exit_with}
 use Rattle.component_text.proofs.Refusing.{many_later, many_later_passes}
 use Rattle.component_text.proofs.Stops.{many_more, many_done, many_stop}
@@ -27,7 +26,7 @@ loop-alloc-preserved c =
       refused = λ rest k. c.loop-alloc.invariant.refused rest
           (many_later begins_event (Event) good_event refl event_takes leaves_event c.loop-alloc.cursor c.event.new.cursor rest c.in_ok-event.event here c.in_ok-event.ensures k);
       passed = λ rest k. c.loop-alloc.invariant.passed rest
-          (many_later_passes begins_event (Event) good_event refl event_takes c.loop-alloc.cursor c.event.new.cursor rest c.in_ok-event.event here c.in_ok-event.ensures k);
+          (many_later_passes begins_event (Event) good_event refl event_takes leaves_event c.loop-alloc.cursor c.event.new.cursor rest c.in_ok-event.event here c.in_ok-event.ensures k);
     }
 
 pub returns : goal.returns

@@ -1,7 +1,7 @@
 use Rattle.std.proofs.Common.{refl, sym}
 use Rattle.component_text.specs.Forms.{limits}
-use Rattle.component_text.specs.Grammar.{is_a_label, Labelled}
-use Rattle.component_text.specs.Machines.{Witnesses, Step, Steps, Event, begins_event, EventList}
+use Rattle.component_text.specs.Grammar.{is_a_label}
+use Rattle.component_text.specs.Machines.{Step, Steps}
 use Rattle.component_text.proofs.Components.{exit_with}
 use Rattle.component_text.proofs.Refusing.{many_later, many_later_passes}
 use Rattle.component_text.proofs.Stops.{many_more, many_done, many_stop}
@@ -27,7 +27,7 @@ loop-alloc-preserved c =
       refused = λ rest k. c.loop-alloc.invariant.refused rest
           (many_later is_a_label (Step) good_step refl step_takes leaves_step c.loop-alloc.cursor c.step.new.cursor rest c.in_ok-step.step here c.in_ok-step.ensures k);
       passed = λ rest k. c.loop-alloc.invariant.passed rest
-          (many_later_passes is_a_label (Step) good_step refl step_takes c.loop-alloc.cursor c.step.new.cursor rest c.in_ok-step.step here c.in_ok-step.ensures k);
+          (many_later_passes is_a_label (Step) good_step refl step_takes leaves_step c.loop-alloc.cursor c.step.new.cursor rest c.in_ok-step.step here c.in_ok-step.ensures k);
     }
 
 pub returns : goal.returns

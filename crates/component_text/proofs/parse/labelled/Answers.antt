@@ -12,4 +12,4 @@ returns-in_err-formula c =
 
 pub returns : goal.returns
 returns c =
-    labelled_read c.args.theorem c.args.cursor.now c.label.new.self c.predicate.new.self (c.in-Some.label, c.in-Some.place) c.in_ok-formula.formula (rw c.in-Some.is at c.in_ok-label.ensures) c.in_ok-formula.ensures
+    labelled_read c.args.theorem c.args.cursor.now c.label.new.self c.predicate.new.self (c.in-Some.label, c.in-Some.place) (c.in_ok-formula.formula, c.in_ok-formula.first) (rw c.in-Some.is at c.in_ok-label.ensures) c.in_ok-formula.ensures

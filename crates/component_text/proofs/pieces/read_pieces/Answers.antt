@@ -1,12 +1,12 @@
 use Rattle.std.proofs.Common.{◌≡◌, ◌∙◌, ap, sym, subst, Some, None}
 use Rattle.std.specs.List.{AllByRecursion}
 use Rattle.component_text.specs.Marks.{marks_of}
-use Rattle.component_text.specs.Forms.{limits}
+use Rattle.component_text.specs.Forms.{limits, parts}
 use Rattle.component_text.specs.Machines.{IsComponent}
 use Rattle.component_text.specs.Faults.{IsUnexpectedAt, IsTooLargeAt}
 use Rattle.component_text.specs.Spelled.{misnamed, HasText}
 use Rattle.component_text.proofs.Utf8.{all_behind}
-use Rattle.component_text.proofs.Texted.{told_wrong_name, told_behind, told_unexpected, told_too_large, component_loosens, component_named}
+use Rattle.component_text.proofs.Texted.{told_wrong_name, told_behind, told_unexpected, told_too_large, component_loosens, component_short, component_named}
 use Rattle.component_text.proofs.pieces.read_pieces.Goals as goal
 
 pub returns-in-Some : goal.returns-in-Some
@@ -31,7 +31,8 @@ returns-in-Some-fault c =
     let start : c.new-cursor.result ≡ marks = c.new-cursor.ensures ∙ ap (marks_of c.args.text.now) c.deref-2.ensures.value in
     let named : misnamed c.args.name.now marks ≡ None = ap (misnamed c.args.name.now) (sym first) ∙ sym c.in_ok-place.ensures ∙ c.in_default.is in
     told_behind IsComponent c.args.name.now c.args.text.now marks c.args.pieces.now.fault c.cut_fault.result c.in-Ok.component c.in-Some-fault.wrong named
-    (component_loosens marks c.in-Ok.component (subst (λ s. IsComponent limits s c.in-Ok.component) start c.in-Ok.ensures)) c.in-Some-fault.is c.cut_fault.ensures
+    (component_loosens limits parts tt marks c.in-Ok.component (subst (λ s. IsComponent limits s c.in-Ok.component) start c.in-Ok.ensures))
+    (component_short marks c.in-Ok.component (subst (λ s. IsComponent limits s c.in-Ok.component) start c.in-Ok.ensures)) c.in-Some-fault.is c.cut_fault.ensures
 
 pub returns-in-Err-Unexpected : goal.returns-in-Err-Unexpected
 returns-in-Err-Unexpected c =
