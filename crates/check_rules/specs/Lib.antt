@@ -1,0 +1,9 @@
+pub mod Assignments
+pub mod Components
+pub mod Contexts
+pub mod Declarations
+pub mod Events
+pub mod Machines
+pub mod Refinements
+pub mod Typed
+pub mod Visible

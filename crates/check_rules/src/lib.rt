@@ -1,0 +1,6 @@
+//! What a component must meet to be checked, as definitions, and the abstract events of an event.
+#![tactic(auto)]
+
+mod abstraction;
+
+pub use abstraction::{event_named, is_initialisation, refined};

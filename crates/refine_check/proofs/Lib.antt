@@ -1,0 +1,9 @@
+pub mod Actions
+pub mod Converging
+pub mod Faults
+pub mod Inheriting
+pub mod Merging
+pub mod Parts
+pub mod Refining
+pub mod Sets
+pub mod Wanted

@@ -1,0 +1,7 @@
+use Rattle.std.proofs.Common.{◌≡◌, ◌++◌, map, take}
+use Rattle.formula_core.specs.Formulas.{joined}
+use Rattle.check_rules.specs.Assignments.{assigned}
+use Rattle.refine_check.proofs.inherited.add_all_assigned.Given as goal
+
+abbrev pub invariant-loop-action : goal.invariant-loop-action
+invariant-loop-action l = l.found.items ≡ l.initial.found.items ++ joined (map (λ a. assigned a.1) (take l.action-index l.actions))

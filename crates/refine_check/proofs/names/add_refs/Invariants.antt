@@ -1,0 +1,7 @@
+use Rattle.std.proofs.Common.{◌≡◌, ◌++◌, take}
+use Rattle.check_rules.specs.Contexts.{names_of}
+use Rattle.refine_check.specs.Private.{texts}
+use Rattle.refine_check.proofs.names.add_refs.Given as goal
+
+abbrev pub invariant-loop-name : goal.invariant-loop-name
+invariant-loop-name l = texts l.found.items ≡ texts l.initial.found.items ++ names_of (take l.name-index l.refs)

@@ -1,0 +1,6 @@
+use Rattle.std.proofs.Common.{◌≡◌, take}
+use Rattle.refine_check.specs.Private.{texts}
+use Rattle.refine_check.proofs.names.texts_of.Given as goal
+
+abbrev pub invariant-loop-name : goal.invariant-loop-name
+invariant-loop-name l = texts l.found.items ≡ take l.name-index l.names

@@ -1,0 +1,9 @@
+use Rattle.std.proofs.Common.{◌≡◌, ◌++◌, map, take}
+use Rattle.std.specs.List.{filter}
+use Rattle.type_action.specs.CoreActions.{primed}
+use Rattle.model_core.specs.Each.{is_among}
+use Rattle.refine_check.specs.Private.{texts}
+use Rattle.refine_check.proofs.witnesses.add_primed.Given as goal
+
+abbrev pub invariant-loop-name : goal.invariant-loop-name
+invariant-loop-name l = l.found.items ≡ l.initial.found.items ++ map primed (filter (is_among l.chosen) (texts (take l.name-index l.lost)))

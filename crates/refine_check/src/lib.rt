@@ -1,0 +1,13 @@
+//! What a machine owes to its abstraction: kinds 20 to 24.
+#![tactic(auto)]
+
+mod convergence;
+mod inherited;
+mod lost;
+mod merged;
+mod names;
+mod paired;
+mod refinement;
+mod witnesses;
+
+pub use refinement::check_refinement;

@@ -1,0 +1,3 @@
+pub mod OneOutcome
+pub mod OneWay
+pub mod Ordering
