@@ -18,7 +18,8 @@ use Rattle.formula_core.proofs.Wellness.{well-Node}
 use Rattle.formula_core.specs.Env.{HasDistinctNames}
 use Rattle.formula_core.specs.Wellness.{type_of_step}
 use Rattle.std.specs.List.{IsDistinct, AllByRecursion}
-use Rattle.sequent_core.specs.Sequents.{Stands, IsSequent}
+use Rattle.formula_core.specs.Typed.{Stands}
+use Rattle.sequent_core.specs.Sequents.{IsSequent}
 use Rattle.prover_pool.specs.Work.{EndsMarked}
 use Rattle.pool_run.specs.declared.tray.Step.{Step as Action}
 use Rattle.pool_run.specs.declared.tray.Entry.{Entry}
@@ -59,7 +60,7 @@ no_identifiers =
 -- truth without a hypothesis is a sequent
 pub truth_is_sequent : IsSequent (record { env = []; hyps = []; goal = Node Top [] Truth })
 truth_is_sequent = record {
-  env = (no_names, tt);
+  env = record { names = no_names; types = tt; carriers = tt };
   hyps = tt;
   goal = (
     record {

@@ -15,7 +15,8 @@ use Rattle.sequent_core.specs.declared.rule.Rule.{Rule}
 use Rattle.sequent_core.specs.declared.rule.Antecedent.{Antecedent}
 use Rattle.sequent_core.specs.declared.tree.Tree.{Tree}
 use Rattle.sequent_core.specs.declared.tree.Tree.TheVariants.{Node}
-use Rattle.sequent_core.specs.Sequents.{Stands, IsSequent}
+use Rattle.formula_core.specs.Typed.{Stands}
+use Rattle.sequent_core.specs.Sequents.{IsSequent}
 use Rattle.sequent_core.specs.Rules.{IsInstance, antecedent_formulas, needed_formulas, formulas_of, names_in, names_of, in_order, is_named, used_of, IsAllowed, IsRule}
 use Rattle.sequent_core.specs.Trees.{Meets, Applies, Derives, is_review, node_count, rule_count}
 use Rattle.sequent_core.specs.Children.{EachApplies}
@@ -115,7 +116,7 @@ module _ (r : Rule) (s : Sequent)
 
   is_rule : IsRule r
   is_rule =
-      let allowed : IsAllowed s.goal = record { well = sequent.goal.0.well; within = within } in
+      let allowed : IsAllowed s.goal = record { predicate = sequent.goal.1; well = sequent.goal.0.well; within = within } in
       passing_rule r
       (record {
         instance = subst (λ k. IsInstance k r) (sym kind) (s.goal, goal, hyps, antecedents);

@@ -13,7 +13,7 @@ use Rattle.std.proofs.lemmas.Map.Text.{is_eq-slice_cmp}
 use Rattle.std.proofs.lemmas.Slice.Eq.{bytes_eq-Decides}
 use Rattle.formula_core.specs.declared.Ty.{Ty}
 use Rattle.formula_core.specs.Env.{type_in}
-use Rattle.sequent_core.specs.Sequents.{Stands}
+use Rattle.formula_core.specs.Typed.{Stands}
 use Rattle.sequent_core.specs.Rules.{with_name, in_order, is_named}
 
 abbrev pub Names : Type 0

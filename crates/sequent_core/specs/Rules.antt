@@ -7,16 +7,17 @@ use Rattle.std.specs.Ordering.{nat_cmp}
 use Rattle.std.specs.Cmp.Lexicographic.{slice_cmp}
 use Rattle.formula_core.specs.declared.Formula.{Formula}
 use Rattle.formula_core.specs.declared.Ty.{Ty}
+use Rattle.formula_core.specs.declared.Ty.TheVariants.{Truth}
 use Rattle.formula_core.specs.Env.{HasDistinctNames}
 use Rattle.formula_core.specs.Formulas.{joined}
-use Rattle.formula_core.specs.Wellness.{is_well}
+use Rattle.formula_core.specs.Wellness.{is_well, type_of}
 use Rattle.formula_core.specs.Identifiers.{identifiers}
 use Rattle.formula_core.specs.Sizes.{IsWithinLimits, type_nodes}
 use Rattle.sequent_core.specs.declared.rule.RuleKind.{RuleKind}
 use Rattle.sequent_core.specs.declared.rule.RuleKind.TheVariants.{Hyp}
 use Rattle.sequent_core.specs.declared.rule.Antecedent.{Antecedent}
 use Rattle.sequent_core.specs.declared.rule.Rule.{Rule}
-use Rattle.sequent_core.specs.Sequents.{Stands}
+use Rattle.formula_core.specs.Typed.{Stands}
 
 -- The rows of the table: what a rule of this kind needs and leaves to prove.
 -- `hyp`: a goal that is the one needed hypothesis; nothing is left
@@ -63,13 +64,14 @@ is_named names name = list_any (λ x. bytes_eq x.0 name) names
 abbrev pub used_of : Rule → List (List ℕ × Ty)
 used_of r = in_order (filter (λ x. not (is_named (added_by r) x.0)) (names_of r))
 
--- a formula that may stand in a rule: well, and within the limits
+-- a formula that may stand in a rule: a predicate, well, and within the limits
 pub record IsAllowed (f : Formula) : Type 0 where
+  pub predicate : type_of f ≡ Truth
   pub well : IsTrue (is_well f)
   pub within : IsWithinLimits f
 
--- The rule is one of the table: an instance of its kind, whose formulas are well and within the limits, and which
--- names what it uses. No name has two types in it. The types that an antecedent adds are within the limits too, and
+-- The rule is one of the table: an instance of its kind, whose formulas, those that it needs and those of its
+-- antecedents, are predicates, well and within the limits, and which names what it uses. No name has two types in it. The types that an antecedent adds are within the limits too, and
 -- it adds no name twice.
 pub record IsRule (r : Rule) : Type 0 where
   pub instance : IsInstance r.kind r

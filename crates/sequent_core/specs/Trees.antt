@@ -12,7 +12,7 @@ use Rattle.sequent_core.specs.declared.tree.Tree.{Tree}
 use Rattle.sequent_core.specs.declared.tree.Tree.TheOpen.{Tree-F, Leaf, Node}
 use Rattle.sequent_core.specs.declared.tree.Tree.TheFolds.{fold-Tree}
 use Rattle.sequent_core.specs.Rules.{IsRule}
-use Rattle.sequent_core.specs.Sequents.{Stands}
+use Rattle.formula_core.specs.Typed.{Stands}
 
 -- the new goal, or the old one where there is none
 abbrev pub goal_or : Option Formula → Formula → Formula

@@ -1,7 +1,7 @@
 // When rules and trees apply to a sequent.
 ghost use Rattle.std.specs.Prelude.{◌≡◌, ◌↔◌, IsTrue, IfOk, IfSome, Contains};
 ghost use Rattle.std.specs.List.{AllByRecursion};
-ghost use Rattle.sequent_core.specs.Sequents.{Stands};
+ghost use Rattle.formula_core.specs.Typed.{Stands};
 ghost use Rattle.sequent_core.specs.Trees.{Meets, Applies, Derives};
 ghost use Rattle.sequent_core.specs.Provers.{IsGoodTree};
 

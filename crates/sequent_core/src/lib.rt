@@ -16,6 +16,3 @@ pub use rule::{Antecedent, Rule, RuleKind};
 pub use sequent::{Obligation, Sequent, Ticket};
 pub use table::{hypothesis, is_rule};
 pub use tree::Tree;
-
-#[cfg(test)]
-mod tests;

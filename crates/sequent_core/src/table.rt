@@ -4,7 +4,9 @@ ghost use Rattle.std.specs.List.{AllByRecursion};
 ghost use Rattle.std.specs.Option.{option_to_list};
 ghost use Rattle.formula_core.specs.Sizes.{IsWithinLimits};
 ghost use Rattle.sequent_core.specs.declared.sequent.Sequent.{Sequent};
-ghost use Rattle.sequent_core.specs.Sequents.{IsSequent, Stands};
+ghost use Rattle.formula_core.specs.Typed.{Stands};
+ghost use Rattle.formula_core.specs.Wellness.{type_of};
+ghost use Rattle.sequent_core.specs.Sequents.{IsSequent};
 ghost use Rattle.sequent_core.specs.Rules.{IsInstance, IsAllowed, IsRule, needed_formulas, names_in, in_order, used_of};
 ghost use Rattle.sequent_core.specs.Trees.{Derives};
 
@@ -100,7 +102,14 @@ fn are_allowed(formulas: &[Formula]) -> bool
 fn is_allowed(formula: &Formula) -> bool
     ensures { IsTrue result ↔ IsAllowed formula.now }
 {
-    formula.is_within_limits() && formula.is_well()
+    is_predicate(formula) && formula.is_within_limits() && formula.is_well()
+}
+
+fn is_predicate(formula: &Formula) -> bool
+    ensures { IsTrue result ↔ (type_of formula.now ≡ Ty.Truth) }
+{
+    let integer = Ty::Int;
+    formula.type_of(&integer).same(&Ty::Truth)
 }
 
 /// Each name in the formulas that a rule needs, at each of its places.

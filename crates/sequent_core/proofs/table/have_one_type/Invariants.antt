@@ -1,6 +1,6 @@
 use Rattle.std.proofs.Common.{take}
 use Rattle.std.specs.List.{AllByRecursion}
-use Rattle.sequent_core.specs.Sequents.{Stands}
+use Rattle.formula_core.specs.Typed.{Stands}
 use Rattle.sequent_core.proofs.table.have_one_type.Given as goal
 
 abbrev pub invariant-loop-identifier : goal.invariant-loop-identifier

@@ -2,7 +2,7 @@ use Rattle.std.proofs.Common.{◌≡◌, ◌∙◌, sym, ap, subst, List, ℕ}
 use Rattle.std.specs.List.{AllByRecursion}
 use Rattle.formula_core.specs.declared.Ty.{Ty}
 use Rattle.sequent_core.specs.declared.rule.Rule.{Rule}
-use Rattle.sequent_core.specs.Sequents.{Stands}
+use Rattle.formula_core.specs.Typed.{Stands}
 use Rattle.sequent_core.specs.Rules.{needed_formulas, names_in, in_order}
 use Rattle.sequent_core.proofs.Derivations.{rule_passes, passing_rule}
 use Rattle.sequent_core.proofs.table.is_rule.Goals as goal
