@@ -1,0 +1,6 @@
+pub mod Laws
+pub mod Members
+pub mod Parts
+pub mod Rows
+pub mod Sequents
+pub mod Tables
