@@ -50,8 +50,3 @@ pub use stream_sink::StreamSink;
 pub use stream_source::StreamSource;
 pub use sure::{SureSink, SureSource};
 pub use sure_disk::SureDisk;
-
-#[cfg(test)]
-mod disk_tests;
-#[cfg(test)]
-mod tests;

@@ -8,8 +8,6 @@ mod crew;
 mod desk;
 mod kept;
 mod plays;
-#[cfg(test)]
-mod tests;
 mod view;
 
 pub use desk::{Chair, Desk};
