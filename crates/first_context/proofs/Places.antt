@@ -15,6 +15,7 @@ use Rattle.math_tokens.specs.Lexemes.{value_of}
 use Rattle.math_tokens.specs.SignForms.{sign_forms}
 use Rattle.math_tokens.specs.Texts.{meaning, IsTokenAt}
 use Rattle.math_grammar.specs.Tokens.{bytes_of}
+use Rattle.model_core.specs.declared.fault.FaultKind.{FaultKind}
 use Rattle.model_core.specs.declared.fault.Fault.{Fault}
 use Rattle.component_tokens.specs.declared.piece.CutFault.{CutFault}
 use Rattle.component_tokens.specs.declared.piece.CutFault.TheVariants as cutting
@@ -129,7 +130,7 @@ module _ (text : List ℕ) where
       by true e = omega (arith, all.1.0, named_at name y (reference y) p refl e)
       by false e = cc
 
-  first_within : (name : List ℕ) (tokens : List Token) (wrong : Option CutFault) → Cut text 0 tokens wrong → (kind place : ℕ) (words : List ℕ) →
+  first_within : (name : List ℕ) (tokens : List Token) (wrong : Option CutFault) → Cut text 0 tokens wrong → (kind : FaultKind) (place : ℕ) (words : List ℕ) →
       IsFirst IsComponent name text (marks_of text tokens) wrong kind place words → place ≤ length text
   first_within name tokens wrong cut kind place words (bad_sign named begins e) = cut_within 0 tokens _ (subst (Cut text 0 tokens) e cut)
   first_within name tokens wrong cut kind place words (number_too_wide named begins e) = cut_within 0 tokens _ (subst (Cut text 0 tokens) e cut)

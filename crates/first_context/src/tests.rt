@@ -195,7 +195,7 @@ fn seen(alloc: Global, name: &Name, text: &str) -> Result<Expected, OutOfMemory>
     match read_first_context(alloc, name, text) {
         Ok(Some(context)) => Ok(counts(&context)),
         Ok(None) => Ok(Expected::Other),
-        Err(ReadFault::Fault(fault)) => Ok(Expected::Fault(fault.kind, fault.place)),
+        Err(ReadFault::Fault(fault)) => Ok(Expected::Fault(fault.kind.number(), fault.place)),
         Err(ReadFault::OutOfMemory) => Err(OutOfMemory),
     }
 }

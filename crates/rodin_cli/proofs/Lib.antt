@@ -8,7 +8,6 @@ pub mod Known
 pub mod Legal
 pub mod OnePart
 pub mod PastBlanks
-pub mod Printing
 pub mod Sessions
 pub mod Typed
 pub mod Words

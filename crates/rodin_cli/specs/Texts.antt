@@ -1,8 +1,11 @@
 -- What is printed.
-use Rattle.std.specs.Prelude.{ℕ, ◌==◌, List, [], ◌∷◌, ◌++◌, codes, if◌then◌else◌}
+use Rattle.std.specs.Prelude.{ℕ, Bool, true, false, List, [], ◌∷◌, ◌++◌, codes, if◌then◌else◌}
 use Rattle.std.specs.Fmt.{decimal}
 use Rattle.std.specs.List.{flat_map}
 use Rattle.model_core.specs.declared.fault.Fault.{Fault}
+use Rattle.model_core.specs.declared.fault.FaultKind.{FaultKind}
+use Rattle.model_core.specs.declared.fault.FaultKind.TheVariants as kind
+use Rattle.model_core.specs.Faults.{number}
 use Rattle.status_core.specs.declared.FaultLine.{FaultLine}
 use Rattle.status_core.specs.declared.Status.{Status}
 use Rattle.status_core.specs.declared.Status.TheVariants.{Unattempted, Pending, Reviewed, Discharged, Broken}
@@ -22,30 +25,52 @@ status_line shown = shown.0 ++ 32 ∷ word_of shown.1 ++ 10 ∷ []
 abbrev pub status_lines : List (List ℕ × Status) → List ℕ
 status_lines shown = flat_map status_line shown
 
--- a token that nothing goes on with, between quotation marks, or the end of the text
-abbrev pub unexpected_text : List ℕ → List ℕ
-unexpected_text [] = codes "unexpected end of text"
-unexpected_text (c ∷ cs) = codes "unexpected " ++ 34 ∷ (c ∷ cs) ++ 34 ∷ []
+-- What stands before and behind the name, label or token of a fault. Those that show none have no words.
+abbrev pub front : FaultKind → List ℕ
+front kind.BadSign = codes "bad sign"
+front kind.NumberTooWide = codes "number too wide"
+front kind.Unexpected = codes "unexpected \""
+front kind.FormulaTooLarge = codes "formula too large"
+front kind.CommentNotClosed = codes "comment not closed"
+front kind.WrongName = codes "wrong name"
+front kind.NoComponent = codes "no component "
+front kind.Cyclic = codes "cyclic"
+front kind.Blocked = codes "blocked by "
+front kind.LabelTwice = codes "label "
+front kind.TypesClash = codes "types clash"
+front kind.NoSingleType = codes "no single type"
+front kind.BadInitialisation = codes "bad INITIALISATION"
+front kind.NoAbstractEvent = codes "no abstract event "
+front kind.MergedDiffer = codes "merged events differ"
+front kind.BadWitness = codes "bad witness "
+front kind.BadConvergence = codes "bad convergence"
+front _ = []
 
--- what is wrong, by the kind of the fault; no other kind is told yet
+abbrev pub back : FaultKind → List ℕ
+back kind.Unexpected = codes "\""
+back kind.DeclaredTwice = codes " is declared twice"
+back kind.LabelTwice = codes " twice"
+back kind.WrongKind = codes " has the wrong kind"
+back kind.Unknown = codes " is unknown"
+back kind.NoType = codes " has no type"
+back kind.NoVariable = codes " is no variable"
+back kind.AssignedTwice = codes " is assigned twice"
+back kind.Lost = codes " is lost"
+back _ = []
+
+-- nothing goes on at the end of the text
+abbrev pub is_at_end : FaultKind → List ℕ → Bool
+is_at_end kind.Unexpected [] = true
+is_at_end _ _ = false
+
+-- what is wrong
 abbrev pub fault_text : Fault → List ℕ
-fault_text f =
-    if f.kind == 1
-    then codes "bad sign"
-    else (if f.kind == 2
-    then codes "number too wide"
-    else (if f.kind == 3
-    then unexpected_text f.words
-    else (if f.kind == 4
-    then codes "formula too large"
-    else (if f.kind == 5
-    then codes "comment not closed"
-    else (if f.kind == 6 then codes "wrong name" else [])))))
+fault_text f = if is_at_end f.kind f.words then codes "unexpected end of text" else (front f.kind ++ f.words ++ back f.kind)
 
 -- the component, the kind, the line and the column of a fault, and what is wrong
 abbrev pub fault_line : FaultLine → List ℕ
 fault_line f =
-    codes "fault " ++ f.fault.component ++ 32 ∷ decimal f.fault.kind ++ 32 ∷ decimal f.line ++ 58 ∷ decimal f.column ++ 32 ∷ fault_text f.fault ++ 10 ∷ []
+    codes "fault " ++ f.fault.component ++ 32 ∷ decimal (number f.fault.kind) ++ 32 ∷ decimal f.line ++ 58 ∷ decimal f.column ++ 32 ∷ fault_text f.fault ++ 10 ∷ []
 
 -- the printed text of the reply on faults, without its summary line
 abbrev pub fault_lines : List FaultLine → List ℕ

@@ -1,9 +1,9 @@
 // What is printed.
 ghost use Rattle.std.specs.Prelude.{◌≡◌, ◌++◌, IfOk, OnOk, string_bytes};
-ghost use Rattle.rodin_cli.specs.Texts.{word_of, status_line, status_lines, unexpected_text, fault_text, fault_line, fault_lines, printed};
+ghost use Rattle.rodin_cli.specs.Texts.{word_of, status_line, status_lines, front, back, is_at_end, fault_text, fault_line, fault_lines, printed};
 
 use formula_core::{OutOfMemory, PoName};
-use model_core::Fault;
+use model_core::{Fault, FaultKind};
 use status_core::{FaultLine, Status};
 use std::alloc::Global;
 use std::fmt::Write;
@@ -40,32 +40,68 @@ fn add_statuses(text: &mut String, shown: &[(PoName, Status)]) -> Result<(), Out
     Ok(())
 }
 
-fn add_unexpected(text: &mut String, token: &str) -> Result<(), OutOfMemory>
-    ensures { OnOk result (string_bytes text.new ≡ string_bytes text.old ++ unexpected_text token.now) }
+fn front(kind: FaultKind) -> &'static str
+    ensures { result.now ≡ front kind }
 {
-    if token.is_empty() {
-        text.push_str("unexpected end of text")?;
-    } else {
-        text.push_str("unexpected \"")?;
-        text.push_str(token)?;
-        text.push_str("\"")?;
+    match kind {
+        FaultKind::BadSign => "bad sign",
+        FaultKind::NumberTooWide => "number too wide",
+        FaultKind::Unexpected => "unexpected \"",
+        FaultKind::FormulaTooLarge => "formula too large",
+        FaultKind::CommentNotClosed => "comment not closed",
+        FaultKind::WrongName => "wrong name",
+        FaultKind::NoComponent => "no component ",
+        FaultKind::Cyclic => "cyclic",
+        FaultKind::Blocked => "blocked by ",
+        FaultKind::LabelTwice => "label ",
+        FaultKind::TypesClash => "types clash",
+        FaultKind::NoSingleType => "no single type",
+        FaultKind::BadInitialisation => "bad INITIALISATION",
+        FaultKind::NoAbstractEvent => "no abstract event ",
+        FaultKind::MergedDiffer => "merged events differ",
+        FaultKind::BadWitness => "bad witness ",
+        FaultKind::BadConvergence => "bad convergence",
+        _ => "",
     }
-    Ok(())
+}
+
+fn back(kind: FaultKind) -> &'static str
+    ensures { result.now ≡ back kind }
+{
+    match kind {
+        FaultKind::Unexpected => "\"",
+        FaultKind::DeclaredTwice => " is declared twice",
+        FaultKind::LabelTwice => " twice",
+        FaultKind::WrongKind => " has the wrong kind",
+        FaultKind::Unknown => " is unknown",
+        FaultKind::NoType => " has no type",
+        FaultKind::NoVariable => " is no variable",
+        FaultKind::AssignedTwice => " is assigned twice",
+        FaultKind::Lost => " is lost",
+        _ => "",
+    }
+}
+
+fn is_at_end(kind: FaultKind, words: &str) -> bool
+    ensures { result ≡ is_at_end kind words.now }
+{
+    match kind {
+        FaultKind::Unexpected => words.is_empty(),
+        _ => false,
+    }
 }
 
 // What is wrong.
 fn add_fault_text(text: &mut String, fault: &Fault) -> Result<(), OutOfMemory>
     ensures { OnOk result (string_bytes text.new ≡ string_bytes text.old ++ fault_text fault.now) }
 {
-    match fault.kind {
-        1 => text.push_str("bad sign")?,
-        2 => text.push_str("number too wide")?,
-        3 => add_unexpected(text, fault.words.as_text())?,
-        4 => text.push_str("formula too large")?,
-        5 => text.push_str("comment not closed")?,
-        6 => text.push_str("wrong name")?,
-        _ => {}
+    if is_at_end(fault.kind, fault.words.as_text()) {
+        text.push_str("unexpected end of text")?;
+        return Ok(());
     }
+    text.push_str(front(fault.kind))?;
+    text.push_str(fault.words.as_text())?;
+    text.push_str(back(fault.kind))?;
     Ok(())
 }
 
@@ -74,7 +110,7 @@ fn add_fault(text: &mut String, told: &FaultLine) -> Result<(), OutOfMemory>
     ensures { OnOk result (string_bytes text.new ≡ string_bytes text.old ++ fault_line told.now) }
 {
     let component = told.fault.component.as_text();
-    let kind = told.fault.kind;
+    let kind = told.fault.kind.number();
     let line = told.line;
     let column = told.column;
     write!(text, "fault {component} {kind} {line}:{column} ")?;
