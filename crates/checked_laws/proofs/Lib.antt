@@ -1,0 +1,12 @@
+pub mod Actions
+pub mod Checked
+pub mod Contexts
+pub mod Declared
+pub mod Events
+pub mod Growing
+pub mod Machines
+pub mod Names
+pub mod Parts
+pub mod Refined
+pub mod Typing
+pub mod Views

@@ -1,0 +1,35 @@
+-- What is known of a checked component beside sound ones.
+use Rattle.std.specs.Prelude.{◌≡◌, ℕ, List, [], ◌++◌, map, length, IsTrue, Ok}
+use Rattle.std.specs.List.{AllByRecursion}
+use Rattle.formula_core.specs.declared.raw.Ref.{Ref}
+use Rattle.formula_core.specs.Names.{is_identifier}
+use Rattle.model_core.specs.declared.component.RawComponent.{RawComponent}
+use Rattle.model_core.specs.declared.component.RawComponent.TheVariants as raw
+use Rattle.model_core.specs.declared.checked.Checked.{Checked}
+use Rattle.check_rules.specs.Components.{contexts_in, ChecksBeside}
+use Rattle.checked_laws.specs.Projects.{ProjectNames, Has, IsOf}
+use Rattle.checked_laws.specs.Sound.{IsSound}
+
+-- names that are declared have no prime
+abbrev pub DeclareIdentifiers : List Ref → Type 0
+DeclareIdentifiers refs = AllByRecursion (λ r. IsTrue (is_identifier r.name)) refs
+
+abbrev pub DeclaresIdentifiers : RawComponent → Type 0
+DeclaresIdentifiers (raw.Context name extends sets constants axioms) = DeclareIdentifiers (sets ++ constants)
+DeclaresIdentifiers (raw.Machine name refines sees variables invariants variant events) =
+    DeclareIdentifiers variables × AllByRecursion (λ e. DeclareIdentifiers e.params) events
+
+abbrev pub references_to_contexts : RawComponent → List Ref
+references_to_contexts (raw.Context name extends sets constants axioms) = extends
+references_to_contexts (raw.Machine name refines sees variables invariants variant events) = sees
+
+-- the components that are referenced: as many contexts as references to contexts, each sound and of the project
+pub record AreParts (project : ProjectNames) (written : RawComponent) (parts : List Checked) : Type 0 where
+  pub all : length (contexts_in parts) ≡ length (references_to_contexts written)
+  pub sound : AllByRecursion (λ part. IsSound part × IsOf project part) parts
+
+abbrev pub CheckedIsSound : Type 0
+CheckedIsSound =
+    (project : ProjectNames) (written : RawComponent) (parts : List Checked) (checked : Checked) →
+    DeclaresIdentifiers written → AreParts project written parts → Has project checked → ChecksBeside written parts (Ok checked) →
+    IsSound checked × IsOf project checked
