@@ -1,6 +1,7 @@
 -- What a component checks to, beside the components that it references.
-use Rattle.std.specs.Prelude.{◌≡◌, List, [], ◌∷◌, Option, Some, None, Bool, true, false, Result}
+use Rattle.std.specs.Prelude.{◌≡◌, List, [], ◌∷◌, map, length, Option, Some, None, Bool, true, false, Result}
 use Rattle.std.specs.List.{filter_map}
+use Rattle.formula_core.specs.declared.raw.Ref.{Ref}
 use Rattle.model_core.specs.declared.component.RawComponent.{RawComponent}
 use Rattle.model_core.specs.declared.component.RawComponent.TheVariants as raw
 use Rattle.model_core.specs.declared.fault.Fault.{Fault}
@@ -35,6 +36,16 @@ abbrev pub first_machine_in : List Checked → Option CheckedMachine
 first_machine_in [] = None
 first_machine_in (Context c ∷ parts) = first_machine_in parts
 first_machine_in (Machine m ∷ parts) = Some m
+
+-- the references to contexts
+abbrev pub context_references : RawComponent → List Ref
+context_references (raw.Context name extends sets constants axioms) = extends
+context_references (raw.Machine name refines sees variables invariants variant events) = sees
+
+-- The parts are contexts, one for each reference to a context.
+abbrev pub AreContextsOf : RawComponent → List Checked → Type 0
+AreContextsOf component parts =
+    (contexts : List CheckedContext) × (parts ≡ map (λ c. Context c) contexts) × (length contexts ≡ length (context_references component))
 
 -- Kinds 10 to 24, beside the parts: the components that it references, in the order of its references.
 abbrev pub ChecksBeside : RawComponent → List Checked → Outcome → Type 0
