@@ -17,7 +17,16 @@ use Rattle.model_core.specs.declared.checked.Labelled.{Labelled}
 use Rattle.model_core.specs.declared.checked.CheckedMachine.{CheckedMachine}
 use Rattle.model_core.specs.declared.checked.CheckedEvent.{CheckedEvent}
 use Rattle.model_core.specs.Each.{for_each, is_among}
-use Rattle.po_rules.specs.declared.parts.EventParts.{EventParts}
+
+-- `path` is the front of the names. `choices` are the before-after predicates of the nondeterministic actions. In `witnesses` each primed variable is
+-- replaced by its value after the event. `after` has the new value of each variable that is changed, own or lost.
+pub record EventParts : Type 0 where
+  pub path : List ℕ
+  pub env : List (List ℕ × Ty)
+  pub base : List Formula
+  pub choices : List Formula
+  pub witnesses : List (List ℕ × Formula)
+  pub after : List (List ℕ × Formula)
 
 abbrev pub slash : List ℕ → List ℕ → List ℕ
 slash path word = path ++ 47 ∷ word
@@ -97,6 +106,7 @@ obligation_env m e refined =
 abbrev pub machine_hyps : CheckedMachine → List Formula
 machine_hyps m = formulas m.axioms ++ formulas m.invariants
 
+-- axioms, invariants and guards, for INITIALISATION the axioms alone
 abbrev pub base : CheckedMachine → CheckedEvent → List Formula
 base m e = if initialises e then formulas m.axioms else (machine_hyps m ++ formulas e.guards)
 

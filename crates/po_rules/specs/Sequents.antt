@@ -8,7 +8,7 @@ use Rattle.formula_core.specs.Wellness.{type_of}
 use Rattle.sequent_core.specs.declared.sequent.Obligation.{Obligation}
 use Rattle.formula_core.specs.Typed.{IsTypedIn, IsPredicateIn, IsGoodEnv}
 use Rattle.sequent_core.specs.Sequents.{IsSequent}
-use Rattle.po_rules.specs.declared.parts.EventParts.{EventParts}
+use Rattle.po_rules.specs.Parts.{EventParts}
 
 -- a new value is typed, with the type of its variable
 abbrev pub IsNewValueIn : List (List ℕ × Ty) → List ℕ × Formula → Type 0

@@ -1,8 +1,6 @@
-//! The table of obligations, as definitions, and what the rows of one event share.
+//! The table of obligations, as definitions.
 #![tactic(auto)]
 
 mod laws;
-mod parts;
 
 pub use laws::rows_give_obligations;
-pub use parts::EventParts;
