@@ -1,0 +1,7 @@
+pub mod Clashes
+pub mod Contexts
+pub mod Copied
+pub mod Distinct
+pub mod Repeated
+pub mod Typings
+pub mod Views

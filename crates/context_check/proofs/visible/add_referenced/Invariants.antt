@@ -1,0 +1,16 @@
+use Rattle.std.proofs.Common.{◌≡◌, None, map, take}
+use Rattle.std.specs.List.{zip}
+use Rattle.formula_core.specs.Env.{HasDistinctNames}
+use Rattle.model_core.specs.Faults.{first_by_place}
+use Rattle.check_rules.specs.Declarations.{brings_clash}
+use Rattle.check_rules.specs.Visible.{entries, seen_from}
+use Rattle.context_check.specs.Views.{visible, IsIndexed}
+use Rattle.context_check.proofs.visible.add_referenced.Given as goal
+
+abbrev pub invariant-loop-at : goal.invariant-loop-at
+invariant-loop-at l = record {
+  indexed : IsIndexed l.view;
+  seen : visible l.view ≡ seen_from (visible l.initial.view) (map (λ c. c.now) (take l.at l.contexts));
+  distinct : HasDistinctNames (entries (visible l.initial.view).constants) → l.first ≡ None → HasDistinctNames (entries (visible l.view).constants);
+  first : l.first ≡ first_by_place (brings_clash l.component (visible l.initial.view) (take l.at (zip l.references (map (λ c. c.now) l.contexts))));
+}

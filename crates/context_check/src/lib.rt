@@ -1,0 +1,12 @@
+//! Checks contexts, and what the checks of contexts and machines share.
+#![tactic(auto)]
+
+pub mod context;
+pub mod copies;
+pub mod declarations;
+mod fault;
+pub mod typing;
+pub mod visible;
+
+pub use context::check_context;
+pub use fault::CheckFault;
