@@ -1,0 +1,70 @@
+-- Environments that grow at their ends, and are cut back.
+use Rattle.std.proofs.Common.{◌≡◌, inl, inr, ◌∙◌, ap, refl, ℕ, Bool, true, false, List, [], ◌∷◌, ◌++◌, take, length, append_assoc}
+use Rattle.std.specs.Prelude.{Option, Some, None, is_some, if◌then◌else◌}
+use Rattle.std.proofs.Math.Seq.{take-append_seam}
+use Rattle.formula_core.specs.declared.ty.Ty.{Ty}
+use Rattle.formula_core.specs.declared.formula.Formula.{Formula}
+use Rattle.formula_core.specs.Env.{type_in}
+use Rattle.formula_core.specs.Formulas.{free_of}
+use Rattle.type_core.specs.Answers.{with_name, extended}
+use Rattle.type_action.specs.CoreActions.{with_all}
+use Rattle.model_core.specs.declared.fault.Fault.{Fault}
+use Rattle.model_core.specs.declared.component.RawEvent.{RawEvent}
+use Rattle.model_core.specs.declared.component.RawLabelled.{RawLabelled}
+use Rattle.model_core.specs.declared.checked.CheckedEvent.{CheckedEvent}
+use Rattle.model_core.specs.declared.checked.Labelled.{Labelled}
+use Rattle.check_rules.specs.Contexts.{names_of}
+use Rattle.check_rules.specs.Typed.{Entries, AreTyped, in_order}
+use Rattle.check_rules.specs.Events.{event_env, inherited_params, abstract_params}
+use Rattle.context_check.specs.Typings.{AreTypedSoFar}
+use Rattle.context_check.proofs.Views.{append_none}
+use Rattle.machine_check.specs.PrivateTyped.{Grows}
+
+same : (env : Entries) → Grows env env
+same env = ([], append_none env)
+
+pub further : (env next last : Entries) → Grows env next → Grows next last → Grows env last
+further env next last (one, e) (two, f) = (one ++ two, f ∙ ap (λ x. x ++ two) e ∙ append_assoc env one two)
+
+with_one : (env : Entries) (x : List ℕ) (o : Option Ty) → Grows env (with_name env x o)
+with_one env x None = same env
+with_one env x (Some t) = at (is_some (type_in env x))
+  where
+    at : (b : Bool) → Grows env (if b then env else (env ++ (x, t) ∷ []))
+    at true = same env
+    at false = ((x, t) ∷ [], refl)
+
+pub with_more : (env xs : Entries) → Grows env (with_all env xs)
+with_more env [] = same env
+with_more env (x ∷ xs) =
+    further env (with_name env x.0 (Some x.1)) (with_all env (x ∷ xs)) (with_one env x.0 (Some x.1)) (with_more (with_name env x.0 (Some x.1)) xs)
+
+by_formula : (env : Entries) (wanted : List (List ℕ)) (f : Formula) → Grows env (extended env wanted f)
+by_formula env [] f = same env
+by_formula env (x ∷ xs) f =
+    further env (with_name env x (type_in (free_of f) x)) (extended env (x ∷ xs) f) (with_one env x (type_in (free_of f) x))
+    (by_formula (with_name env x (type_in (free_of f) x)) xs f)
+
+module _ (component : List ℕ) (wanted : List (List ℕ)) where
+  by_formulas : (env : Entries) (labelled : List RawLabelled) (typed : List Labelled) (faults : List Fault) (last : Entries) → AreTyped component env wanted labelled typed faults last → Grows env last
+  by_formulas env [] typed faults last h = ([], h.2 ∙ append_none env)
+  by_formulas env (l ∷ labelled) typed faults last (inl (f, next, others, has, later, is)) =
+      further env next last (by_one has.1.typing.1) (by_formulas next labelled others faults last later)
+    where
+      by_one : next ≡ extended env wanted f → Grows env next
+      by_one e = let g = by_formula env wanted f in (g.0, e ∙ g.1)
+  by_formulas env (l ∷ labelled) typed faults last (inr (fault, others, mistyped, later, is)) = by_formulas env labelled typed others last later
+
+  pub by_typing : (env : Entries) (labelled : List RawLabelled) (typed : List Labelled) (first : Option Fault) (last : Entries) →
+      AreTypedSoFar component env wanted labelled typed first last → Grows env last
+  by_typing env labelled typed first last so = by_formulas env labelled typed so.0 last so.1
+
+pub by_two : (env xs ys last : Entries) → last ≡ with_all (with_all env xs) ys → Grows env last
+by_two env xs ys last is = let g = further env (with_all env xs) (with_all (with_all env xs) ys) (with_more env xs) (with_more (with_all env xs) ys) in (g.0, is ∙ g.1)
+
+-- an event's names stand behind those of its machine
+pub by_event : (m : List CheckedEvent) (e : RawEvent) (env start : Entries) → start ≡ event_env m e env → Grows env start
+by_event m e env start is = by_two env (inherited_params m e) (in_order (abstract_params m e) (names_of e.params)) start is
+
+pub cut_back : (env last : Entries) (n : ℕ) → Grows env last → n ≡ length env → take n last ≡ env
+cut_back env last n (rest, e) is = (λ i. take (is i) (e i)) ∙ take-append_seam env rest

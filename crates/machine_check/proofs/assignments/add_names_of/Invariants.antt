@@ -1,0 +1,7 @@
+use Rattle.std.proofs.Common.{◌≡◌, ◌||◌, ℕ, List, take, bytes_eq}
+use Rattle.std.specs.List.{list_any}
+use Rattle.context_check.specs.Texts.{has}
+use Rattle.machine_check.proofs.assignments.add_names_of.Given as goal
+
+abbrev pub invariant-loop-pair : goal.invariant-loop-pair
+invariant-loop-pair g l = (x : List ℕ) → has l.texts x ≡ (has l.initial.texts x || list_any (λ p. bytes_eq x p.0) (take l.pair-index l.pairs))

@@ -1,0 +1,4 @@
+pub mod PrivateEvents
+pub mod PrivateMachine
+pub mod PrivateNames
+pub mod PrivateTyped
