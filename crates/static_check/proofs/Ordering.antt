@@ -1,7 +1,7 @@
 -- Sorting adds one component at a time whose references are sorted or absent, until there is none.
-use Rattle.std.proofs.Common.{◌≡◌, ◌≢◌, ◌⊎◌, inl, inr, ℕ, zero, suc, ◌+◌, ◌<◌, ◌≤◌, Bool, true, false, not, ◌&&◌, ◌||◌, cond, List, [], ◌∷◌, ◌++◌, length, map, take, get_or, refl, sym, ap, subst, ◌∙◌, arith, append_assoc, length-append, ◌↔◌}
-use Rattle.std.specs.Prelude.{bytes_eq, ⊤}
-use Rattle.std.specs.List.{AllByRecursion, Contains, IsDistinct, list_all, list_any, filter}
+use Rattle.std.proofs.Common.{◌≡◌, ◌⊎◌, inl, inr, ℕ, zero, suc, ◌+◌, ◌<◌, ◌≤◌, Bool, true, false, not, ◌&&◌, ◌||◌, cond, List, [], ◌∷◌, ◌++◌, length, map, get_or, refl, sym, ap, subst, ◌∙◌, arith, append_assoc}
+use Rattle.std.specs.Prelude.{bytes_eq}
+use Rattle.std.specs.List.{AllByRecursion, Contains, IsDistinct, list_all, filter}
 use Rattle.std.proofs.lemmas.Map.Keys.{IsDistinct-push}
 use Rattle.std.proofs.lemmas.Cmp.{nat_list_eq_equiv}
 use Rattle.std.proofs.lemmas.Slice.Eq.{bytes_eq-Decides}
@@ -11,7 +11,20 @@ use Rattle.model_core.specs.declared.component.RawComponent.{RawComponent}
 use Rattle.model_core.specs.Each.{is_among}
 use Rattle.static_check.specs.declared.settled.Order.{Order}
 use Rattle.static_check.specs.Settling.{own_name, references, has, IfPresent, IsSettledBy, IsSettled, ReferencesFirst, IsComponentOrder}
-use Rattle.static_check.specs.Private.{are_ready, is_ready, is_next, left_out}
+
+-- each of these references is among the sorted names or absent
+abbrev pub are_ready : List RawComponent → List (List ℕ) → List Ref → Bool
+are_ready components sorted refs = list_all (λ r. is_among sorted r.name || not (has components r.name)) refs
+
+abbrev pub is_ready : List RawComponent → List (List ℕ) → RawComponent → Bool
+is_ready components sorted c = are_ready components sorted (references c)
+
+abbrev pub is_next : List RawComponent → List (List ℕ) → RawComponent → Bool
+is_next components sorted c = not (is_among sorted (own_name c)) && is_ready components sorted c
+
+-- the names that aren't among the sorted ones
+abbrev pub left_out : List RawComponent → List (List ℕ) → List (List ℕ)
+left_out components sorted = filter (λ n. not (is_among sorted n)) (map own_name components)
 
 -- what sorting keeps
 pub record IsPartOfOrder (components : List RawComponent) (sorted : List (List ℕ)) : Type 0 where
@@ -31,47 +44,47 @@ abbrev pub remaining : List RawComponent → List (List ℕ) → ℕ
 remaining [] sorted = 0
 remaining (c ∷ cs) sorted = cond (is_among sorted (own_name c)) 0 1 + remaining cs sorted
 
-or_cases : (a b : Bool) → (a || b) ≡ true → (a ≡ true) ⊎ (b ≡ true)
+pub or_cases : (a b : Bool) → (a || b) ≡ true → (a ≡ true) ⊎ (b ≡ true)
 or_cases true b e = inl refl
 or_cases false b e = inr e
 
-or_first : (a b : Bool) → a ≡ true → (a || b) ≡ true
+pub or_first : (a b : Bool) → a ≡ true → (a || b) ≡ true
 or_first true b e = refl
 or_first false b e = absurd (true_not_false e)
   where
     true_not_false : false ≡ true → ⊥
     true_not_false e = cc
 
-or_second : (a b : Bool) → b ≡ true → (a || b) ≡ true
+pub or_second : (a b : Bool) → b ≡ true → (a || b) ≡ true
 or_second true b e = refl
 or_second false b e = e
 
-and_both : (a b : Bool) → (a && b) ≡ true → (a ≡ true) × (b ≡ true)
+pub and_both : (a b : Bool) → (a && b) ≡ true → (a ≡ true) × (b ≡ true)
 and_both true b e = (refl, e)
 and_both false b e = absurd (unequal e)
   where
     unequal : false ≡ true → ⊥
     unequal e = cc
 
-and_of : (a b : Bool) → a ≡ true → b ≡ true → (a && b) ≡ true
+pub and_of : (a b : Bool) → a ≡ true → b ≡ true → (a && b) ≡ true
 and_of true b e f = f
 and_of false b e f = e
 
-not_true : (a : Bool) → not a ≡ true → a ≡ false
+pub not_true : (a : Bool) → not a ≡ true → a ≡ false
 not_true true e = sym e
 not_true false e = refl
 
-not_false : (a : Bool) → a ≡ false → not a ≡ true
+pub not_false : (a : Bool) → a ≡ false → not a ≡ true
 not_false true e = sym e
 not_false false e = refl
 
-same : (a b : List ℕ) → bytes_eq a b ≡ true → a ≡ b
+pub same : (a b : List ℕ) → bytes_eq a b ≡ true → a ≡ b
 same a b e = (bytes_eq-Decides a b).0 e
 
-same_self : (a : List ℕ) → bytes_eq a a ≡ true
+pub same_self : (a : List ℕ) → bytes_eq a a ≡ true
 same_self a = (bytes_eq-Decides a a).1 refl
 
-among_more : (sorted : List (List ℕ)) (n name : List ℕ) → is_among (sorted ++ n ∷ []) name ≡ (is_among sorted name || (bytes_eq name n || false))
+pub among_more : (sorted : List (List ℕ)) (n name : List ℕ) → is_among (sorted ++ n ∷ []) name ≡ (is_among sorted name || (bytes_eq name n || false))
 among_more sorted n name = list_any-append (bytes_eq name) sorted (n ∷ [])
 
 among_before : (sorted : List (List ℕ)) (n name : List ℕ) → is_among sorted name ≡ true → is_among (sorted ++ n ∷ []) name ≡ true
@@ -170,9 +183,6 @@ part_more components sorted c part in' next =
     length_more : (xs : List (List ℕ)) (x : List ℕ) → suc (length xs) ≡ length (xs ++ x ∷ [])
     length_more [] x = refl
     length_more (y ∷ xs) x = ap suc (length_more xs x)
-
-pub next_unsorted : (components : List RawComponent) (sorted : List (List ℕ)) (c : RawComponent) → is_next components sorted c ≡ true → is_among sorted (own_name c) ≡ false
-next_unsorted components sorted c e = not_true _ (and_both (not (is_among sorted (own_name c))) _ e).0
 
 at : {X : Type 0} (P : X → Type 0) (xs : List X) (x : X) (k : ℕ) → AllByRecursion P xs → k < length xs → get_or xs k x ≡ x → P x
 at P [] x k all lt is = absurd (omega arith)

@@ -1,3 +1,5 @@
 pub mod Laws
-pub mod Private
+pub mod Parts
+pub mod PrivateChecks
+pub mod PrivateSorting
 pub mod Settling

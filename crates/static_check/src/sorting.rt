@@ -1,100 +1,211 @@
 //! The order of components.
-ghost use Rattle.std.specs.Prelude.{◌≡◌, ◌<◌, IfOk, IsTrue, MatchOption, length, true, false};
-ghost use Rattle.std.specs.List.{AllByRecursion, Contains, list_all, list_any};
-ghost use Rattle.model_core.specs.Each.{is_among};
-ghost use Rattle.static_check.specs.Settling.{has, IsComponentOrder};
-ghost use Rattle.static_check.specs.Private.{is_next, is_ready, are_ready, left_out};
+ghost use Rattle.std.specs.Prelude.{◌≡◌, ⊤, ℕ, List as Listed, None, IfOk, OnOk, MatchOption, length, map, reverse};
+ghost use Rattle.std.specs.Option.{option_copied};
+ghost use Rattle.std.specs.List.{slice_get};
+ghost use Rattle.static_check.specs.Settling.{references, IsComponentOrder};
+ghost use Rattle.static_check.specs.PrivateSorting.{AreNoneOpen, IsOpenReference, IsTurn, Sorts, all_open, and_waits};
+ghost use Rattle.static_check.specs.PrivateSorting.{component_of, is_open, left_open, open_at, waiting_for};
 
 use crate::settled::Order;
 use formula_core::{List, Name, OutOfMemory, Ref};
 use model_core::RawComponent;
 use std::alloc::Global;
+use std::collections::BTreeMap;
 
-fn has(components: &[RawComponent], name: &Name) -> bool
-    ensures { result ≡ has components.now name.now }
-{
-    components
-        .iter()
-        .any(|component| name.same(&component.heading().name))
+/// A component that isn't sorted, and the index of the reference for which it waited last.
+#[derive(Clone, Copy)]
+struct Waiting<'a> {
+    component: &'a RawComponent,
+    from: usize,
 }
 
-fn is_among(names: &[Name], name: &Name) -> bool
-    ensures { result ≡ is_among names.now name.now }
+/// The names of the components that aren't sorted, with the components that wait for each.
+type Open<'a> = BTreeMap<&'a str, Vec<Waiting<'a>>>;
+
+fn is_open(names: &Open<'_>, name: &Name) -> bool
+    ensures { result ≡ is_open (waiting_for names.now) name.now }
 {
-    names.iter().any(|other| name.same(other))
+    names.contains_key(name.as_text())
 }
 
-fn are_ready(components: &[RawComponent], sorted: &[Name], references: &[Ref]) -> bool
-    ensures { result ≡ are_ready components.now sorted.now references.now }
-{
-    references.iter().all(|reference| is_among(sorted, &reference.name)
-        || !has(components, &reference.name))
-}
-
-/// Whether each reference of the component is sorted or absent.
-fn is_ready(components: &[RawComponent], sorted: &[Name], component: &RawComponent) -> bool
-    ensures { result ≡ is_ready components.now sorted.now component.now }
+fn count_references(component: &RawComponent) -> usize
+    ensures { result ≡ length (references component.now) }
 {
     match component {
-        RawComponent::Context { extends, .. } => are_ready(components, sorted, extends.items()),
+        RawComponent::Context { extends, .. } => extends.items().len(),
         RawComponent::Machine { refines, sees, .. } => match refines {
-            None => are_ready(components, sorted, sees.items()),
-            Some(refines) => {
-                (is_among(sorted, &refines.name) || !has(components, &refines.name))
-                    && are_ready(components, sorted, sees.items())
+            None => sees.items().len(),
+            Some(_) => sees.items().len() + 1,
+        },
+    }
+}
+
+fn reference_at(component: &RawComponent, index: usize) -> Option<&Ref>
+    ensures { option_copied result ≡ slice_get (references component.now) index }
+{
+    match component {
+        RawComponent::Context { extends, .. } => extends.items().get(index),
+        RawComponent::Machine { refines, sees, .. } => match refines {
+            None => sees.items().get(index),
+            Some(abstraction) => {
+                if index == 0 {
+                    Some(abstraction)
+                } else {
+                    sees.items().get(index - 1)
+                }
             }
         },
     }
 }
 
-fn is_next(components: &[RawComponent], sorted: &[Name], component: &RawComponent) -> bool
-    ensures { result ≡ is_next components.now sorted.now component.now }
+/// The reference at this index, if it is open.
+fn open_at<'a>(names: &Open<'_>, component: &'a RawComponent, index: usize) -> Option<&'a Ref>
+    ensures { option_copied result ≡ open_at (waiting_for names.now) (references component.now) index }
 {
-    !is_among(sorted, &component.heading().name) && is_ready(components, sorted, component)
+    match reference_at(component, index) {
+        Some(reference) if is_open(names, &reference.name) => Some(reference),
+        _ => None,
+    }
 }
 
-/// A component that isn't sorted yet and whose references are.
-fn next_ready<'a>(components: &'a [RawComponent], sorted: &[Name]) -> Option<&'a RawComponent>
-    ensures { MatchOption result
-        (AllByRecursion (λ c. is_next components.now sorted.now c ≡ false) components.now)
-        (λ c. (is_next components.now sorted.now c.now ≡ true) × Contains components.now c.now) }
+/// The first reference that is open, from this index on, with its own.
+fn first_open_from<'a>(
+    names: &Open<'_>,
+    component: &'a RawComponent,
+    from: usize,
+) -> Option<(usize, &'a Ref)>
+    ensures none { from ≡ 0 → result ≡ None →
+        AreNoneOpen (waiting_for names.now) (references component.entry.now) }
+    ensures some { MatchOption result ⊤
+        (λ p. IsOpenReference (waiting_for names.now) (references component.entry.now) p.1.now) }
 {
-    for component in components {
-        if is_next(components, sorted, component) {
-            return Some(component);
+    for index in from..count_references(component) {
+        if let Some(reference) = open_at(names, component, index) {
+            return Some((index, reference));
         }
     }
     None
 }
 
-/// The components in an order in which references come first, and those that are never settled.
+/// A reference that is open, with its index. It is looked for from the one for which the component waited last, so that
+/// those before it are looked up only once more.
+fn find_open<'a>(names: &Open<'_>, waiting: Waiting<'a>) -> Option<(usize, &'a Ref)>
+    ensures { MatchOption result
+        (AreNoneOpen (waiting_for names.now) (references waiting.entry.component.now))
+        (λ p. IsOpenReference (waiting_for names.now) (references waiting.entry.component.now) p.1.now) }
+{
+    match first_open_from(names, waiting.component, waiting.from) {
+        Some(found) => Some(found),
+        None => first_open_from(names, waiting.component, 0),
+    }
+}
+
+/// Lets a component wait for a name that is open.
+fn wait<'a>(names: &mut Open<'a>, name: &str, waiting: Waiting<'a>) -> Result<(), OutOfMemory>
+    ensures { OnOk result ((x : Listed ℕ) →
+        waiting_for names.new x ≡ and_waits (waiting_for names.old) name.now waiting.entry.component.now x) }
+{
+    if let Some(others) = names.get_mut(name) {
+        others.push(waiting)?;
+    }
+    Ok(())
+}
+
+/// Sorts a component that has no open reference, unless its name is sorted already.
+fn sort<'a>(
+    alloc: Global,
+    component: &RawComponent,
+    names: &mut Open<'a>,
+    pending: &mut Vec<Waiting<'a>>,
+    sorted: &mut Vec<Name>,
+) -> Result<(), OutOfMemory>
+    ensures { OnOk result (Sorts component.now
+        (waiting_for names.old) (map component_of pending.old.items) sorted.old.items
+        (waiting_for names.new) (map component_of pending.new.items) sorted.new.items) }
+{
+    let name = &component.heading().name;
+    if let Some(mut woken) = names.remove(name.as_text()) {
+        sorted.push(name.copy(alloc)?)?;
+        pending.append(&mut woken)?;
+    }
+    Ok(())
+}
+
+/// Sorts a component, or lets it wait for a reference.
+fn take_turn<'a>(
+    alloc: Global,
+    waiting: Waiting<'a>,
+    names: &mut Open<'a>,
+    pending: &mut Vec<Waiting<'a>>,
+    sorted: &mut Vec<Name>,
+) -> Result<(), OutOfMemory>
+    ensures { OnOk result (IsTurn waiting.entry.component.now
+        (waiting_for names.old) (map component_of pending.old.items) sorted.old.items
+        (waiting_for names.new) (map component_of pending.new.items) sorted.new.items) }
+{
+    let component = waiting.component;
+    match find_open(names, waiting) {
+        Some((from, reference)) => {
+            wait(names, reference.name.as_text(), Waiting { component, from })
+        }
+        None => sort(alloc, component, names, pending, sorted),
+    }
+}
+
+/// All names as open ones.
+fn all_open(alloc: Global, components: &[RawComponent]) -> Result<Open<'_>, OutOfMemory>
+    ensures { IfOk result (λ names. (x : Listed ℕ) → waiting_for names x ≡ all_open components.now x) }
+{
+    let mut names = BTreeMap::new(alloc);
+    for component in components {
+        names.insert(component.heading().name.as_text(), Vec::new(alloc))?;
+    }
+    Ok(names)
+}
+
+/// All components, the first one last.
+fn all_waiting(alloc: Global, components: &[RawComponent]) -> Result<Vec<Waiting<'_>>, OutOfMemory>
+    ensures { IfOk result (λ all. map component_of all.items ≡ reverse components.now) }
+{
+    let mut all = Vec::new(alloc);
+    for component in components {
+        all.push(Waiting { component, from: 0 })?;
+    }
+    all.reverse();
+    Ok(all)
+}
+
+/// The names that are still open.
+fn left_open(
+    alloc: Global,
+    components: &[RawComponent],
+    names: &Open<'_>,
+) -> Result<Vec<Name>, OutOfMemory>
+    ensures { IfOk result (λ left. left.items ≡ left_open components.now (waiting_for names.now)) }
+{
+    let mut left = Vec::new(alloc);
+    for component in components {
+        if is_open(names, &component.heading().name) {
+            left.push(component.heading().name.copy(alloc)?)?;
+        }
+    }
+    Ok(left)
+}
+
+/// The components in an order in which references come first, and those that are never settled. Each reference is looked
+/// up at most three times.
 pub fn order(alloc: Global, components: &[RawComponent]) -> Result<Order, OutOfMemory>
     ensures { IfOk result (λ order. IsComponentOrder components.now order) }
 {
+    let mut names = all_open(alloc, components)?;
+    let mut pending = all_waiting(alloc, components)?;
     let mut sorted = Vec::new(alloc);
-    while let Some(component) = next_ready(components, &sorted) {
-        sorted.push(component.heading().name.copy(alloc)?)?;
+    while let Some(waiting) = pending.pop() {
+        take_turn(alloc, waiting, &mut names, &mut pending, &mut sorted)?;
     }
-    let cyclic = left_out(alloc, components, &sorted)?;
+    let cyclic = left_open(alloc, components, &names)?;
     Ok(Order {
         sorted: List::of(sorted),
         cyclic: List::of(cyclic),
     })
-}
-
-/// The names that aren't sorted.
-fn left_out(
-    alloc: Global,
-    components: &[RawComponent],
-    sorted: &[Name],
-) -> Result<Vec<Name>, OutOfMemory>
-    ensures { IfOk result (λ names. names.items ≡ left_out components.now sorted.now) }
-{
-    let mut names = Vec::new(alloc);
-    for component in components {
-        if !is_among(sorted, &component.heading().name) {
-            names.push(component.heading().name.copy(alloc)?)?;
-        }
-    }
-    Ok(names)
 }

@@ -1,34 +1,27 @@
-use Rattle.std.proofs.Common.{◌≡◌, ◌<◌, ◌∙◌, sym, ap, subst, rules, [], ◌∷◌, ◌++◌, false, true, List, ℕ}
-use Rattle.static_check.specs.Settling.{own_name}
-use Rattle.static_check.specs.Private.{is_next, left_out}
-use Rattle.std.specs.List.{AllByRecursion}
-use Rattle.static_check.proofs.Ordering.{IsPartOfOrder, remaining, nothing_sorted, part_more, remaining_less, ordered, next_unsorted}
+use Rattle.std.proofs.Common.{◌∙◌, map}
+use Rattle.static_check.specs.PrivateSorting.{component_of, waiting_for}
+use Rattle.static_check.proofs.Turns.{begins, popped, turn_kept, turn_smaller_list, none_pending, ends}
 use Rattle.static_check.proofs.sorting.order.Goals as goal
 
-copied : (c : goal.In_ok-push) → c.in_ok-copy.field-0 ≡ own_name c.in-Some.component.now
-copied c = c.in_ok-copy.ensures ∙ ap (λ r. r.name) c.heading.ensures
+pub loop-waiting-init : goal.loop-waiting-init
+loop-waiting-init c =
+    begins c.args.components.now (waiting_for c.in_ok-names.names) (map component_of c.in_ok-pending.pending.items) c.new-sorted.result.items
+    c.in_ok-names.ensures c.in_ok-pending.ensures c.new-sorted.ensures.items
 
-pushed : (c : goal.In_ok-push) → c.push.new.self.items ≡ c.loop-component.sorted.items ++ own_name c.in-Some.component.now ∷ []
-pushed c = c.in_ok-push.ensures.items ∙ ap (λ n. c.loop-component.sorted.items ++ n ∷ []) (copied c)
+pub loop-waiting-smaller : goal.loop-waiting-smaller
+loop-waiting-smaller c =
+    turn_smaller_list c.args.components.now c.loop-waiting.sorted.items c.take_turn.new.sorted.items (waiting_for c.loop-waiting.names) (waiting_for c.take_turn.new.names)
+    c.loop-waiting.pending.items c.pop.new.self.items c.take_turn.new.pending c.in-Some.waiting c.in-Some.ensures.items c.loop-waiting.invariant c.in_ok-take_turn.ensures
 
-next : (c : goal.In_ok-push) → is_next c.args.components.now c.loop-component.sorted.items c.in-Some.component.now ≡ true
-next c = subst (λ s. is_next c.args.components.now s c.in-Some.component.now ≡ true) c.deref.ensures.value c.in-Some.ensures.0
-
-pub loop-component-init : goal.loop-component-init
-loop-component-init c = rw c.new-sorted.ensures.items (nothing_sorted c.args.components.now)
-
-pub loop-component-smaller : goal.loop-component-smaller
-loop-component-smaller c =
-    let in' = c.in-Some.ensures.1 in
-    subst (λ s. remaining c.args.components.now s < remaining c.args.components.now c.loop-component.sorted.items) (sym (pushed c))
-    (remaining_less c.args.components.now c.loop-component.sorted.items c.in-Some.component.now in'.0 in'.1 in'.2 (next_unsorted c.args.components.now c.loop-component.sorted.items c.in-Some.component.now (next c)))
-
-pub loop-component-preserved : goal.loop-component-preserved
-loop-component-preserved c =
-    subst (λ s. IsPartOfOrder c.args.components.now s) (sym (pushed c)) (part_more c.args.components.now c.loop-component.sorted.items c.in-Some.component.now c.loop-component.invariant c.in-Some.ensures.1 (next c))
+pub loop-waiting-preserved : goal.loop-waiting-preserved
+loop-waiting-preserved c =
+    turn_kept c.args.components.now c.loop-waiting.sorted.items c.take_turn.new.sorted.items (waiting_for c.loop-waiting.names) (waiting_for c.take_turn.new.names)
+    (map component_of c.pop.new.self.items) (map component_of c.take_turn.new.pending.items) c.in-Some.waiting.component.now
+    (popped c.args.components.now c.loop-waiting.sorted.items (waiting_for c.loop-waiting.names) c.loop-waiting.pending.items c.pop.new.self.items c.in-Some.waiting c.in-Some.ensures.items c.loop-waiting.invariant)
+    c.in_ok-take_turn.ensures
 
 pub returns : goal.returns
 returns c =
-    ordered c.args.components.now c.loop-component.sorted.items c.of.result c.of-2.result c.of.ensures
-    (c.of-2.ensures ∙ c.in_ok-cyclic.ensures ∙ ap (left_out c.args.components.now) c.deref-2.ensures.value) c.loop-component.invariant
-    (subst (λ s. AllByRecursion (λ x. is_next c.args.components.now s x ≡ false) c.args.components.now) c.deref.ensures.value c.in_default.ensures)
+    ends c.args.components.now c.loop-waiting.sorted.items c.of.result c.of-2.result (waiting_for c.loop-waiting.names)
+    (none_pending c.args.components.now c.loop-waiting.sorted.items (waiting_for c.loop-waiting.names) c.loop-waiting.pending c.in_default.ensures.cases.0 c.loop-waiting.invariant)
+    c.of.ensures (c.of-2.ensures ∙ c.in_ok-cyclic.ensures)

@@ -1,8 +1,10 @@
-use Rattle.static_check.proofs.Ordering.{IsPartOfOrder, remaining}
+use Rattle.std.proofs.Common.{map}
+use Rattle.static_check.specs.PrivateSorting.{component_of, waiting_for}
+use Rattle.static_check.proofs.Turns.{IsSorting, left_of}
 use Rattle.static_check.proofs.sorting.order.Given as goal
 
-abbrev pub invariant-loop-component : goal.invariant-loop-component
-invariant-loop-component l = IsPartOfOrder l.components l.sorted.items
+abbrev pub invariant-loop-waiting : goal.invariant-loop-waiting
+invariant-loop-waiting l = IsSorting l.components l.sorted.items (waiting_for l.names) (map component_of l.pending.items)
 
-abbrev pub decreases-loop-component : goal.decreases-loop-component
-decreases-loop-component l = remaining l.components l.sorted.items
+abbrev pub decreases-loop-waiting : goal.decreases-loop-waiting
+decreases-loop-waiting l = left_of l.components l.sorted.items (map component_of l.pending.items)
