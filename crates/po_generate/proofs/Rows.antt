@@ -1,0 +1,16 @@
+-- The rows of one event, one after another.
+use Rattle.std.proofs.Common.{◌≡◌, ◌∙◌, ap, sym, List, [], ◌++◌}
+use Rattle.std.proofs.lemmas.List.{append-nil}
+use Rattle.sequent_core.specs.declared.sequent.Obligation.{Obligation}
+use Rattle.po_rules.specs.Gathering.{Gathered, gathered}
+use Rattle.po_machine.proofs.Gathering.{both_gathered}
+
+pub last_gathered : (old new : Gathered) (a : List Obligation) → new ≡ gathered old a → new ≡ gathered old (a ++ [])
+last_gathered old new a e = e ∙ ap (gathered old) (sym (append-nil a))
+
+pub nine_gathered : (o a b c d e f g h i : Gathered) (r s t u v w x y z : List Obligation) → a ≡ gathered o r → b ≡ gathered a s → c ≡ gathered b t → d ≡ gathered c u
+    → e ≡ gathered d v → f ≡ gathered e w → g ≡ gathered f x → h ≡ gathered g y → i ≡ gathered h z
+    → i ≡ gathered o (r ++ (s ++ (t ++ (u ++ (v ++ (w ++ (x ++ (y ++ (z ++ [])))))))))
+nine_gathered o a b c d e f g h i r s t u v w x y z p1 p2 p3 p4 p5 p6 p7 p8 p9 =
+    both_gathered o a i r _ p1 (both_gathered a b i s _ p2 (both_gathered b c i t _ p3 (both_gathered c d i u _ p4 (both_gathered d e i v _ p5
+    (both_gathered e f i w _ p6 (both_gathered f g i x _ p7 (both_gathered g h i y _ p8 (last_gathered h i z p9))))))))

@@ -1,0 +1,8 @@
+//! The table of obligations of a checked component.
+#![tactic(auto)]
+
+mod laws;
+mod table;
+
+pub use laws::{all_are_gathered, too_many_are_noticed};
+pub use table::add_obligations;

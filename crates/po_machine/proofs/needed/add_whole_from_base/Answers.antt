@@ -1,0 +1,8 @@
+use Rattle.std.proofs.Common.{◌∙◌, sym}
+use Rattle.well_defined.specs.Connectives.{is_top}
+use Rattle.po_machine.specs.Shared.{view}
+use Rattle.po_machine.proofs.Gathering.{idle}
+use Rattle.po_machine.proofs.needed.add_whole_from_base.Goals as goal
+
+pub returns-then-is_idle : goal.returns-then-is_idle
+returns-then-is_idle c = idle (is_top c.args.goal) (view c.args.out.now) _ (sym c.is_idle.ensures ∙ c.if-is_idle.true)

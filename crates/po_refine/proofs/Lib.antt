@@ -1,0 +1,5 @@
+pub mod Growing
+pub mod Named
+pub mod Refined
+pub mod Steps
+pub mod Tails
