@@ -1,0 +1,11 @@
+pub mod Concluding
+pub mod Found
+pub mod Gathers
+pub mod Limits
+pub mod Lines
+pub mod Referred
+pub mod Rounds
+pub mod Setting
+pub mod Tables
+pub mod Texts
+pub mod Whole

@@ -1,0 +1,29 @@
+-- Laws on the definitions: a project gives one verdict on each of its components, and has one table.
+use Rattle.std.specs.Prelude.{◌≡◌, ℕ, List, bytes_eq}
+use Rattle.std.specs.List.{IsDistinct}
+use Rattle.std.specs.Map.{keys_of}
+use Rattle.build_core.specs.declared.fault_line.FaultLine.{FaultLine}
+use Rattle.sequent_core.specs.declared.sequent.Obligation.{Obligation}
+use Rattle.check_rules.specs.Contexts.{Outcome}
+use Rattle.build_core.specs.Projects.{Project, Checks}
+use Rattle.build_core.specs.Tables.{IsTable, AreFaults, AreWarnings}
+
+abbrev pub HasOneVerdict : Type 0
+HasOneVerdict =
+    (project : Project) → IsDistinct bytes_eq (keys_of project) → (name : List ℕ) (one two : Outcome) →
+    Checks project name one → Checks project name two → one ≡ two
+
+abbrev pub HasOneTable : Type 0
+HasOneTable =
+    (project : Project) → IsDistinct bytes_eq (keys_of project) → (one two : List Obligation) →
+    IsTable project one → IsTable project two → one ≡ two
+
+abbrev pub HasOneListOfFaults : Type 0
+HasOneListOfFaults =
+    (project : Project) → IsDistinct bytes_eq (keys_of project) → (one two : List FaultLine) →
+    AreFaults project one → AreFaults project two → one ≡ two
+
+abbrev pub HasOneListOfWarnings : Type 0
+HasOneListOfWarnings =
+    (project : Project) → IsDistinct bytes_eq (keys_of project) → (one two : List (List ℕ × List ℕ)) →
+    AreWarnings project one → AreWarnings project two → one ≡ two

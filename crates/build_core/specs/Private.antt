@@ -1,0 +1,155 @@
+-- What only private contracts cite.
+use Rattle.std.specs.Prelude.{◌≡◌, ◌⊎◌, ℕ, ◌≤◌, ◌<◌, Bool, true, List, [], ◌∷◌, ◌++◌, map, length, if◌then◌else◌, Option, Some, None, IsSome, Ok, Err}
+use Rattle.std.specs.List.{Contains, HoldsAt, filter_map}
+use Rattle.std.specs.Map.{lookup}
+use Rattle.std.specs.BTreeMap.{is_at}
+use Rattle.std.specs.Ordering.{nat_cmp}
+use Rattle.std.specs.Cmp.Lexicographic.{slice_cmp}
+use Rattle.formula_core.specs.declared.raw.Ref.{Ref}
+use Rattle.model_core.specs.Components.{heading}
+use Rattle.model_core.specs.Each.{for_each, is_among}
+use Rattle.model_core.specs.Faults.{fault_at}
+use Rattle.model_core.specs.declared.fault.Fault.{Fault}
+use Rattle.model_core.specs.declared.fault.FaultKind.{FaultKind}
+use Rattle.model_core.specs.declared.fault.FaultKind.TheVariants as kind
+use Rattle.model_core.specs.declared.component.RawComponent.{RawComponent}
+use Rattle.model_core.specs.declared.checked.Checked.{Checked}
+use Rattle.model_core.specs.declared.checked.Checked.TheVariants.{Machine}
+use Rattle.model_core.specs.declared.checked.CheckedMachine.{CheckedMachine}
+use Rattle.component_text.specs.Spelled.{IsRead}
+use Rattle.check_rules.specs.Contexts.{Outcome}
+use Rattle.static_check.specs.declared.settled.Order.{Order}
+use Rattle.static_check.specs.Settling.{own_name, has, IsComponentOrder}
+use Rattle.sequent_core.specs.declared.sequent.Obligation.{Obligation}
+use Rattle.po_rules.specs.Gathering.{Gathered}
+use Rattle.po_rules.specs.Tables.{obligations_of}
+use Rattle.build_core.specs.Projects.{Project, Reading, wanted_references, is_wanted, reference_row, checked_in, Concludes}
+use Rattle.build_core.specs.Tables.{refined_in}
+
+-- what the map of these entries has at a name
+abbrev pub found : {X : Type 0} → List (List ℕ × X) → List ℕ → Option X
+found entries name = lookup (is_at (slice_cmp nat_cmp name)) entries
+
+-- x is set at a name, and nothing else is changed
+abbrev pub Sets : {X : Type 0} → List (List ℕ × X) → List ℕ → X → List (List ℕ × X) → Type 0
+Sets before name x behind = (q : List ℕ) → found behind q ≡ (if is_at (slice_cmp nat_cmp name) q then Some x else found before q)
+
+-- outcomes by the names of their components
+abbrev pub Outcomes : Type 0
+Outcomes = List (List ℕ × Outcome)
+
+-- READING
+
+-- the component that a text is
+abbrev pub IsComponentIn : Project → RawComponent → Type 0
+IsComponentIn project c = (text : List ℕ) × Contains project (own_name c, text) × IsRead (own_name c) text (Ok c)
+
+-- the fault of a text
+abbrev pub IsFaultIn : Project → List ℕ → Outcome → Type 0
+IsFaultIn project name outcome =
+    (text : List ℕ) × (fault : Fault) × Contains project (name, text) × IsRead name text (Err fault) × (outcome ≡ Err fault)
+
+-- The components that are read, and the faults of the other texts.
+pub record AreRead (project : Project) (components : List RawComponent) (outcomes : Outcomes) : Type 0 where
+  pub read : (c : RawComponent) → Contains components c → IsComponentIn project c
+  pub faulted : (name : List ℕ) (outcome : Outcome) → found outcomes name ≡ Some outcome → IsFaultIn project name outcome
+  pub all : (name text : List ℕ) → Contains project (name, text) → (has components name ≡ true) ⊎ IsSome (found outcomes name)
+  pub few : length components ≤ length project
+
+-- a reading is added to the components or to the faults
+abbrev pub Adds : List ℕ → Reading → List RawComponent → Outcomes → List RawComponent → Outcomes → Type 0
+Adds name (Ok c) components outcomes more others = (more ≡ components ++ c ∷ []) × (others ≡ outcomes)
+Adds name (Err fault) components outcomes more others = (more ≡ components) × Sets outcomes name (Err fault) others
+
+-- the place of a component with each name that one has
+pub record IsIndex (components : List RawComponent) (index : List (List ℕ × ℕ)) : Type 0 where
+  pub place : (name : List ℕ) (i : ℕ) → found index name ≡ Some i → (i < length components) × HoldsAt (λ c. own_name c ≡ name) components i
+  pub all : (name : List ℕ) → has components name ≡ true → IsSome (found index name)
+
+-- CHECKING
+
+-- what is concluded of the references of a component
+abbrev pub outcomes_at : Outcomes → List (Ref × Bool) → List (Option Outcome)
+outcomes_at outcomes refs = map (λ r. found outcomes r.0.name) refs
+
+-- what is wrong with a reference
+abbrev pub wrong_kind : Bool → Option Outcome → Option FaultKind
+wrong_kind context None = Some kind.NoComponent
+wrong_kind context (Some (Err fault)) = Some kind.Blocked
+wrong_kind context (Some (Ok part)) = if is_wanted context part then None else Some kind.WrongKind
+
+-- the faults of references
+abbrev pub faults_at : Outcomes → List ℕ → List (Ref × Bool) → List Fault
+faults_at outcomes component refs = for_each (λ r. reference_row component r (found outcomes r.0.name)) refs
+
+-- the components without fault at references
+abbrev pub parts_at : Outcomes → List (Ref × Bool) → List Checked
+parts_at outcomes refs = filter_map checked_in (outcomes_at outcomes refs)
+
+-- From the outcomes before, each of these names, in order, is given an outcome of a component with the name.
+abbrev pub AreSet : (RawComponent → Outcomes → Outcome → Type 0) → List RawComponent → List (List ℕ) → Outcomes → Outcomes → Type 0
+AreSet Gives components [] before behind = behind ≡ before
+AreSet Gives components (name ∷ names) before behind =
+    (c : RawComponent) × (outcome : Outcome) × (next : Outcomes) × Contains components c × (own_name c ≡ name)
+    × Gives c before outcome × Sets before name outcome next × AreSet Gives components names next behind
+
+-- the outcome of a component beside the outcomes before
+abbrev pub ConcludesIn : RawComponent → Outcomes → Outcome → Type 0
+ConcludesIn c before outcome = Concludes c (outcomes_at before (wanted_references c)) outcome
+
+-- the outcome of a component that is never settled
+abbrev pub IsToldCyclic : RawComponent → Outcomes → Outcome → Type 0
+IsToldCyclic c before outcome = outcome ≡ Err (fault_at (own_name c) kind.Cyclic (heading c).place [])
+
+-- each of these names is that of a component
+abbrev pub HaveNames : List RawComponent → List (List ℕ) → Type 0
+HaveNames components names = (name : List ℕ) → is_among names name ≡ true → has components name ≡ true
+
+-- first the components that are settled, in an order with references first, and then those that never are
+abbrev pub AreConcluded : List RawComponent → Outcomes → Outcomes → Type 0
+AreConcluded components before behind =
+    (order : Order) × (middle : Outcomes) × IsComponentOrder components order
+    × AreSet ConcludesIn components order.sorted before middle × AreSet IsToldCyclic components order.cyclic middle behind
+
+-- GATHERING
+
+-- what an outcome gives, where there is one
+abbrev pub given_at : {X : Type 0} → (Outcome → List X) → Option Outcome → List X
+given_at each None = []
+given_at each (Some outcome) = each outcome
+
+-- what the outcomes of these components give
+abbrev pub given_in : {X : Type 0} → (List ℕ → Outcome → List X) → Outcomes → Project → List X
+given_in each outcomes entries = for_each (λ e. given_at (each e.1) (found outcomes e.0)) entries
+
+abbrev pub machine_in : Option Outcome → Option CheckedMachine
+machine_in (Some (Ok (Machine m))) = Some m
+machine_in _ = None
+
+-- the checked machine at a reference
+abbrev pub abstraction_in : Outcomes → Option Ref → Option CheckedMachine
+abstraction_in outcomes None = None
+abstraction_in outcomes (Some r) = machine_in (found outcomes r.name)
+
+-- the obligations of a component of this name, where it has no fault
+abbrev pub OwnFrom : List RawComponent → Outcomes → List ℕ → Option Outcome → List Obligation → Type 0
+OwnFrom components outcomes name (Some (Ok checked)) own =
+    (c : RawComponent) × Contains components c × (own_name c ≡ name) × (own ≡ obligations_of checked (abstraction_in outcomes (refined_in c)))
+OwnFrom components outcomes name _ own = own ≡ []
+
+abbrev pub IsOwn : List RawComponent → Outcomes → List ℕ → List Obligation → Type 0
+IsOwn components outcomes name own = OwnFrom components outcomes name (found outcomes name) own
+
+-- those of these components, one component after another
+abbrev pub AreOwn : List RawComponent → Outcomes → Project → List Obligation → Type 0
+AreOwn components outcomes [] table = table ≡ []
+AreOwn components outcomes (entry ∷ entries) table =
+    (own : List Obligation) × (others : List Obligation) × IsOwn components outcomes entry.0 own × AreOwn components outcomes entries others
+    × (table ≡ own ++ others)
+
+-- each component without fault is one of these
+abbrev pub HaveComponents : List RawComponent → Outcomes → Type 0
+HaveComponents components outcomes = (name : List ℕ) (checked : Checked) → found outcomes name ≡ Some (Ok checked) → has components name ≡ true
+
+abbrev pub nothing_gathered : Gathered
+nothing_gathered = record { obligations = []; nodes = 0 }

@@ -1,0 +1,23 @@
+//! Laws that other crates cite. The calls do nothing.
+
+ghost use Rattle.build_core.specs.Laws.{HasOneVerdict, HasOneTable, HasOneListOfFaults, HasOneListOfWarnings};
+
+/// A component of a project has one verdict.
+pub fn one_verdict()
+    ensures { HasOneVerdict }
+{}
+
+/// A project has one table.
+pub fn one_table()
+    ensures { HasOneTable }
+{}
+
+/// A project has one list of faults.
+pub fn one_list_of_faults()
+    ensures { HasOneListOfFaults }
+{}
+
+/// A project has one list of warnings.
+pub fn one_list_of_warnings()
+    ensures { HasOneListOfWarnings }
+{}
