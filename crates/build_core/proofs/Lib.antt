@@ -1,4 +1,5 @@
 pub mod Concluding
+pub mod Distinct
 pub mod Found
 pub mod Gathers
 pub mod Limits

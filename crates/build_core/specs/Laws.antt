@@ -5,6 +5,7 @@ use Rattle.std.specs.Map.{keys_of}
 use Rattle.build_core.specs.declared.fault_line.FaultLine.{FaultLine}
 use Rattle.sequent_core.specs.declared.sequent.Obligation.{Obligation}
 use Rattle.check_rules.specs.Contexts.{Outcome}
+use Rattle.name_laws.specs.Laws.{HaveDistinctNames}
 use Rattle.build_core.specs.Projects.{Project, Checks}
 use Rattle.build_core.specs.Tables.{IsTable, AreFaults, AreWarnings}
 
@@ -27,3 +28,9 @@ abbrev pub HasOneListOfWarnings : Type 0
 HasOneListOfWarnings =
     (project : Project) → IsDistinct bytes_eq (keys_of project) → (one two : List (List ℕ × List ℕ)) →
     AreWarnings project one → AreWarnings project two → one ≡ two
+
+-- no two obligations of a project have the same name
+abbrev pub HasDistinctObligations : Type 0
+HasDistinctObligations =
+    (project : Project) → IsDistinct bytes_eq (keys_of project) → (table : List Obligation) →
+    IsTable project table → HaveDistinctNames table

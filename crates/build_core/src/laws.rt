@@ -1,6 +1,6 @@
 //! Laws that other crates cite. The calls do nothing.
 
-ghost use Rattle.build_core.specs.Laws.{HasOneVerdict, HasOneTable, HasOneListOfFaults, HasOneListOfWarnings};
+ghost use Rattle.build_core.specs.Laws.{HasOneVerdict, HasOneTable, HasOneListOfFaults, HasOneListOfWarnings, HasDistinctObligations};
 
 /// A component of a project has one verdict.
 pub fn one_verdict()
@@ -20,4 +20,9 @@ pub fn one_list_of_faults()
 /// A project has one list of warnings.
 pub fn one_list_of_warnings()
     ensures { HasOneListOfWarnings }
+{}
+
+/// No two obligations of a project have the same name.
+pub fn distinct_obligations()
+    ensures { HasDistinctObligations }
 {}

@@ -16,4 +16,6 @@ mod references;
 pub use builder::build;
 pub use built::{BuildFault, Built};
 pub use fault_line::FaultLine;
-pub use laws::{one_list_of_faults, one_list_of_warnings, one_table, one_verdict};
+pub use laws::{
+    distinct_obligations, one_list_of_faults, one_list_of_warnings, one_table, one_verdict,
+};
