@@ -10,6 +10,7 @@ use Rattle.sequent_core.specs.declared.Ticket.{Ticket}
 use Rattle.sequent_core.specs.declared.Attempt.{Attempt}
 use Rattle.sequent_core.specs.declared.Attempt.TheVariants.{Found, NoProof, NoMemory as AttemptNoMemory}
 use Rattle.sequent_core.specs.Provers.{IsGoodTree}
+use Rattle.build_core.specs.declared.FaultLine.{FaultLine}
 use Rattle.status_core.specs.Durable.{text_cmp, ProjectMap}
 use Rattle.status_core.specs.declared.events.Status.{Status}
 use Rattle.status_core.specs.declared.events.Question.TheVariants.{Statuses as AskStatuses, Faults as AskFaults}
@@ -17,11 +18,10 @@ use Rattle.status_core.specs.declared.events.Event.{Event}
 use Rattle.status_core.specs.declared.events.Event.TheVariants.{Edit, Build, Take, Finish, Ask}
 use Rattle.status_core.specs.declared.events.Entry.{Entry}
 use Rattle.status_core.specs.declared.events.Entry.TheVariants.{Put, Build as BuildEntry, SetProof}
-use Rattle.status_core.specs.declared.events.FaultLine.{FaultLine}
 use Rattle.status_core.specs.declared.events.Reply.{Reply}
-use Rattle.status_core.specs.declared.events.Reply.TheVariants.{BadName, TextTooLong, ProjectFull, Edited, Built, NoObligation, Nothing, Taken, NotOpen, NoTicket, Noted, NoMemory, Stored, Refused, Stale, Statuses, Faults}
-use Rattle.status_core.specs.Faults.{AreFaults}
-use Rattle.status_core.specs.Table.{IsTable, IsPresent}
+use Rattle.status_core.specs.declared.events.Reply.TheVariants.{BadName, TextTooLong, ProjectFull, Edited, Built, TableFull, NoObligation, Nothing, Taken, NotOpen, NoTicket, Noted, NoMemory, Stored, Refused, Stale, Statuses, Faults}
+use Rattle.status_core.specs.Faults.{AreFaults, AreWarnings}
+use Rattle.status_core.specs.Table.{IsTable, IsTableWithin, IsTooLarge, IsPresent}
 use Rattle.status_core.specs.Status.{IsStatus, IsUnsettledBy, Shows}
 use Rattle.status_core.specs.State.{State, entered}
 
@@ -39,6 +39,15 @@ Edits s name text reply entry new =
     ⊎ ((is_identifier name ≡ true) × (length text ≤ 65536) × IsFullFor s.durable.texts name × (reply ≡ ProjectFull) × (entry ≡ None) × (new ≡ s))
     ⊎ ((is_identifier name ≡ true) × (length text ≤ 65536) × (IsFullFor s.durable.texts name → ⊥)
     × (reply ≡ Edited name) × (entry ≡ Some (Put name text)) × (new ≡ record s { durable = entered s.durable (Put name text) }))
+
+-- BUILD
+
+-- the texts are built, unless their table is too large
+abbrev pub Builds : State → Reply → Option Entry → State → Type 0
+Builds s reply entry new =
+    ((n : ℕ) × IsTooLarge s.durable.texts n × (reply ≡ TableFull n) × (entry ≡ None) × (new ≡ s))
+    ⊎ ((table : List Obligation) × (faults : List FaultLine) × IsTableWithin s.durable.texts table × AreFaults s.durable.texts faults
+    × (reply ≡ Built (len s.durable.texts) (length faults) (length table)) × (entry ≡ Some BuildEntry) × (new ≡ record s { durable = entered s.durable BuildEntry }))
 
 -- TAKE
 
@@ -122,9 +131,7 @@ Finishes s table ticket (Found tree) reply entry new =
 -- the event is answered by this reply, adds this entry, if any, and leaves this state
 abbrev pub Does : State → Event → Reply → Option Entry → State → Type 0
 Does s (Edit name text) reply entry new = Edits s name text reply entry new
-Does s Build reply entry new =
-    (table : List Obligation) × (faults : List FaultLine) × IsTable s.durable.texts table × AreFaults s.durable.texts faults
-    × (reply ≡ Built (len s.durable.texts) (length faults) (length table)) × (entry ≡ Some BuildEntry) × (new ≡ record s { durable = entered s.durable BuildEntry })
+Does s Build reply entry new = Builds s reply entry new
 Does s (Take None) reply entry new =
     (table : List Obligation) × IsTable s.durable.built table × TakesFirst s table reply new × (entry ≡ None)
 Does s (Take (Some name)) reply entry new =
@@ -135,7 +142,8 @@ Does s (Finish number attempt) reply entry new =
     ⊎ ((before : List Ticket) × (ticket : Ticket) × (behind : List Ticket) × (s.out ≡ before ++ ticket ∷ behind) × (ticket.number ≡ number)
     × Finishes (record s { out = before ++ behind }) table ticket attempt reply entry new))
 Does s (Ask AskFaults) reply entry new =
-    (faults : List FaultLine) × AreFaults s.durable.built faults × (reply ≡ Faults faults []) × (entry ≡ None) × (new ≡ s)
+    (faults : List FaultLine) × (warnings : List (List ℕ × List ℕ)) × AreFaults s.durable.built faults × AreWarnings s.durable.built warnings
+    × (reply ≡ Faults faults warnings) × (entry ≡ None) × (new ≡ s)
 Does s (Ask AskStatuses) reply entry new =
     (table : List Obligation) × (shown : List (List ℕ × Status)) × IsTable s.durable.built table × AllZip (Shows s.durable.proofs) table shown
     × (reply ≡ Statuses shown) × (entry ≡ None) × (new ≡ s)

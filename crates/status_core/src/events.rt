@@ -1,10 +1,7 @@
 // Events, their replies, and what they add to the record of a project.
-ghost use Rattle.std.specs.Prelude.{◌≡◌, IfOk};
-
-use formula_core::{List, Name, OutOfMemory, PoName, Text};
-use model_core::Fault;
+use build_core::FaultLine;
+use formula_core::{List, Name, PoName, Text};
 use sequent_core::{Attempt, Ticket, Tree};
-use std::alloc::Global;
 
 /// What is known of an obligation's stored proof.
 #[derive(Debug, PartialEq, Eq, Clone, Copy)]
@@ -53,33 +50,6 @@ pub enum Entry {
     SetProof(PoName, Tree),
 }
 
-/// A fault with the line and the column of its place in the built text, both from 1, columns in characters.
-#[derive(Drop)]
-pub struct FaultLine {
-    pub fault: Fault,
-    pub line: u32,
-    pub column: u32,
-}
-
-impl FaultLine {
-    /// A copy.
-    pub fn copy(&self, alloc: Global) -> Result<FaultLine, OutOfMemory>
-        ensures { IfOk result (λ copy. copy ≡ self.now) }
-    {
-        let fault = Fault {
-            component: self.fault.component.copy(alloc)?,
-            kind: self.fault.kind,
-            place: self.fault.place,
-            words: self.fault.words.copy(alloc)?,
-        };
-        Ok(FaultLine {
-            fault,
-            line: self.line,
-            column: self.column,
-        })
-    }
-}
-
 /// The reply to an event.
 #[derive(Drop)]
 pub enum Reply {
@@ -89,6 +59,8 @@ pub enum Reply {
     Edited(Name),
     /// The numbers of components, of faulted ones, and of obligations.
     Built(u32, u32, u32),
+    /// The sequents of the texts' table have at least so many formula nodes, more than a table may have.
+    TableFull(u64),
     NoObligation(PoName),
     Nothing,
     Taken(Ticket),
@@ -100,5 +72,6 @@ pub enum Reply {
     Refused(PoName, Option<Status>),
     Stale(PoName, Option<Status>),
     Statuses(List<(PoName, Status)>),
+    /// The faults, and the warnings: a machine, and an event of its abstraction that none of its events refines.
     Faults(List<FaultLine>, List<(Name, Name)>),
 }

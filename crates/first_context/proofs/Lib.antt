@@ -1,9 +1,0 @@
-pub mod Answers
-pub mod Checking
-pub mod Collecting
-pub mod OneWay
-pub mod Places
-pub mod Predicates
-pub mod Promises
-pub mod Spelling
-pub mod Typing

@@ -1,4 +1,0 @@
-pub mod Checked
-pub mod Collecting
-pub mod FirstContexts
-pub mod Typing
