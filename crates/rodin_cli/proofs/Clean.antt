@@ -23,9 +23,9 @@ use Rattle.status_core.specs.State.{State}
 use Rattle.status_core.specs.Table.{IsTable}
 use Rattle.status_core.specs.Step.{Does}
 use Rattle.status_core.specs.Run.{Exchange, Run}
-use Rattle.rodin_cli.specs.Parts.{Component}
+use Rattle.check_input.specs.Inputs.{Component}
 use Rattle.rodin_cli.specs.Script.{IsWhole}
-use Rattle.rodin_cli.specs.Check.{TellsFaults, IsCleanRebuild, IsProved, IsProvedWhereDischarged}
+use Rattle.rodin_cli.specs.Check.{TellsFaults, TellsWarnings, IsCleanRebuild, IsProved, IsProvedWhereDischarged}
 use Rattle.rodin_cli.proofs.Sessions.{Run-split}
 
 same_shown : (shown shown' : List (List ℕ × Status)) → Statuses shown ≡ Statuses shown' → shown' ≡ shown
@@ -40,30 +40,33 @@ asked s b event reply entry shown e r d =
       subst (λ t. AllZip (Shows t.durable.proofs) d2.0 shown) (sym d2.6) (subst (λ l. AllZip (Shows s.durable.proofs) d2.0 l) (same_shown shown d2.1 d2.4) d2.3),
     )
 
-same_told : (told told' : List FaultLine) → Faults told [] ≡ Faults told' [] → told' ≡ told
-same_told told told' e = cc
+same_told : (told told' : List FaultLine) (warned warned' : List (List ℕ × List ℕ)) → Faults told warned ≡ Faults told' warned' → (told' ≡ told) × (warned' ≡ warned)
+same_told told told' warned warned' e = (cc, cc)
 
-asked_faults : (s b : State) (event : Event) (reply : Reply) (entry : Option Entry) (told : List FaultLine) →
-    event ≡ Ask AskFaults → reply ≡ Faults told [] → Does s event reply entry b → TellsFaults b.durable told
-asked_faults s b event reply entry told e r d =
-    let d2 : Does s (Ask AskFaults) (Faults told []) entry b = subst (λ q. Does s q (Faults told []) entry b) e (subst (λ q. Does s event q entry b) r d) in
-    subst (λ t. TellsFaults t.durable told) (sym d2.4) (subst (TellsFaults s.durable) (same_told told d2.0 d2.2) d2.1)
+asked_faults : (s b : State) (event : Event) (reply : Reply) (entry : Option Entry) (told : List FaultLine) (warned : List (List ℕ × List ℕ)) →
+    event ≡ Ask AskFaults → reply ≡ Faults told warned → Does s event reply entry b → TellsFaults b.durable told × TellsWarnings b.durable warned
+asked_faults s b event reply entry told warned e r d =
+    let d2 : Does s (Ask AskFaults) (Faults told warned) entry b = subst (λ q. Does s q (Faults told warned) entry b) e (subst (λ q. Does s event q entry b) r d) in
+    let same = same_told told d2.0 warned d2.1 d2.4 in (
+      subst (λ t. TellsFaults t.durable told) (sym d2.6) (subst (TellsFaults s.durable) same.0 d2.2),
+      subst (λ t. TellsWarnings t.durable warned) (sym d2.6) (subst (TellsWarnings s.durable) same.1 d2.3),
+    )
 
--- the last but one of the exchanges tells the faults of the built texts
-pub faults_of : (answers : Sequent → Attempt → Type 0) (sure : Sequent → Type 0) (parts : List Component) (told : List FaultLine) (shown : List (List ℕ × Status)) (exchanges : List Exchange) (s t : State) →
-    IsWhole answers sure parts told shown exchanges → Run s exchanges t → TellsFaults t.durable told
-faults_of answers sure parts told shown exchanges s t w run =
+-- the last but one of the exchanges tells the faults and the warnings of the built texts
+pub told_of : (answers : Sequent → Attempt → Type 0) (sure : Sequent → Type 0) (parts : List Component) (told : List FaultLine) (warned : List (List ℕ × List ℕ)) (shown : List (List ℕ × Status))
+    (exchanges : List Exchange) (s t : State) → IsWhole answers sure parts told warned shown exchanges → Run s exchanges t → TellsFaults t.durable told × TellsWarnings t.durable warned
+told_of answers sure parts told warned shown exchanges s t w run =
     let cut = Run-split s t (w.edits ++ w.build ∷ w.turns) (w.nothing ∷ w.faults ∷ w.statuses ∷ []) (subst (λ xs. Run s xs t) w.in_order run) in
     let r = cut.2 in
-    let faults = asked_faults r.0 r.2.0 w.faults.event w.faults.reply w.faults.entry told w.faults_is.0 w.faults_is.1 r.2.1 in
+    let tells = asked_faults r.0 r.2.0 w.faults.event w.faults.reply w.faults.entry told warned w.faults_is.0 w.faults_is.1 r.2.1 in
     let a : Does r.2.0 (Ask AskStatuses) w.statuses.reply w.statuses.entry r.2.2.0 =
     subst (λ e. Does r.2.0 e w.statuses.reply w.statuses.entry r.2.2.0) w.statuses_is.0 r.2.2.1 in
-    subst (λ u. TellsFaults u.durable told) (sym (r.2.2.2 ∙ a.6)) faults
+    subst (λ u. TellsFaults u.durable told × TellsWarnings u.durable warned) (sym (r.2.2.2 ∙ a.6)) tells
 
 -- the last of the exchanges shows the statuses of a clean rebuild
-pub clean_of : (answers : Sequent → Attempt → Type 0) (sure : Sequent → Type 0) (parts : List Component) (told : List FaultLine) (shown : List (List ℕ × Status)) (exchanges : List Exchange) (s t : State) →
-    IsWhole answers sure parts told shown exchanges → Run s exchanges t → IsCleanRebuild t.durable shown
-clean_of answers sure parts told shown exchanges s t w run =
+pub clean_of : (answers : Sequent → Attempt → Type 0) (sure : Sequent → Type 0) (parts : List Component) (told : List FaultLine) (warned : List (List ℕ × List ℕ)) (shown : List (List ℕ × Status))
+    (exchanges : List Exchange) (s t : State) → IsWhole answers sure parts told warned shown exchanges → Run s exchanges t → IsCleanRebuild t.durable shown
+clean_of answers sure parts told warned shown exchanges s t w run =
     let cut = Run-split s t (w.edits ++ w.build ∷ w.turns) (w.nothing ∷ w.faults ∷ w.statuses ∷ []) (subst (λ xs. Run s xs t) w.in_order run) in
     let r = cut.2 in
     let shows = asked r.2.0 r.2.2.0 w.statuses.event w.statuses.reply w.statuses.entry shown w.statuses_is.0 w.statuses_is.1 r.2.2.1 in

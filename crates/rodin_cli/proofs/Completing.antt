@@ -21,17 +21,17 @@ use Rattle.status_core.specs.declared.Entry.TheVariants.{SetProof}
 use Rattle.status_core.specs.declared.Event.TheVariants.{Take, Finish}
 use Rattle.status_core.specs.declared.Reply.{Reply}
 use Rattle.status_core.specs.declared.Reply.TheVariants.{Taken, Nothing, NoTicket, Noted, NoMemory, Stored, Refused, Stale}
-use Rattle.status_core.specs.Table.{IsTable, IsPresent, HasDistinctPoNames}
+use Rattle.status_core.specs.Table.{IsTable, IsPresent, HasDistinctPoNames, HasDistinctTable}
 use Rattle.status_core.specs.Status.{IsStatus, IsUnsettled, IsUnsettledBy}
 use Rattle.status_core.specs.State.{State, entered, IsFresh}
 use Rattle.status_core.specs.Step.{Does, Finishes, CanStore, IsOpen, IsFor, TakesFirst, ticket_for, tried_with}
 use Rattle.status_core.specs.Run.{Exchange, Run, IsLegal}
 use Rattle.status_core.proofs.Alls.{all_both, all_last, all_so, all_so_both}
 use Rattle.status_core.proofs.NameMaps.{get_same, get_other}
-use Rattle.status_core.proofs.OneTable.{one_table, distinct_table}
 use Rattle.status_core.proofs.Tables.{present_one}
-use Rattle.rodin_cli.specs.Script.{IsTurn, AreTurns}
+use Rattle.rodin_cli.specs.Script.{IsAttempted, IsTurn, AreTurns}
 use Rattle.rodin_cli.specs.Completeness.{LacksMemory, HasNoMemory}
+use Rattle.rodin_cli.proofs.OneTable.{one_table, distinct_table}
 
 -- LISTS CUT AT THE FIRST ELEMENT WITH A PROPERTY
 
@@ -287,11 +287,16 @@ module _ (answers : Sequent → Attempt → Type 0) (sure : Sequent → Type 0) 
       subst (λ os. Finishes (record m { out = [] }) os (ticket_for s.next o) attempt reply entry t) (one_table s.durable.built table' (before ++ o ∷ behind) is table) f3 in
       finished before o behind s t xs ys attempt reply entry distinct worked more worked.legal legal fair memory f4
 
+  -- on a sure sequent the attempt is good
+  good_attempt : (s : Sequent) (attempt : Attempt) → IsAttempted answers sure s attempt → sure s → IsGood attempt s
+  good_attempt s attempt (inl typed) is = typed.1.1 is
+  good_attempt s attempt (inr untyped) is = subst (λ a. IsGood a s) (sym untyped.1) tt
+
   -- a turn works on the next obligation
   pub turned : (before ahead : List Obligation) (s t : State) (xs : List Exchange) (x y : Exchange) →
       IsTable s.durable.built (before ++ ahead) → HasDistinctPoNames (before ++ ahead) → Worked sure before ahead s xs → IsTurn answers sure x y → Run s (x ∷ y ∷ []) t →
       Turned sure before ahead s t (xs ++ x ∷ y ∷ [])
-  turned before ahead s t xs x y table distinct worked (ticket, attempt, takes, given, finishes, fair) (m, first, (n, second, last)) =
+  turned before ahead s t xs x y table distinct worked (ticket, attempt, takes, given, finishes, attempted) (m, first, (n, second, last)) =
       let d : Does s (Take None) (Taken ticket) x.entry m = subst (λ r. Does s (Take None) r x.entry m) given (subst (λ e. Does s e x.reply x.entry m) takes first) in
       let taken : TakesFirst s (before ++ ahead) (Taken ticket) m =
       subst (λ os. TakesFirst s os (Taken ticket) m) (one_table s.durable.built d.0 (before ++ ahead) d.1 table) d.2 in
@@ -304,7 +309,7 @@ module _ (answers : Sequent → Attempt → Type 0) (sure : Sequent → Type 0) 
       (λ q has. has_behind q xs (x ∷ y ∷ []) has)
       (λ legal. all_both (λ z. (number : ℕ) → z.reply ≢ NoTicket number) xs (x ∷ y ∷ []) worked.legal
       ((λ number e. let no : Taken ticket ≡ NoTicket number = sym given ∙ e in cc), (legal, tt)))
-      (subst (λ k. sure k.sequent → IsGood attempt k.sequent) is fair.1)
+      (subst (λ k. sure k.sequent → IsGood attempt k.sequent) is (good_attempt ticket.sequent attempt attempted))
       (λ lacks. has_before o xs (x ∷ y ∷ [])
       (inl (ticket, given, (ap (λ k. k.name) is, ap (λ k. k.sequent) is), finishes ∙ ap (λ a. Finish ticket.number a) lacks)))
       (subst (λ u. Does (record s { out = ticket_for s.next o ∷ []; next = s.next + 1 }) (Finish s.next attempt) y.reply y.entry u) (sym last)
@@ -358,8 +363,8 @@ fresh_worked sure table s fresh = record {
 
 -- turns from a fresh state are no more than there are obligations, and each takes the next number
 pub turns_bound : (answers : Sequent → Attempt → Type 0) (sure : Sequent → Type 0) (turns : List Exchange) (table : List Obligation) (s t : State) (r : ℕ) →
-    IsFresh s → IsTable s.durable.built table → AreTurns answers sure turns → Run s turns t → length turns ≡ 2 * r → (r ≤ length table) × (t.next ≡ r + 1)
-turns_bound answers sure turns table s t r fresh is are run count =
-    let w = turns_worked answers sure turns [] table s t [] is (distinct_table s.durable.built table is) (fresh_worked sure table s fresh) are run in
+    IsFresh s → HasDistinctTable s.durable.built → IsTable s.durable.built table → AreTurns answers sure turns → Run s turns t → length turns ≡ 2 * r → (r ≤ length table) × (t.next ≡ r + 1)
+turns_bound answers sure turns table s t r fresh distinct is are run count =
+    let w = turns_worked answers sure turns [] table s t [] is (distinct_table s.durable.built table is distinct) (fresh_worked sure table s fresh) are run in
     let done : r ≡ length w.0 = omega (arith, count, w.5) in
     (omega (arith, done, ap length w.2, length-append w.0 w.1), w.3.next ∙ ap (λ n. n + 1) (sym done))

@@ -1,13 +1,19 @@
--- The edits of a front of the parts.
-use Rattle.std.proofs.Common.{◌≡◌, ◌∙◌, sym, ap, subst, List, [], ◌∷◌, ◌++◌, length, map, take, drop}
+-- The edits of the parts, and the build.
+use Rattle.std.proofs.Common.{◌≡◌, ◌∙◌, refl, sym, ap, subst, inl, inr, ℕ, Bool, true, false, IsTrue, List, [], ◌∷◌, ◌++◌, length, map, take, drop}
+use Rattle.std.specs.Prelude.{Option, MatchBool}
 use Rattle.std.proofs.lemmas.List.{append-nil, map-id, take-append-drop}
-use Rattle.status_core.specs.declared.Event.TheVariants.{Edit}
+use Rattle.status_core.specs.declared.Entry.{Entry}
+use Rattle.status_core.specs.declared.Event.TheVariants.{Edit, Build}
+use Rattle.status_core.specs.declared.Reply.{Reply}
+use Rattle.status_core.specs.declared.Reply.TheVariants.{TableFull}
+use Rattle.status_core.specs.State.{State}
+use Rattle.status_core.specs.Step.{Does}
 use Rattle.status_core.specs.Run.{Exchange}
 use Rattle.rodin_cli.specs.declared.session.Session.{Session}
-use Rattle.rodin_cli.specs.Parts.{Component}
-use Rattle.rodin_cli.specs.Script.{AreEdits, AreFirstEdits}
-use Rattle.rodin_cli.specs.Session.{Extends, IsUnchanged}
-use Rattle.rodin_cli.proofs.Sessions.{both, unchanged}
+use Rattle.check_input.specs.Inputs.{Component}
+use Rattle.rodin_cli.specs.Script.{AreEdits, AreFirstEdits, IsBuiltReply, IsFull}
+use Rattle.rodin_cli.specs.Session.{Extends, IsUnchanged, Performs}
+use Rattle.rodin_cli.proofs.Sessions.{both, unchanged, performed}
 
 first_of : (parts others : List Component) (edits : List Exchange) → AreEdits parts edits → AreFirstEdits (parts ++ others) edits
 first_of [] others [] are = tt
@@ -33,3 +39,24 @@ one_more_edit (p ∷ parts) part (y ∷ edits) x are is = (are.0, one_more_edit 
 
 pub then_unchanged : (a b c : Session) (xs : List Exchange) → Extends a xs b → IsUnchanged b c → Extends a xs c
 then_unchanged a b c xs p same = subst (λ ys. Extends a ys c) (append-nil xs) (both a b c xs [] p (unchanged b c same))
+
+full_nodes : (s t : State) (reply : Reply) (entry : Option Entry) → Does s Build reply entry t → (IsBuiltReply reply → ⊥) → (n : ℕ) × (reply ≡ TableFull n)
+full_nodes s t reply entry (inl d) never = (d.0, d.2)
+full_nodes s t reply entry (inr d) never = absurd (never (_, _, _, d.4))
+
+-- edits and a build, which is refused where the table is too large
+pub built_or_full : (parts : List Component) (a b c : Session) (reply : Reply) (built : Bool) → (edits : List Exchange) × AreEdits parts edits × Extends a edits b →
+    Performs b Build reply c → (IsTrue built → IsBuiltReply reply) × (IsBuiltReply reply → IsTrue built) →
+    MatchBool built
+    ((edits : List Exchange) × (build : Exchange) × AreEdits parts edits × (build.event ≡ Build) × IsBuiltReply build.reply × Extends a (edits ++ build ∷ []) c)
+    ((exchanges : List Exchange) × IsFull parts exchanges × Extends a exchanges c)
+built_or_full parts a b c reply true edited done says =
+    let x = performed b c Build reply done in
+    (edited.0, x.0, edited.1, x.1, subst IsBuiltReply (sym x.2) (says.0 refl), both a b c edited.0 (x.0 ∷ []) edited.2 x.3)
+built_or_full parts a b c reply false edited done says =
+    let x = performed b c Build reply done in
+    let full = full_nodes b.core c.core reply done.0.0 done.0.1 (λ is. let wrong : false ≡ true = says.1 is in cc) in (
+      edited.0 ++ x.0 ∷ [],
+      record { edits = edited.0; build = x.0; nodes = full.0; in_order = refl; edits_are = edited.1; build_is = (x.1, x.2 ∙ full.1) },
+      both a b c edited.0 (x.0 ∷ []) edited.2 x.3,
+    )

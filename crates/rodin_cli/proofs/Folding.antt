@@ -39,7 +39,8 @@ enters s (Edit name text) reply entry t (inl d) = stays s t entry d.2 (ap (λ u.
 enters s (Edit name text) reply entry t (inr (inl d)) = stays s t entry d.3 (ap (λ u. u.durable) d.4)
 enters s (Edit name text) reply entry t (inr (inr (inl d))) = stays s t entry d.4 (ap (λ u. u.durable) d.5)
 enters s (Edit name text) reply entry t (inr (inr (inr d))) = changes s t entry _ d.4 (ap (λ u. u.durable) d.5)
-enters s Build reply entry t d = changes s t entry _ d.5 (ap (λ u. u.durable) d.6)
+enters s Build reply entry t (inl d) = stays s t entry d.3 (ap (λ u. u.durable) d.4)
+enters s Build reply entry t (inr d) = changes s t entry _ d.5 (ap (λ u. u.durable) d.6)
 enters s (Take None) reply entry t (table, is, inl d, none) = stays s t entry none (ap (λ u. u.durable) d.2)
 enters s (Take None) reply entry t (table, is, inr d, none) = stays s t entry none (ap (λ u. u.durable) d.6.1)
 enters s (Take (Some name)) reply entry t (table, is, inl d, none) = stays s t entry none (ap (λ u. u.durable) d.2)
@@ -48,7 +49,7 @@ enters s (Take (Some name)) reply entry t (table, is, inr (sequent, present, inr
 enters s (Finish number attempt) reply entry t (table, is, inl d) = stays s t entry d.2 (ap (λ u. u.durable) d.3)
 enters s (Finish number attempt) reply entry t (table, is, inr (before, ticket, behind, cut, numbered, f)) =
     finish_enters (record s { out = before ++ behind }) table ticket attempt reply entry t f
-enters s (Ask AskFaults) reply entry t d = stays s t entry d.3 (ap (λ u. u.durable) d.4)
+enters s (Ask AskFaults) reply entry t d = stays s t entry d.5 (ap (λ u. u.durable) d.6)
 enters s (Ask AskStatuses) reply entry t d = stays s t entry d.5 (ap (λ u. u.durable) d.6)
 
 -- a run leads to the fold of its entries

@@ -1,5 +1,5 @@
 -- A run of `check` is legal, and leaves nothing unproved that it needn't.
-use Rattle.std.proofs.Common.{◌≡◌, ◌≢◌, ◌∙◌, ◌⊎◌, inl, inr, sym, ap, subst, refl, ℕ, List, [], ◌∷◌, ◌++◌}
+use Rattle.std.proofs.Common.{◌≡◌, ◌≢◌, ◌∙◌, ◌⊎◌, inl, inr, sym, ap, subst, refl, ℕ, List, [], ◌∷◌, ◌++◌, append_assoc}
 use Rattle.std.proofs.lemmas.List.{append-nil}
 use Rattle.std.specs.Prelude.{Option, None}
 use Rattle.sequent_core.specs.declared.Sequent.{Sequent}
@@ -11,18 +11,20 @@ use Rattle.status_core.specs.declared.Entry.{Entry}
 use Rattle.status_core.specs.declared.Event.TheVariants.{Edit, Build, Take, Ask}
 use Rattle.status_core.specs.declared.Question.TheVariants.{Statuses as AskStatuses, Faults as AskFaults}
 use Rattle.status_core.specs.declared.Reply.{Reply}
-use Rattle.status_core.specs.declared.Reply.TheVariants.{BadName, TextTooLong, ProjectFull, Edited, Built, Nothing, Taken, NoTicket, Statuses, Faults}
+use Rattle.status_core.specs.declared.Reply.TheVariants.{BadName, TextTooLong, ProjectFull, Edited, Built, TableFull, Nothing, Taken, NoTicket, Statuses, Faults}
 use Rattle.status_core.specs.Status.{IsUnsettledBy}
-use Rattle.status_core.specs.Table.{IsTable}
+use Rattle.status_core.specs.Table.{IsTable, HasDistinctTable}
 use Rattle.status_core.specs.State.{State, opened, no_texts, IsFresh}
-use Rattle.status_core.specs.Step.{Does, Edits, TakesFirst, ticket_for}
+use Rattle.status_core.specs.Step.{Does, Edits, Builds, TakesFirst, ticket_for}
 use Rattle.status_core.specs.Run.{Exchange, Step, Run, IsLegal}
 use Rattle.status_core.proofs.Alls.{all_both, all_so}
-use Rattle.status_core.proofs.OneTable.{one_table, distinct_table}
-use Rattle.rodin_cli.specs.Parts.{Component}
-use Rattle.rodin_cli.specs.Script.{AreEdits, AreFirstEdits, AreTurns, IsEndFront, IsWhole, IsFront}
+use Rattle.check_input.specs.Inputs.{Component}
+use Rattle.rodin_cli.specs.declared.session.Session.{Session}
+use Rattle.rodin_cli.specs.Session.{Extends, IsUnchanged}
+use Rattle.rodin_cli.specs.Script.{AreEdits, AreFirstEdits, AreTurns, IsEndFront, IsBuiltReply, IsFull, IsWhole, IsFront}
 use Rattle.rodin_cli.specs.Completeness.{HasNoMemory, IsComplete}
-use Rattle.rodin_cli.proofs.Sessions.{Run-split}
+use Rattle.rodin_cli.proofs.OneTable.{one_table, distinct_table}
+use Rattle.rodin_cli.proofs.Sessions.{Run-both, Run-split, both, unchanged, regrouped, regrouped_asked, regrouped_whole}
 use Rattle.rodin_cli.proofs.Completing.{Worked, IsDone, turns_worked, fresh_worked, nothing_left, has_before, has_behind}
 
 -- the reply isn't that no such ticket is out
@@ -54,19 +56,28 @@ edits_fresh (part ∷ parts) (x ∷ edits) s t are run fresh =
     let rest = edits_fresh parts edits run.0 t are.1 run.2 one.0 in
     (rest.0, (one.1, rest.1))
 
-first_edits_legal : (parts : List Component) (edits : List Exchange) (s t : State) → AreFirstEdits parts edits → Run s edits t → IsFresh s → IsLegal edits
+-- the first edits of a run are legal
+pub first_edits_legal : (parts : List Component) (edits : List Exchange) (s t : State) → AreFirstEdits parts edits → Run s edits t → IsFresh s → IsLegal edits
 first_edits_legal parts [] s t are run fresh = tt
 first_edits_legal [] (x ∷ edits) s t are run fresh = absurd are
 first_edits_legal (part ∷ parts) (x ∷ edits) s t are run fresh =
     let one = edit_step s run.0 x part.0 part.1 are.0 run.1 fresh in
     (one.1, first_edits_legal parts edits run.0 t are.1 run.2 one.0)
 
+built_step : (s t : State) (reply : Reply) (entry : Option Entry) → Builds s reply entry t → IsFresh s → IsFresh t × IsLegalReply reply
+built_step s t reply entry (inl d) fresh = (subst IsFresh (sym d.4) fresh, λ n e. let no : TableFull d.0 ≡ NoTicket n = sym d.2 ∙ e in cc)
+built_step s t reply entry (inr d) fresh = (
+  subst IsFresh (sym d.6) (record { proofs = fresh.proofs; out = fresh.out; tried = fresh.tried; next = fresh.next }),
+  λ n e. let no : Built _ _ _ ≡ NoTicket n = sym d.4 ∙ e in cc,
+)
+
 build_step : (s t : State) (x : Exchange) → x.event ≡ Build → Step s x t → IsFresh s → IsFresh t × IsLegalReply x.reply
-build_step s t x e d fresh =
-    let b : Does s Build x.reply x.entry t = subst (λ q. Does s q x.reply x.entry t) e d in (
-      subst IsFresh (sym b.6) (record { proofs = fresh.proofs; out = fresh.out; tried = fresh.tried; next = fresh.next }),
-      λ n f. let no : Built _ _ _ ≡ NoTicket n = sym b.4 ∙ f in cc,
-    )
+build_step s t x e d fresh = built_step s t x.reply x.entry (subst (λ q. Does s q x.reply x.entry t) e d) fresh
+
+-- where the texts are built, they have a table
+built_table : (s t : State) (reply : Reply) (entry : Option Entry) → Builds s reply entry t → IsBuiltReply reply → (table : List Obligation) × IsTable t.durable.built table
+built_table s t reply entry (inl d) (components, faulted, obligations, is) = let no : TableFull d.0 ≡ Built components faulted obligations = sym d.2 ∙ is in cc
+built_table s t reply entry (inr d) built = (d.0, subst (λ u. IsTable u.durable.built d.0) (sym d.6) d.2.0)
 
 take_step : (s t : State) (x : Exchange) → x.event ≡ Take None → Step s x t → IsLegalReply x.reply
 take_step s t x e d n f = by (subst (λ q. Does s q x.reply x.entry t) e d) where
@@ -77,7 +88,7 @@ take_step s t x e d n f = by (subst (λ q. Does s q x.reply x.entry t) e d) wher
 ask_faults_step : (s t : State) (x : Exchange) → x.event ≡ Ask AskFaults → Step s x t → IsLegalReply x.reply
 ask_faults_step s t x e d n f =
     let a : Does s (Ask AskFaults) x.reply x.entry t = subst (λ q. Does s q x.reply x.entry t) e d in
-    let no : Faults a.0 [] ≡ NoTicket n = sym a.2 ∙ f in cc
+    let no : Faults a.0 a.1 ≡ NoTicket n = sym a.4 ∙ f in cc
 
 ask_statuses_step : (s t : State) (x : Exchange) → x.event ≡ Ask AskStatuses → Step s x t → IsLegalReply x.reply
 ask_statuses_step s t x e d n f =
@@ -110,34 +121,34 @@ module _ (answers : Sequent → Attempt → Type 0) (sure : Sequent → Type 0) 
     pub ahead : List Obligation
     pub table : IsTable t.durable.built (before ++ ahead)
     pub worked : Worked sure before ahead t turns
-    pub legal : IsLegal (edits ++ build ∷ turns)
+    pub legal : IsLegal ((edits ++ build ∷ []) ++ turns)
 
-  begun : (parts : List Component) (edits : List Exchange) (build : Exchange) (turns : List Exchange) (t : State) →
-      AreEdits parts edits → build.event ≡ Build → AreTurns answers sure turns → Run (opened no_texts) (edits ++ build ∷ turns) t → Begun edits build turns t
-  begun parts edits build turns t are is turned run =
-      let cut = Run-split (opened no_texts) t edits (build ∷ turns) run in
-      let s = cut.0 in
-      let m = cut.2.0 in
-      let edited = edits_fresh parts edits (opened no_texts) s are cut.1 opened_fresh in
-      let built = build_step s m build is cut.2.1 edited.0 in
-      let b : Does s Build build.reply build.entry m = subst (λ q. Does s q build.reply build.entry m) is cut.2.1 in
-      let table : IsTable m.durable.built b.0 = subst (λ u. IsTable u.durable.built b.0) (sym b.6) b.2 in
-      let w = turns_worked answers sure turns [] b.0 m t [] table (distinct_table m.durable.built b.0 table) (fresh_worked sure b.0 m built.0) turned cut.2.2 in
-      record {
-        before = w.0;
-        ahead = w.1;
-        table = subst (λ os. IsTable t.durable.built os) w.2 (subst (λ p. IsTable p b.0) (sym w.4) table);
-        worked = w.3;
-        legal = all_both (λ x. IsLegalReply x.reply) edits (build ∷ turns) edited.1 (built.1, w.3.legal);
-      }
+  module _ (parts : List Component) (edits : List Exchange) (build : Exchange) (s m : State) (empty : s ≡ opened no_texts) (are : AreEdits parts edits) (is : build.event ≡ Build)
+      (replied : IsBuiltReply build.reply) (run : Run s (edits ++ build ∷ []) m) (distinct : HasDistinctTable m.durable.built) where
+    begun : (turns : List Exchange) (t : State) → AreTurns answers sure turns → Run m turns t → Begun edits build turns t
+    begun turns t turned rest =
+        let cut = Run-split s m edits (build ∷ []) run in
+        let edited = edits_fresh parts edits s cut.0 are cut.1 (subst IsFresh (sym empty) opened_fresh) in
+        let last : m ≡ cut.2.0 = cut.2.2 in
+        let step : Step cut.0 build m = subst (λ u. Step cut.0 build u) (sym last) cut.2.1 in
+        let built = build_step cut.0 m build is step edited.0 in
+        let b = built_table cut.0 m build.reply build.entry (subst (λ q. Does cut.0 q build.reply build.entry m) is step) replied in
+        let w = turns_worked answers sure turns [] b.0 m t [] b.1 (distinct_table m.durable.built b.0 b.1 distinct) (fresh_worked sure b.0 m built.0) turned rest in
+        record {
+          before = w.0;
+          ahead = w.1;
+          table = subst (λ os. IsTable t.durable.built os) w.2 (subst (λ p. IsTable p b.0) (sym w.4) b.1);
+          worked = w.3;
+          legal = all_both (λ x. IsLegalReply x.reply) (edits ++ build ∷ []) turns (all_both (λ x. IsLegalReply x.reply) edits (build ∷ []) edited.1 (built.1, tt)) w.3.legal;
+        }
 
-  -- a front of a run of `check` is legal
-  pub front_legal : (parts : List Component) (exchanges : List Exchange) (t : State) → IsFront answers sure parts exchanges → Run (opened no_texts) exchanges t → IsLegal exchanges
-  front_legal parts exchanges t (inl are) run = first_edits_legal parts exchanges (opened no_texts) t are run opened_fresh
-  front_legal parts exchanges t (inr f) run =
-      let cut = Run-split (opened no_texts) t (f.0 ++ f.1 ∷ f.2) f.3 (subst (λ xs. Run (opened no_texts) xs t) f.4 run) in
-      let begins = begun parts f.0 f.1 f.2 cut.0 f.5 f.6 f.7 cut.1 in
-      subst IsLegal (sym f.4) (all_both (λ x. IsLegalReply x.reply) (f.0 ++ f.1 ∷ f.2) f.3 begins.legal (end_legal f.3 cut.0 t f.8 cut.2))
+    -- a front of a run of `check` is legal
+    pub front_legal : (turns end : List Exchange) (t : State) → AreTurns answers sure turns → IsEndFront end → Run m (turns ++ end) t → IsLegal ((edits ++ build ∷ []) ++ (turns ++ end))
+    front_legal turns end t turned ends rest =
+        let cut = Run-split m t turns end rest in
+        let begins = begun turns cut.0 turned cut.1 in
+        subst IsLegal (append_assoc (edits ++ build ∷ []) turns end)
+        (all_both (λ x. IsLegalReply x.reply) ((edits ++ build ∷ []) ++ turns) end begins.legal (end_legal end cut.0 t ends cut.2))
 
   left_over : (s : State) (turns exchanges : List Exchange) (o : Obligation) → (HasNoMemory o turns → HasNoMemory o exchanges) → IsDone sure s turns o →
       IsUnsettledBy s.durable.proofs o → (sure o.sequent → ⊥) ⊎ HasNoMemory o exchanges
@@ -146,33 +157,44 @@ module _ (answers : Sequent → Attempt → Type 0) (sure : Sequent → Type 0) 
   left_over s turns exchanges o more (inr (tried, inr has)) unsettled = inr (more has)
 
   -- a whole run leaves no sure obligation unproved, unless memory ran out over it
-  pub whole_complete : (parts : List Component) (told : List FaultLine) (shown : List (List ℕ × Status)) (exchanges : List Exchange) (t : State) →
-      IsWhole answers sure parts told shown exchanges → Run (opened no_texts) exchanges t → IsComplete sure t.durable exchanges
-  whole_complete parts told shown exchanges t w run =
-      let end = w.nothing ∷ w.faults ∷ w.statuses ∷ [] in
-      let cut = Run-split (opened no_texts) t (w.edits ++ w.build ∷ w.turns) end (subst (λ xs. Run (opened no_texts) xs t) w.in_order run) in
+  pub whole_complete : (parts : List Component) (edits : List Exchange) (build : Exchange) (s m : State) → s ≡ opened no_texts → AreEdits parts edits → build.event ≡ Build →
+      IsBuiltReply build.reply → Run s (edits ++ build ∷ []) m → HasDistinctTable m.durable.built →
+      (turns : List Exchange) (nothing faults statuses : Exchange) (t : State) → AreTurns answers sure turns → nothing.event ≡ Take None → nothing.reply ≡ Nothing →
+      faults.event ≡ Ask AskFaults → statuses.event ≡ Ask AskStatuses → Run m (turns ++ nothing ∷ faults ∷ statuses ∷ []) t →
+      IsComplete sure t.durable ((edits ++ build ∷ turns) ++ nothing ∷ faults ∷ statuses ∷ [])
+  whole_complete parts edits build a m empty are is replied run distinct turns nothing faults statuses t turned taken none asked shown rest =
+      let end = nothing ∷ faults ∷ statuses ∷ [] in
+      let cut = Run-split m t turns end rest in
       let s = cut.0 in
-      let m = cut.2.0 in
-      let begins = begun parts w.edits w.build w.turns s w.edits_are w.build_is w.turns_are cut.1 in
-      let d : Does s (Take None) Nothing w.nothing.entry m =
-      subst (λ r. Does s (Take None) r w.nothing.entry m) w.nothing_is.1 (subst (λ e. Does s e w.nothing.reply w.nothing.entry m) w.nothing_is.0 cut.2.1) in
-      let nothing : TakesFirst s (begins.before ++ begins.ahead) Nothing m =
-      subst (λ os. TakesFirst s os Nothing m) (one_table s.durable.built d.0 (begins.before ++ begins.ahead) d.1 begins.table) d.2 in
-      let left = nothing_left sure begins.before begins.ahead s m w.turns begins.worked nothing in
+      let k = cut.2.0 in
+      let begins = begun parts edits build a m empty are is replied run distinct turns s turned cut.1 in
+      let d : Does s (Take None) Nothing nothing.entry k =
+      subst (λ r. Does s (Take None) r nothing.entry k) none (subst (λ e. Does s e nothing.reply nothing.entry k) taken cut.2.1) in
+      let first : TakesFirst s (begins.before ++ begins.ahead) Nothing k =
+      subst (λ os. TakesFirst s os Nothing k) (one_table s.durable.built d.0 (begins.before ++ begins.ahead) d.1 begins.table) d.2 in
+      let left = nothing_left sure begins.before begins.ahead s k turns begins.worked first in
       let n = cut.2.2.0 in
-      let f : Does m (Ask AskFaults) w.faults.reply w.faults.entry n = subst (λ e. Does m e w.faults.reply w.faults.entry n) w.faults_is.0 cut.2.2.1 in
+      let f : Does k (Ask AskFaults) faults.reply faults.entry n = subst (λ e. Does k e faults.reply faults.entry n) asked cut.2.2.1 in
       let q = cut.2.2.2.0 in
-      let a : Does n (Ask AskStatuses) w.statuses.reply w.statuses.entry q = subst (λ e. Does n e w.statuses.reply w.statuses.entry q) w.statuses_is.0 cut.2.2.2.1 in
-      let same : t ≡ s = cut.2.2.2.2 ∙ a.6 ∙ f.4 ∙ left.1 in
+      let g : Does n (Ask AskStatuses) statuses.reply statuses.entry q = subst (λ e. Does n e statuses.reply statuses.entry q) shown cut.2.2.2.1 in
+      let same : t ≡ s = cut.2.2.2.2 ∙ g.6 ∙ f.6 ∙ left.1 in
       let whole : begins.before ++ begins.ahead ≡ begins.before = ap (λ os. begins.before ++ os) left.0 ∙ append-nil begins.before in
-      subst (λ u. IsComplete sure u.durable exchanges) (sym same) (
+      subst (λ u. IsComplete sure u.durable ((edits ++ build ∷ turns) ++ end)) (sym same) (
         begins.before,
         subst (λ os. IsTable s.durable.built os) whole begins.table,
-        all_so (IsDone sure s w.turns) (λ o. IsUnsettledBy s.durable.proofs o → (sure o.sequent → ⊥) ⊎ HasNoMemory o exchanges)
-            (λ o done. left_over s w.turns exchanges o
-            (λ has. subst (HasNoMemory o) (sym w.in_order) (has_behind o (w.edits ++ w.build ∷ w.turns) end (has_before o w.edits (w.build ∷ w.turns) (inr has)))) done)
+        all_so (IsDone sure s turns) (λ o. IsUnsettledBy s.durable.proofs o → (sure o.sequent → ⊥) ⊎ HasNoMemory o ((edits ++ build ∷ turns) ++ end))
+            (λ o done. left_over s turns ((edits ++ build ∷ turns) ++ end) o
+            (λ has. has_behind o (edits ++ build ∷ turns) end (has_before o edits (build ∷ turns) (inr has))) done)
             begins.before begins.worked.past,
       )
+
+-- a run whose table is too large is legal
+pub full_legal : (parts : List Component) (exchanges : List Exchange) (t : State) → IsFull parts exchanges → Run (opened no_texts) exchanges t → IsLegal exchanges
+full_legal parts exchanges t w run =
+    let cut = Run-split (opened no_texts) t w.edits (w.build ∷ []) (subst (λ xs. Run (opened no_texts) xs t) w.in_order run) in
+    let edited = edits_fresh parts w.edits (opened no_texts) cut.0 w.edits_are cut.1 opened_fresh in
+    let built = build_step cut.0 cut.2.0 w.build w.build_is.0 cut.2.1 edited.0 in
+    subst IsLegal (sym w.in_order) (all_both (λ x. IsLegalReply x.reply) w.edits (w.build ∷ []) edited.1 (built.1, tt))
 
 -- edits and a build leave the empty project fresh
 pub begun_fresh : (parts : List Component) (edits : List Exchange) (build : Exchange) (s t : State) → s ≡ opened no_texts → AreEdits parts edits → build.event ≡ Build →
@@ -181,3 +203,58 @@ begun_fresh parts edits build s t empty are is run =
     let cut = Run-split s t edits (build ∷ []) run in
     let edited = edits_fresh parts edits s cut.0 are cut.1 (subst IsFresh (sym empty) opened_fresh) in
     subst IsFresh (sym cut.2.2) (build_step cut.0 cut.2.0 build is cut.2.1 edited.0).0
+
+-- AFTER THE TURNS
+
+module _ (answers : Sequent → Attempt → Type 0) (sure : Sequent → Type 0) (parts : List Component) (a b c d : Session)
+    (edits : List Exchange) (build : Exchange) (turns : List Exchange) (nothing : Exchange) (empty : a.core ≡ opened no_texts)
+    (are : AreEdits parts edits) (is : build.event ≡ Build) (replied : IsBuiltReply build.reply) (distinct : HasDistinctTable b.core.durable.built) (turned : AreTurns answers sure turns)
+    (taken : nothing.event ≡ Take None) (left : nothing.reply ≡ Nothing) (p : Extends a (edits ++ build ∷ []) b) (q : Extends b (turns ++ nothing ∷ []) c) where
+  so_far : IsLegal ((edits ++ build ∷ []) ++ (turns ++ nothing ∷ []))
+  so_far = front_legal answers sure parts edits build a.core b.core empty are is replied p.0 distinct turns (nothing ∷ []) c.core turned taken q.0
+
+  -- nothing is left, and the questions fail
+  pub front_of_asking : (IsUnchanged c d ⊎ ((x : Exchange) × (x.event ≡ Ask AskFaults) × Extends c (x ∷ []) d)) →
+      (exchanges : List Exchange) × IsFront answers sure parts exchanges × IsLegal exchanges × Extends a exchanges d
+  front_of_asking (inl same) = (
+    (edits ++ build ∷ []) ++ (turns ++ nothing ∷ []),
+    inr (edits, build, turns, nothing ∷ [], regrouped edits build turns (nothing ∷ []), are, is, replied, turned, taken),
+    so_far,
+    subst (λ xs. Extends a xs d) (append-nil _) (both a c d _ [] (both a b c _ _ p q) (unchanged c d same)),
+  )
+  front_of_asking (inr asked) = (
+    ((edits ++ build ∷ []) ++ (turns ++ nothing ∷ [])) ++ (asked.0 ∷ []),
+    inr (edits, build, turns, nothing ∷ asked.0 ∷ [], regrouped_asked edits build turns nothing asked.0, are, is, replied, turned, (taken, left, asked.1)),
+    all_both (λ x. IsLegalReply x.reply) ((edits ++ build ∷ []) ++ (turns ++ nothing ∷ [])) (asked.0 ∷ []) so_far
+        (ask_faults_step c.core asked.2.0.0 asked.0 asked.1 asked.2.0.1, tt),
+    both a c d _ (asked.0 ∷ []) (both a b c _ _ p q) asked.2,
+  )
+
+  -- nothing is left, and the questions are answered
+  pub whole_of_asking : (told : List FaultLine) (warned : List (List ℕ × List ℕ)) (shown : List (List ℕ × Status)) (x y : Exchange) →
+      x.event ≡ Ask AskFaults → x.reply ≡ Faults told warned → y.event ≡ Ask AskStatuses → y.reply ≡ Statuses shown → Extends c (x ∷ y ∷ []) d →
+      (exchanges : List Exchange) × IsWhole answers sure parts told warned shown exchanges × IsLegal exchanges × IsComplete sure d.core.durable exchanges × Extends a exchanges d
+  whole_of_asking told warned shown x y asks tells asks_more shows r = (
+    (edits ++ build ∷ turns) ++ nothing ∷ x ∷ y ∷ [],
+    record {
+      edits = edits;
+      build = build;
+      turns = turns;
+      nothing = nothing;
+      faults = x;
+      statuses = y;
+      in_order = refl;
+      edits_are = are;
+      build_is = (is, replied);
+      turns_are = turned;
+      nothing_is = (taken, left);
+      faults_is = (asks, tells);
+      statuses_is = (asks_more, shows);
+    },
+    subst IsLegal (regrouped_whole edits build turns nothing x y)
+        (all_both (λ z. IsLegalReply z.reply) ((edits ++ build ∷ []) ++ (turns ++ nothing ∷ [])) (x ∷ y ∷ []) so_far
+        (ask_faults_step c.core r.0.0 x asks r.0.1, (ask_statuses_step r.0.0 r.0.2.0 y asks_more r.0.2.1, tt))),
+    whole_complete answers sure parts edits build a.core b.core empty are is replied p.0 distinct turns nothing x y d.core turned taken left asks asks_more
+        (subst (λ xs. Run b.core xs d.core) (append_assoc turns (nothing ∷ []) (x ∷ y ∷ [])) (Run-both b.core c.core d.core (turns ++ nothing ∷ []) (x ∷ y ∷ []) q.0 r.0)),
+    subst (λ xs. Extends a xs d) (regrouped_whole edits build turns nothing x y) (both a c d _ (x ∷ y ∷ []) (both a b c _ _ p q) r),
+  )

@@ -3,11 +3,8 @@ pub mod Clean
 pub mod Completing
 pub mod Edits
 pub mod Folding
-pub mod Headings
 pub mod Known
 pub mod Legal
-pub mod OnePart
-pub mod PastBlanks
+pub mod OneTable
 pub mod Sessions
-pub mod Typed
 pub mod Words

@@ -1,5 +1,5 @@
 -- Exchanges one after another.
-use Rattle.std.proofs.Common.{◌≡◌, ◌⊎◌, inl, inr, ℕ, List, [], ◌∷◌, ◌++◌, refl, sym, ap, ◌∙◌, subst, append_assoc}
+use Rattle.std.proofs.Common.{◌≡◌, inr, ℕ, List, [], ◌∷◌, ◌++◌, refl, sym, ap, ◌∙◌, subst, append_assoc}
 use Rattle.std.proofs.lemmas.List.{append-nil, map-append}
 use Rattle.std.specs.Prelude.{Option, Some, None}
 use Rattle.std.specs.Io.KnownBytes.{Keeps}
@@ -8,16 +8,13 @@ use Rattle.sequent_core.specs.declared.Attempt.{Attempt}
 use Rattle.status_core.specs.declared.FaultLine.{FaultLine}
 use Rattle.status_core.specs.declared.Status.{Status}
 use Rattle.status_core.specs.declared.Event.{Event}
-use Rattle.status_core.specs.declared.Event.TheVariants.{Build, Take, Ask}
-use Rattle.status_core.specs.declared.Question.TheVariants.{Faults as AskFaults}
 use Rattle.status_core.specs.declared.Reply.{Reply}
-use Rattle.status_core.specs.declared.Reply.TheVariants.{Nothing}
 use Rattle.status_core.specs.State.{State}
 use Rattle.status_core.specs.Run.{Exchange, Run, history_of}
 use Rattle.rodin_cli.specs.declared.session.Session.{Session}
-use Rattle.rodin_cli.specs.Parts.{Component}
+use Rattle.check_input.specs.Inputs.{Component}
 use Rattle.rodin_cli.specs.Session.{Performs, IsUnchanged, Extends}
-use Rattle.rodin_cli.specs.Script.{AreTurns, AreEdits, IsWhole, IsFront}
+use Rattle.rodin_cli.specs.Script.{AreTurns, IsWhole, IsFront}
 
 pub Run-both : (a b c : State) (xs ys : List Exchange) → Run a xs b → Run b ys c → Run a (xs ++ ys) c
 Run-both a b c [] ys p q = subst (λ s. Run s ys c) p q
@@ -58,26 +55,10 @@ pub regrouped_asked : (edits : List Exchange) (build : Exchange) (turns : List E
 regrouped_asked edits build turns nothing x = simp append_assoc
 
 module _ (answers : Sequent → Attempt → Type 0) (sure : Sequent → Type 0) (parts : List Component) where
-  -- after the turns nothing is left, and the questions fail
-  pub front_of_asking : (a b c d : Session) (edits : List Exchange) (build : Exchange) (turns : List Exchange) (nothing : Exchange) →
-      AreEdits parts edits → build.event ≡ Build → AreTurns answers sure turns → nothing.event ≡ Take None → nothing.reply ≡ Nothing →
-      Extends a (edits ++ build ∷ []) b → Extends b (turns ++ nothing ∷ []) c →
-      (IsUnchanged c d ⊎ ((x : Exchange) × (x.event ≡ Ask AskFaults) × Extends c (x ∷ []) d)) →
-      (exchanges : List Exchange) × IsFront answers sure parts exchanges × Extends a exchanges d
-  front_of_asking a b c d edits build turns nothing are is turned taken left p q (inl same) = (
-    (edits ++ build ∷ []) ++ (turns ++ nothing ∷ []),
-    inr (edits, build, turns, nothing ∷ [], regrouped edits build turns (nothing ∷ []), are, is, turned, taken),
-    subst (λ xs. Extends a xs d) (append-nil _) (both a c d _ [] (both a b c _ _ p q) (unchanged c d same)),
-  )
-  front_of_asking a b c d edits build turns nothing are is turned taken left p q (inr asked) = (
-    ((edits ++ build ∷ []) ++ (turns ++ nothing ∷ [])) ++ (asked.0 ∷ []),
-    inr (edits, build, turns, nothing ∷ asked.0 ∷ [], regrouped_asked edits build turns nothing asked.0, are, is, turned, (taken, left, asked.1)),
-    both a c d _ (asked.0 ∷ []) (both a b c _ _ p q) asked.2,
-  )
-
   -- a whole run is a front of one
-  pub front_of_whole : (told : List FaultLine) (shown : List (List ℕ × Status)) (exchanges : List Exchange) → IsWhole answers sure parts told shown exchanges → IsFront answers sure parts exchanges
-  front_of_whole told shown exchanges w =
+  pub front_of_whole : (told : List FaultLine) (warned : List (List ℕ × List ℕ)) (shown : List (List ℕ × Status)) (exchanges : List Exchange) →
+      IsWhole answers sure parts told warned shown exchanges → IsFront answers sure parts exchanges
+  front_of_whole told warned shown exchanges w =
       inr (
         w.edits,
         w.build,
@@ -85,7 +66,8 @@ module _ (answers : Sequent → Attempt → Type 0) (sure : Sequent → Type 0) 
         w.nothing ∷ w.faults ∷ w.statuses ∷ [],
         w.in_order,
         w.edits_are,
-        w.build_is,
+        w.build_is.0,
+        w.build_is.1,
         w.turns_are,
         (w.nothing_is.0, w.nothing_is.1, w.faults_is.0, w.statuses_is.0, refl),
       )

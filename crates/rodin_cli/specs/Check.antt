@@ -1,5 +1,5 @@
 -- What `check` did: its status, its history, and what it read and wrote.
-use Rattle.std.specs.Prelude.{◌≡◌, ◌⊎◌, ℕ, ◌≤◌, List, [], ◌∷◌, length, map, codes, String, string_bytes, Some}
+use Rattle.std.specs.Prelude.{◌≡◌, ◌⊎◌, ℕ, ◌≤◌, ◌<◌, List, [], ◌∷◌, length, map, codes, String, string_bytes, Some, Ok, Err}
 use Rattle.std.specs.List.{AllZip}
 use Rattle.std.specs.FinMap.{get}
 use Rattle.std.specs.declared.alloc.Global.{Global}
@@ -13,15 +13,17 @@ use Rattle.status_core.specs.declared.FaultLine.{FaultLine}
 use Rattle.status_core.specs.declared.Status.{Status}
 use Rattle.status_core.specs.declared.Status.TheVariants.{Discharged}
 use Rattle.status_core.specs.Status.{Shows}
-use Rattle.status_core.specs.Faults.{AreFaults}
+use Rattle.status_core.specs.Faults.{AreFaults, AreWarnings}
 use Rattle.status_core.specs.Table.{IsTable}
 use Rattle.status_core.specs.State.{State, opened, no_texts, after}
 use Rattle.status_core.specs.Run.{Exchange, Run, IsLegal, history_of}
 use Rattle.rodin_cli.specs.declared.outcome.Part.{Part}
 use Rattle.rodin_cli.specs.Streams.{Reading, Writing, SourceFailed, Writes, WritesCut, WritesOrFails, WritesNothing, Takes, Ends}
 use Rattle.rodin_cli.specs.Texts.{printed}
-use Rattle.rodin_cli.specs.Parts.{Component, IsMadeOf}
-use Rattle.rodin_cli.specs.Script.{IsWhole, IsFront}
+use Rattle.check_input.specs.Inputs.{Component, IsInput}
+use Rattle.check_input.specs.Lines.{input_line}
+use Rattle.check_input.specs.declared.input.InputFault.{InputFault}
+use Rattle.rodin_cli.specs.Script.{IsWhole, IsFront, IsFull}
 use Rattle.rodin_cli.specs.Completeness.{IsComplete}
 
 -- The exchanges are a legal run from the empty project. They are the history, and what lasts is the fold of their
@@ -52,25 +54,32 @@ IsProved d shown = (table : List Obligation) × IsTable d.built table × AllZip 
 abbrev pub TellsFaults : Durable → List FaultLine → Type 0
 TellsFaults d told = AreFaults d.built told
 
+-- the warnings that are told are those of the texts of the last build
+abbrev pub TellsWarnings : Durable → List (List ℕ × List ℕ) → Type 0
+TellsWarnings d warned = AreWarnings d.built warned
+
 -- the status of an answer that is written: 1 where a fault is told
 abbrev pub status_of : List FaultLine → ℕ
 status_of [] = 0
 status_of (f ∷ told) = 1
 
--- the input is made of parts, the run is whole, and the faults that it tells and the statuses that it shows are written
+-- the input has these components, the run is whole, and the faults and warnings that it tells and the statuses that it
+-- shows are written
 pub record IsAnswered (answers : Sequent → Attempt → Type 0) (sure : Sequent → Type 0) (bytes : List ℕ) (sink : Writing) (part : Part) : Type 0 where
   pub parts : List Component
-  pub made : IsMadeOf bytes parts
+  pub made : IsInput bytes (Ok parts)
   pub exchanges : List Exchange
   pub told : List FaultLine
+  pub warned : List (List ℕ × List ℕ)
   pub shown : List (List ℕ × Status)
-  pub whole : IsWhole answers sure parts told shown exchanges
+  pub whole : IsWhole answers sure parts told warned shown exchanges
   pub leads : Leads part exchanges
   pub faults : TellsFaults part.last told
+  pub warnings : TellsWarnings part.last warned
   pub clean : IsCleanRebuild part.last shown
   pub proved : IsProved part.last shown
   pub complete : IsComplete sure part.last exchanges
-  pub text : ((part.status ≡ status_of told) × Writes sink (printed told shown)) ⊎ ((part.status ≡ 4) × WritesCut sink (printed told shown))
+  pub text : ((part.status ≡ status_of told) × Writes sink (printed told warned shown)) ⊎ ((part.status ≡ 4) × WritesCut sink (printed told warned shown))
 
 -- nothing was done
 abbrev pub HasNoHistory : Part → Type 0
@@ -82,35 +91,49 @@ pub record EndsWithLine (status : ℕ) (line : List ℕ) (sink : Writing) (part 
   pub nothing : HasNoHistory part
   pub text : WritesOrFails sink line
 
+-- the table of the input's components is too large: they were edited, the build was refused, and the last line says so
+pub record IsTooFull (bytes : List ℕ) (sink : Writing) (part : Part) : Type 0 where
+  pub parts : List Component
+  pub made : IsInput bytes (Ok parts)
+  pub exchanges : List Exchange
+  pub full : IsFull parts exchanges
+  pub leads : Leads part exchanges
+  pub status_is : part.status ≡ 7
+  pub text : WritesOrFails sink (codes "full: table\n")
+
 -- memory ran out: the history is a front of one of `check`, and nothing is written
 pub record RanOut (answers : Sequent → Attempt → Type 0) (sure : Sequent → Type 0) (bytes : List ℕ) (sink : Writing) (part : Part) : Type 0 where
   pub status_is : part.status ≡ 9
   pub exchanges : List Exchange
-  pub front : (exchanges ≡ []) ⊎ ((parts : List Component) × IsMadeOf bytes parts × IsFront answers sure parts exchanges)
+  pub front : (exchanges ≡ []) ⊎ ((parts : List Component) × IsInput bytes (Ok parts) × IsFront answers sure parts exchanges)
   pub leads : Leads part exchanges
   pub text : WritesNothing sink
 
--- What comes of an input of these bytes: the answer, the refusal where it isn't made of parts, or out of memory.
+-- What comes of an input of these bytes: the answer, the last line where its table is too large or something is wrong
+-- with the input, or out of memory.
 abbrev pub ComesOf : (Sequent → Attempt → Type 0) → (Sequent → Type 0) → List ℕ → Writing → Part → Type 0
 ComesOf answers sure bytes sink part =
     IsAnswered answers sure bytes sink part
-    ⊎ (((parts : List Component) → IsMadeOf bytes parts → ⊥) × EndsWithLine 1 (codes "input: form not built\n") sink part)
+    ⊎ IsTooFull bytes sink part
+    ⊎ ((fault : InputFault) × IsInput bytes (Err fault) × EndsWithLine 1 (input_line fault) sink part)
     ⊎ RanOut answers sure bytes sink part
 
--- the input was read: to its end, or its first 65,537 bytes
+-- the input was read: to its end, or its first 67,108,865 bytes
 pub record IsRead (bytes : List ℕ) (source : Reading) : Type 0 where
   pub taken : Takes source bytes
-  pub most : length bytes ≤ 65537
-  pub ended : length bytes ≤ 65536 → Ends source
+  pub most : length bytes ≤ 67108865
+  pub ended : length bytes ≤ 67108864 → Ends source
 
 -- a front of the input was read
 abbrev pub IsReadInPart : Reading → Type 0
 IsReadInPart source = (bytes : List ℕ) × Takes source bytes
 
--- The input was read and answered; or the source failed; or memory ran out while it was read.
+-- The input was read and answered; or it has more than 67,108,864 bytes; or the source failed; or memory ran out while
+-- it was read.
 abbrev pub Checks : (Sequent → Attempt → Type 0) → (Sequent → Type 0) → Reading → Writing → Part → Type 0
 Checks answers sure source sink part =
-    ((bytes : List ℕ) × IsRead bytes source × ComesOf answers sure bytes sink part)
+    ((bytes : List ℕ) × IsRead bytes source × (length bytes ≤ 67108864) × ComesOf answers sure bytes sink part)
+    ⊎ ((bytes : List ℕ) × IsRead bytes source × (67108864 < length bytes) × EndsWithLine 7 (codes "full: input\n") sink part)
     ⊎ (SourceFailed source × IsReadInPart source × EndsWithLine 3 (codes "input: read fault\n") sink part)
     ⊎ (IsReadInPart source × (part.status ≡ 9) × HasNoHistory part × WritesNothing sink)
 

@@ -1,7 +1,6 @@
 pub mod Check
 pub mod Completeness
 pub mod Hyp
-pub mod Parts
 pub mod Script
 pub mod Session
 pub mod Streams

@@ -4,14 +4,17 @@ use Rattle.std.specs.Prelude.{◌≡◌, ◌⊎◌, ℕ, List, [], ◌∷◌, �
 use Rattle.sequent_core.specs.declared.Sequent.{Sequent}
 use Rattle.sequent_core.specs.declared.Ticket.{Ticket}
 use Rattle.sequent_core.specs.declared.Attempt.{Attempt}
+use Rattle.sequent_core.specs.declared.Attempt.TheVariants.{NoMemory}
+use Rattle.sequent_core.specs.Sequents.{IsSequent}
 use Rattle.sequent_core.specs.Provers.{IsFair}
 use Rattle.status_core.specs.declared.Status.{Status}
 use Rattle.status_core.specs.declared.FaultLine.{FaultLine}
 use Rattle.status_core.specs.declared.Event.TheVariants.{Edit, Build, Take, Finish, Ask}
 use Rattle.status_core.specs.declared.Question.TheVariants.{Statuses as AskStatuses, Faults as AskFaults}
-use Rattle.status_core.specs.declared.Reply.TheVariants.{Nothing, Taken, Statuses, Faults}
+use Rattle.status_core.specs.declared.Reply.{Reply}
+use Rattle.status_core.specs.declared.Reply.TheVariants.{Built, TableFull, Nothing, Taken, Statuses, Faults}
 use Rattle.status_core.specs.Run.{Exchange}
-use Rattle.rodin_cli.specs.Parts.{Component}
+use Rattle.check_input.specs.Inputs.{Component}
 
 -- an edit for each part
 abbrev pub AreEdits : List Component → List Exchange → Type 0
@@ -26,11 +29,16 @@ AreFirstEdits parts [] = ⊤
 AreFirstEdits [] (x ∷ exchanges) = ⊥
 AreFirstEdits (part ∷ parts) (x ∷ exchanges) = (x.event ≡ Edit part.0 part.1) × AreFirstEdits parts exchanges
 
--- a ticket was taken, and finished with a fair attempt at its sequent
+-- A fair attempt at the sequent of a ticket. One that isn't typed is handed to no prover.
+abbrev pub IsAttempted : (Sequent → Attempt → Type 0) → (Sequent → Type 0) → Sequent → Attempt → Type 0
+IsAttempted answers sure s attempt =
+    (IsSequent s × IsFair (answers s attempt) (sure s) attempt s) ⊎ ((IsSequent s → ⊥) × (attempt ≡ NoMemory))
+
+-- a ticket was taken, and finished with an attempt at its sequent
 abbrev pub IsTurn : (Sequent → Attempt → Type 0) → (Sequent → Type 0) → Exchange → Exchange → Type 0
 IsTurn answers sure x y =
     (ticket : Ticket) × (attempt : Attempt) × (x.event ≡ Take None) × (x.reply ≡ Taken ticket) × (y.event ≡ Finish ticket.number attempt)
-    × IsFair (answers ticket.sequent attempt) (sure ticket.sequent) attempt ticket.sequent
+    × IsAttempted answers sure ticket.sequent attempt
 
 abbrev pub AreTurns : (Sequent → Attempt → Type 0) → (Sequent → Type 0) → List Exchange → Type 0
 AreTurns answers sure [] = ⊤
@@ -44,8 +52,21 @@ IsEndFront (x ∷ []) = x.event ≡ Take None
 IsEndFront (x ∷ y ∷ []) = (x.event ≡ Take None) × (x.reply ≡ Nothing) × (y.event ≡ Ask AskFaults)
 IsEndFront (x ∷ y ∷ z ∷ exchanges) = (x.event ≡ Take None) × (x.reply ≡ Nothing) × (y.event ≡ Ask AskFaults) × (z.event ≡ Ask AskStatuses) × (exchanges ≡ [])
 
+-- the texts were built
+abbrev pub IsBuiltReply : Reply → Type 0
+IsBuiltReply reply = (components faulted obligations : ℕ) × (reply ≡ Built components faulted obligations)
+
+-- a run of `check` whose table is too large: edits, and a build that is refused
+pub record IsFull (parts : List Component) (exchanges : List Exchange) : Type 0 where
+  pub edits : List Exchange
+  pub build : Exchange
+  pub nodes : ℕ
+  pub in_order : exchanges ≡ edits ++ build ∷ []
+  pub edits_are : AreEdits parts edits
+  pub build_is : (build.event ≡ Build) × (build.reply ≡ TableFull nodes)
+
 -- a whole run of `check`, which tells these faults and shows these statuses
-pub record IsWhole (answers : Sequent → Attempt → Type 0) (sure : Sequent → Type 0) (parts : List Component) (told : List FaultLine) (shown : List (List ℕ × Status)) (exchanges : List Exchange) : Type 0 where
+pub record IsWhole (answers : Sequent → Attempt → Type 0) (sure : Sequent → Type 0) (parts : List Component) (told : List FaultLine) (warned : List (List ℕ × List ℕ)) (shown : List (List ℕ × Status)) (exchanges : List Exchange) : Type 0 where
   pub edits : List Exchange
   pub build : Exchange
   pub turns : List Exchange
@@ -54,10 +75,10 @@ pub record IsWhole (answers : Sequent → Attempt → Type 0) (sure : Sequent �
   pub statuses : Exchange
   pub in_order : exchanges ≡ (edits ++ build ∷ turns) ++ nothing ∷ faults ∷ statuses ∷ []
   pub edits_are : AreEdits parts edits
-  pub build_is : build.event ≡ Build
+  pub build_is : (build.event ≡ Build) × IsBuiltReply build.reply
   pub turns_are : AreTurns answers sure turns
   pub nothing_is : (nothing.event ≡ Take None) × (nothing.reply ≡ Nothing)
-  pub faults_is : (faults.event ≡ Ask AskFaults) × (faults.reply ≡ Faults told [])
+  pub faults_is : (faults.event ≡ Ask AskFaults) × (faults.reply ≡ Faults told warned)
   pub statuses_is : (statuses.event ≡ Ask AskStatuses) × (statuses.reply ≡ Statuses shown)
 
 -- a front of a run of `check`
@@ -65,4 +86,4 @@ abbrev pub IsFront : (Sequent → Attempt → Type 0) → (Sequent → Type 0) �
 IsFront answers sure parts exchanges =
     AreFirstEdits parts exchanges
     ⊎ ((edits : List Exchange) × (build : Exchange) × (turns : List Exchange) × (end : List Exchange)
-    × (exchanges ≡ (edits ++ build ∷ turns) ++ end) × AreEdits parts edits × (build.event ≡ Build) × AreTurns answers sure turns × IsEndFront end)
+    × (exchanges ≡ (edits ++ build ∷ turns) ++ end) × AreEdits parts edits × (build.event ≡ Build) × IsBuiltReply build.reply × AreTurns answers sure turns × IsEndFront end)

@@ -76,6 +76,13 @@ fault_line f =
 abbrev pub fault_lines : List FaultLine → List ℕ
 fault_lines told = flat_map fault_line told
 
--- the faults, and then the statuses
-abbrev pub printed : List FaultLine → List (List ℕ × Status) → List ℕ
-printed told shown = fault_lines told ++ status_lines shown
+-- an event of the abstraction that no event of the machine refines or extends
+abbrev pub warning_line : List ℕ × List ℕ → List ℕ
+warning_line w = codes "warning " ++ w.0 ++ codes ": event " ++ w.1 ++ codes " is not refined\n"
+
+abbrev pub warning_lines : List (List ℕ × List ℕ) → List ℕ
+warning_lines warned = flat_map warning_line warned
+
+-- the faults and the warnings, and then the statuses
+abbrev pub printed : List FaultLine → List (List ℕ × List ℕ) → List (List ℕ × Status) → List ℕ
+printed told warned shown = fault_lines told ++ warning_lines warned ++ status_lines shown

@@ -1,27 +1,32 @@
-// `check`: the whole input is read, built and proved, and the faults and the statuses are printed.
-ghost use Rattle.std.specs.Prelude.{◌≡◌, ◌≢◌, ◌⊎◌, ◌≤◌, ◌<◌, ◌+◌, ◌^◌, ◌++◌, ◌∷◌, [], None, List, IfOk, OnOk, OnErr, MatchBool};
+// `check`: the whole input is read, built and proved, and the faults, the warnings and the statuses are printed.
+ghost use Rattle.std.specs.Prelude.{◌≡◌, ◌⊎◌, ◌≤◌, ◌<◌, ◌+◌, ◌^◌, ◌↔◌, ◌++◌, ◌∷◌, [], None, Ok, List, ℕ, length, IsTrue, IfOk, OnOk, OnErr, MatchBool, MatchOption};
 ghost use Rattle.std.specs.Io.KnownBytes.{IsAtEnd};
 ghost use Rattle.outside.specs.Cause.{Rose};
-ghost use Rattle.sequent_core.specs.declared.Obligation.{Obligation};
 ghost use Rattle.status_core.specs.declared.Event.{Event};
 ghost use Rattle.status_core.specs.declared.Question.{Question};
 ghost use Rattle.status_core.specs.declared.Reply.{Reply};
-ghost use Rattle.status_core.specs.Run.{Exchange};
+ghost use Rattle.status_core.specs.Run.{Exchange, IsLegal};
+ghost use Rattle.status_core.specs.Table.{HasDistinctTable};
 ghost use Rattle.status_core.specs.State.{opened, no_texts, IsFresh};
-ghost use Rattle.rodin_cli.specs.Script.{AreEdits, AreFirstEdits, AreTurns, IsTurn, IsEndFront, IsWhole, IsFront};
+ghost use Rattle.check_input.specs.Inputs.{IsInput};
+ghost use Rattle.rodin_cli.specs.Completeness.{IsComplete};
+ghost use Rattle.rodin_cli.specs.Script.{AreEdits, AreFirstEdits, AreTurns, IsAttempted, IsTurn, IsEndFront, IsBuiltReply, IsFull, IsWhole, IsFront};
 ghost use Rattle.rodin_cli.specs.Session.{Extends, IsUnchanged};
-ghost use Rattle.rodin_cli.specs.Streams.{reading, writing};
+ghost use Rattle.rodin_cli.specs.Streams.{reading, writing, Writes, WritesCut, WritesOrFails, WritesNothing};
+ghost use Rattle.rodin_cli.specs.Texts.{printed};
+ghost use Rattle.check_input.specs.Lines.{input_line};
 ghost use Rattle.rodin_cli.specs.Check.{HasNoHistory, EndsWithLine, ComesOf, Checks, status_of};
 
 use crate::outcome::Part;
-use crate::parts::parts_of;
 use crate::session::{Session, ask_faults, ask_statuses, build, edit, finish, take};
-use crate::streams::{InputError, read_input, write_text};
+use crate::streams::{LONGEST_INPUT, ReadError, read_input, write_text};
 use crate::texts::printed;
+use check_input::{InputError, InputFault, input_line, parts_of};
 use formula_core::{List, Name, OutOfMemory, PoName, Text};
 use outside::{Sink, Source};
-use sequent_core::Prover;
-use status_core::{Core, Durable, FaultLine, Status};
+use sequent_core::{Attempt, Prover, Sequent};
+use sequent_test::is_sequent;
+use status_core::{Core, Durable, FaultLine, Reply, Status};
 use std::alloc::Global;
 
 // Edits each part.
@@ -35,10 +40,22 @@ fn edit_all(session: &mut Session, parts: Vec<(Name, Text)>) -> Result<(), OutOf
     Ok(())
 }
 
-// Edits each part and builds.
-fn begin(session: &mut Session, parts: Vec<(Name, Text)>) -> Result<(), OutOfMemory>
-    ensures whole { OnOk result ((edits : List Exchange) × (build : Exchange) × AreEdits parts.items edits
-        × (build.event ≡ Event.Build) × Extends session.old (edits ++ build ∷ []) session.new) }
+// Whether the reply to a build is that the texts were built.
+fn was_built(reply: &Reply) -> bool
+    ensures { IsTrue result ↔ IsBuiltReply reply.now }
+{
+    match reply {
+        Reply::Built(_, _, _) => true,
+        _ => false,
+    }
+}
+
+// Edits each part and builds. False where the table is too large.
+fn begin(session: &mut Session, parts: Vec<(Name, Text)>) -> Result<bool, OutOfMemory>
+    ensures whole { IfOk result (λ built. MatchBool built
+        ((edits : List Exchange) × (build : Exchange) × AreEdits parts.items edits
+        × (build.event ≡ Event.Build) × IsBuiltReply build.reply × Extends session.old (edits ++ build ∷ []) session.new)
+        ((exchanges : List Exchange) × IsFull parts.items exchanges × Extends session.old exchanges session.new)) }
     ensures front { OnErr result ((edits : List Exchange) × AreFirstEdits parts.items edits × Extends session.old edits session.new) }
 {
     match edit_all(session, parts) {
@@ -46,12 +63,22 @@ fn begin(session: &mut Session, parts: Vec<(Name, Text)>) -> Result<(), OutOfMem
         Err(error) => return Err(error),
     }
     match build(session) {
-        Ok(()) => Ok(()),
+        Ok(reply) => Ok(was_built(&reply)),
         Err(error) => Err(error),
     }
 }
 
-// Takes the next piece of work and finishes it. False where nothing is left.
+// An attempt at the sequent. One that isn't typed is handed to no prover.
+fn attempt<P: Prover>(alloc: Global, prover: &P, sequent: &Sequent) -> Result<Attempt, OutOfMemory>
+    ensures { IfOk result (λ attempt. IsAttempted (P.answers prover.now) (P.sure prover.now) sequent.now attempt) }
+{
+    if !is_sequent(alloc, sequent)? {
+        return Ok(Attempt::NoMemory);
+    }
+    Ok(prover.attempt(alloc, sequent))
+}
+
+// Takes a ticket and finishes it. False where nothing is left.
 fn turn<P: Prover>(alloc: Global, prover: &P, session: &mut Session) -> Result<bool, OutOfMemory>
     requires { session.old.core.next + 1 < 2 ^ 64 }
     ensures turned { IfOk result (λ more. MatchBool more
@@ -62,7 +89,7 @@ fn turn<P: Prover>(alloc: Global, prover: &P, session: &mut Session) -> Result<b
     match take(session)? {
         None => Ok(false),
         Some(ticket) => {
-            let attempt = prover.attempt(alloc, &ticket.sequent);
+            let attempt = attempt(alloc, prover, &ticket.sequent)?;
             finish(session, ticket.number, attempt)?;
             Ok(true)
         }
@@ -76,6 +103,7 @@ fn turns<P: Prover>(alloc: Global, prover: &P, session: &mut Session) -> Result<
         × (x.event ≡ Event.Take None) × (x.reply ≡ Reply.Nothing) × Extends session.old (turns ++ x ∷ []) session.new) }
     ensures front { OnErr result ((turns : List Exchange) × (end : List Exchange) × AreTurns (P.answers prover.now) (P.sure prover.now) turns
         × IsEndFront end × Extends session.old (turns ++ end) session.new) }
+    ensures distinct { HasDistinctTable session.old.core.durable.built }
 {
     let obligations = session.core.obligation_count();
     for _turn in 0..obligations + 1 {
@@ -90,38 +118,50 @@ fn turns<P: Prover>(alloc: Global, prover: &P, session: &mut Session) -> Result<
 #[derive(Drop)]
 struct Shown {
     faults: List<FaultLine>,
+    warnings: List<(Name, Name)>,
     statuses: List<(PoName, Status)>,
 }
 
-// Asks for the faults and the statuses.
+// Asks for the faults and the warnings, and for the statuses.
 fn ask(session: &mut Session) -> Result<Shown, OutOfMemory>
-    ensures whole { IfOk result (λ shown. (x : Exchange) × (y : Exchange) × (x.event ≡ Event.Ask Question.Faults) × (x.reply ≡ Reply.Faults shown.faults [])
+    ensures whole { IfOk result (λ shown. (x : Exchange) × (y : Exchange)
+        × (x.event ≡ Event.Ask Question.Faults) × (x.reply ≡ Reply.Faults shown.faults shown.warnings)
         × (y.event ≡ Event.Ask Question.Statuses) × (y.reply ≡ Reply.Statuses shown.statuses) × Extends session.old (x ∷ y ∷ []) session.new) }
     ensures front { OnErr result (IsUnchanged session.old session.new
         ⊎ ((x : Exchange) × (x.event ≡ Event.Ask Question.Faults) × Extends session.old (x ∷ []) session.new)) }
 {
-    let faults = ask_faults(session)?;
+    let (faults, warnings) = ask_faults(session)?;
     match ask_statuses(session) {
-        Ok(statuses) => Ok(Shown { faults, statuses }),
+        Ok(statuses) => Ok(Shown {
+            faults,
+            warnings,
+            statuses,
+        }),
         Err(error) => Err(error),
     }
 }
 
-// The whole run of `check` on these parts.
+// The run of `check` on these parts. None where the table is too large.
 fn play<P: Prover>(
     alloc: Global,
     prover: &P,
     session: &mut Session,
     parts: Vec<(Name, Text)>,
-) -> Result<Shown, OutOfMemory>
+) -> Result<Option<Shown>, OutOfMemory>
     requires { session.old.core ≡ opened no_texts }
-    ensures whole { IfOk result (λ shown. (exchanges : List Exchange)
-        × IsWhole (P.answers prover.now) (P.sure prover.now) parts.items shown.faults shown.statuses exchanges × Extends session.old exchanges session.new) }
+    ensures whole { IfOk result (λ played. MatchOption played
+        ((exchanges : List Exchange) × IsFull parts.items exchanges × Extends session.old exchanges session.new)
+        (λ shown. (exchanges : List Exchange)
+        × IsWhole (P.answers prover.now) (P.sure prover.now) parts.items shown.faults shown.warnings shown.statuses exchanges
+        × IsLegal exchanges × IsComplete (P.sure prover.now) session.new.core.durable exchanges
+        × Extends session.old exchanges session.new)) }
     ensures front { OnErr result ((exchanges : List Exchange)
-        × IsFront (P.answers prover.now) (P.sure prover.now) parts.items exchanges × Extends session.old exchanges session.new) }
+        × IsFront (P.answers prover.now) (P.sure prover.now) parts.items exchanges × IsLegal exchanges
+        × Extends session.old exchanges session.new) }
 {
     match begin(session, parts) {
-        Ok(()) => {}
+        Ok(true) => {}
+        Ok(false) => return Ok(None),
         Err(error) => return Err(error),
     }
     match turns(alloc, prover, session) {
@@ -129,7 +169,7 @@ fn play<P: Prover>(
         Err(error) => return Err(error),
     }
     match ask(session) {
-        Ok(shown) => Ok(shown),
+        Ok(shown) => Ok(Some(shown)),
         Err(error) => Err(error),
     }
 }
@@ -158,14 +198,23 @@ fn no_part(alloc: Global, status: u8) -> Part
     }
 }
 
-/// Writes the last line and ends with the status. Nothing was done.
-pub fn ends_with_line<O: Sink>(alloc: Global, output: &mut O, status: u8, line: &[u8]) -> Part
-    ensures { EndsWithLine status line.now (writing (O.written output.old) (O.written output.new) (O.faults output.old) (O.faults output.new)) result }
+// Writes the last line, as far as the sink takes it.
+fn write_last<O: Sink>(output: &mut O, line: &[u8])
+    ensures { WritesOrFails (writing (O.written output.old) (O.written output.new) (O.faults output.old) (O.faults output.new)) line.now }
 {
     match write_text(output, line) {
-        Ok(()) => no_part(alloc, status),
-        Err(_) => no_part(alloc, status),
+        Ok(()) => {}
+        Err(_) => {}
     }
+}
+
+/// Writes the last line and ends with the status. Nothing was done.
+pub fn ends_with_line<O: Sink>(alloc: Global, output: &mut O, status: u8, line: &[u8]) -> Part
+    ensures { EndsWithLine status line.now
+        (writing (O.written output.old) (O.written output.new) (O.faults output.old) (O.faults output.new)) result }
+{
+    write_last(output, line);
+    no_part(alloc, status)
 }
 
 // 1 where a fault is told.
@@ -175,15 +224,43 @@ fn status_of(told: &[FaultLine]) -> u8
     if told.is_empty() { 0 } else { 1 }
 }
 
-// Builds and proves an input of these bytes.
-fn check_bytes<O: Sink, P: Prover>(alloc: Global, bytes: &[u8], output: &mut O, prover: &P) -> Part
-    ensures { ComesOf (P.answers prover.now) (P.sure prover.now) bytes.now (writing (O.written output.old) (O.written output.new) (O.faults output.old) (O.faults output.new)) result }
+// Prints what is told and shown. The status is 9 where memory ran out before anything was written.
+fn answer<O: Sink>(alloc: Global, output: &mut O, shown: &Shown) -> u8
+    ensures { ((result ≡ status_of shown.now.faults) × Writes
+        (writing (O.written output.old) (O.written output.new) (O.faults output.old) (O.faults output.new))
+        (printed shown.now.faults shown.now.warnings shown.now.statuses))
+        ⊎ ((result ≡ 4) × WritesCut
+        (writing (O.written output.old) (O.written output.new) (O.faults output.old) (O.faults output.new))
+        (printed shown.now.faults shown.now.warnings shown.now.statuses))
+        ⊎ ((result ≡ 9) × WritesNothing
+        (writing (O.written output.old) (O.written output.new) (O.faults output.old) (O.faults output.new))) }
 {
-    let parts = match parts_of(alloc, bytes) {
-        Ok(Some(parts)) => parts,
-        Ok(None) => return ends_with_line(alloc, output, 1, b"input: form not built\n"),
-        Err(_) => return no_part(alloc, 9),
+    let faults = shown.faults.items();
+    let text = match printed(
+        alloc,
+        faults,
+        shown.warnings.items(),
+        shown.statuses.items(),
+    ) {
+        Ok(text) => text,
+        Err(_) => return 9,
     };
+    match write_text(output, text.as_str().as_bytes()) {
+        Ok(()) => status_of(faults),
+        Err(_) => 4,
+    }
+}
+
+// Builds and proves an input of these parts.
+fn check_parts<O: Sink, P: Prover>(
+    alloc: Global,
+    parts: Vec<(Name, Text)>,
+    output: &mut O,
+    prover: &P,
+) -> Part
+    ensures { (bytes : List ℕ) → IsInput bytes (Ok parts.items) → ComesOf (P.answers prover.now) (P.sure prover.now) bytes
+        (writing (O.written output.old) (O.written output.new) (O.faults output.old) (O.faults output.new)) result }
+{
     let mut session = match Core::start(alloc, Durable::empty(alloc)) {
         Ok(core) => Session {
             core,
@@ -191,23 +268,71 @@ fn check_bytes<O: Sink, P: Prover>(alloc: Global, bytes: &[u8], output: &mut O, 
         },
         Err(_) => return no_part(alloc, 9),
     };
-    let shown = match play(alloc, prover, &mut session, parts) {
-        Ok(shown) => shown,
-        Err(_) => return part_from(session, 9),
-    };
-    let text = match printed(alloc, shown.faults.items(), shown.statuses.items()) {
-        Ok(text) => text,
-        Err(_) => return part_from(session, 9),
-    };
-    match write_text(output, text.as_str().as_bytes()) {
-        Ok(()) => part_from(session, status_of(shown.faults.items())),
-        Err(_) => part_from(session, 4),
+    match play(alloc, prover, &mut session, parts) {
+        Ok(Some(shown)) => {
+            let status = answer(alloc, output, &shown);
+            part_from(session, status)
+        }
+        Ok(None) => {
+            write_last(output, b"full: table\n");
+            part_from(session, 7)
+        }
+        Err(_) => part_from(session, 9),
     }
 }
 
-/// Reads the whole input, builds and proves it, and prints each fault and the status of each obligation. The exit status
-/// is 0, 1 for an input with a fault or one that isn't built, 3 for a read fault, 4 for a write fault, and 9 where memory
-/// ran out.
+// Tells what is wrong with an input of these bytes.
+fn refuse<O: Sink>(alloc: Global, fault: &InputFault, output: &mut O) -> Part
+    ensures { EndsWithLine 1 (input_line fault.now)
+        (writing (O.written output.old) (O.written output.new) (O.faults output.old) (O.faults output.new)) result
+        ⊎ ((result.status ≡ 9) × HasNoHistory result × WritesNothing
+        (writing (O.written output.old) (O.written output.new) (O.faults output.old) (O.faults output.new))) }
+{
+    match input_line(alloc, fault) {
+        Ok(line) => ends_with_line(alloc, output, 1, line.as_str().as_bytes()),
+        Err(_) => no_part(alloc, 9),
+    }
+}
+
+// Builds and proves an input of these bytes.
+fn check_bytes<O: Sink, P: Prover>(alloc: Global, bytes: &[u8], output: &mut O, prover: &P) -> Part
+    requires { length bytes.now ≤ 67108864 }
+    ensures { ComesOf (P.answers prover.now) (P.sure prover.now) bytes.now
+        (writing (O.written output.old) (O.written output.new) (O.faults output.old) (O.faults output.new)) result }
+{
+    match parts_of(alloc, bytes) {
+        Ok(parts) => check_parts(alloc, parts, output, prover),
+        Err(InputError::Fault(fault)) => refuse(alloc, &fault, output),
+        Err(InputError::OutOfMemory) => no_part(alloc, 9),
+    }
+}
+
+// Reads the whole input, builds and proves it.
+fn check_source<I: Source, O: Sink, P: Prover>(
+    alloc: Global,
+    input: &mut I,
+    output: &mut O,
+    prover: &P,
+) -> Part
+    ensures { Checks (P.answers prover.now) (P.sure prover.now)
+        (reading (I.left input.old) (I.left input.new) (I.faults input.old) (I.faults input.new))
+        (writing (O.written output.old) (O.written output.new) (O.faults output.old) (O.faults output.new)) result }
+{
+    match read_input(alloc, input) {
+        Ok(bytes) => {
+            if bytes.len() > LONGEST_INPUT {
+                return ends_with_line(alloc, output, 7, b"full: input\n");
+            }
+            check_bytes(alloc, &bytes, output, prover)
+        }
+        Err(ReadError::Failed) => ends_with_line(alloc, output, 3, b"input: read fault\n"),
+        Err(ReadError::OutOfMemory) => no_part(alloc, 9),
+    }
+}
+
+/// Reads the whole input, builds and proves its components, and prints each fault, each warning and the status of each
+/// obligation. The exit status is 0, 1 where the input or a component of it has a fault, 3 for a read fault, 4 for a
+/// write fault, 7 where the input or its table of obligations is too large, and 9 where memory ran out.
 pub fn run_check<I: Source, O: Sink, P: Prover>(
     alloc: Global,
     input: &mut I,
@@ -217,15 +342,11 @@ pub fn run_check<I: Source, O: Sink, P: Prover>(
     ensures checked { Checks (P.answers prover.now) (P.sure prover.now)
         (reading (I.left input.old) (I.left input.new) (I.faults input.old) (I.faults input.new))
         (writing (O.written output.old) (O.written output.new) (O.faults output.old) (O.faults output.new)) result }
-    ensures ended { (result.status ≡ 0) ⊎ (result.status ≡ 4) ⊎ ((result.status ≡ 1) × (result.history.items ≢ [])) → IsAtEnd (I.left input.new) }
+    ensures ended { (result.status ≡ 0) ⊎ (result.status ≡ 1) ⊎ (result.status ≡ 4) → IsAtEnd (I.left input.new) }
     ensures read_fault { result.status ≡ 3 → Rose (I.faults input.old) (I.faults input.new) }
     ensures write_fault { result.status ≡ 4 → Rose (O.faults output.old) (O.faults output.new) }
     ensures without_faults { (Rose (I.faults input.old) (I.faults input.new) → ⊥) → (Rose (O.faults output.old) (O.faults output.new) → ⊥)
-        → (result.status ≡ 0) ⊎ (result.status ≡ 1) ⊎ (result.status ≡ 9) }
+        → (result.status ≡ 0) ⊎ (result.status ≡ 1) ⊎ (result.status ≡ 7) ⊎ (result.status ≡ 9) }
 {
-    match read_input(alloc, input) {
-        Ok(bytes) => check_bytes(alloc, &bytes, output, prover),
-        Err(InputError::Failed) => ends_with_line(alloc, output, 3, b"input: read fault\n"),
-        Err(InputError::OutOfMemory) => no_part(alloc, 9),
-    }
+    check_source(alloc, input, output, prover)
 }

@@ -5,13 +5,8 @@ mod check;
 pub mod events;
 mod hyp_prover;
 pub mod outcome;
-mod parts;
-#[cfg(test)]
-mod parts_tests;
 mod session;
 mod streams;
-#[cfg(test)]
-mod tests;
 mod texts;
 mod top;
 

@@ -8,7 +8,7 @@ ghost use Rattle.rodin_cli.specs.Session.{Performs, IsUnchanged};
 
 use formula_core::{List, Name, OutOfMemory, PoName, Text};
 use sequent_core::{Attempt, Ticket};
-use status_core::{Core, Event, FaultLine, Question, Status};
+use status_core::{Core, Event, FaultLine, Question, Reply, Status};
 
 /// A core, and the events that it performed, each with its chair.
 #[derive(Drop)]
@@ -40,14 +40,14 @@ pub fn edit(session: &mut Session, name: Name, text: Text) -> Result<(), OutOfMe
 }
 
 /// Builds the present texts.
-pub fn build(session: &mut Session) -> Result<(), OutOfMemory>
-    ensures done { IfOk result (λ _. (reply : Reply) × Performs session.old Event.Build reply session.new) }
+pub fn build(session: &mut Session) -> Result<Reply, OutOfMemory>
+    ensures done { IfOk result (λ reply. Performs session.old Event.Build reply session.new) }
     ensures err { OnErr result (IsUnchanged session.old session.new) }
 {
     session.history.reserve(1)?;
-    session.core.build()?;
+    let reply = session.core.build()?;
     note(&mut session.history, Event::Build);
-    Ok(())
+    Ok(reply)
 }
 
 /// Takes the first open obligation.
@@ -73,9 +73,11 @@ pub fn finish(session: &mut Session, number: u64, attempt: Attempt) -> Result<()
     Ok(())
 }
 
-/// Asks for the faults of the built texts.
-pub fn ask_faults(session: &mut Session) -> Result<List<FaultLine>, OutOfMemory>
-    ensures done { IfOk result (λ told. Performs session.old (Event.Ask Question.Faults) (Reply.Faults told []) session.new) }
+/// Asks for the faults of the built texts, and for the warnings.
+pub fn ask_faults(
+    session: &mut Session,
+) -> Result<(List<FaultLine>, List<(Name, Name)>), OutOfMemory>
+    ensures done { IfOk result (λ told. Performs session.old (Event.Ask Question.Faults) (Reply.Faults told.0 told.1) session.new) }
     ensures err { OnErr result (IsUnchanged session.old session.new) }
 {
     session.history.reserve(1)?;

@@ -1,8 +1,8 @@
 // What is printed.
 ghost use Rattle.std.specs.Prelude.{◌≡◌, ◌++◌, IfOk, OnOk, string_bytes};
-ghost use Rattle.rodin_cli.specs.Texts.{word_of, status_line, status_lines, front, back, is_at_end, fault_text, fault_line, fault_lines, printed};
+ghost use Rattle.rodin_cli.specs.Texts.{word_of, status_line, status_lines, front, back, is_at_end, fault_text, fault_line, fault_lines, warning_line, warning_lines, printed};
 
-use formula_core::{OutOfMemory, PoName};
+use formula_core::{Name, OutOfMemory, PoName};
 use model_core::{Fault, FaultKind};
 use status_core::{FaultLine, Status};
 use std::alloc::Global;
@@ -128,16 +128,37 @@ fn add_faults(text: &mut String, told: &[FaultLine]) -> Result<(), OutOfMemory>
     Ok(())
 }
 
-/// A line for each fault, and then one for each status.
+// An event of the abstraction that no event of the machine refines or extends.
+fn add_warning(text: &mut String, machine: &Name, event: &Name) -> Result<(), OutOfMemory>
+    ensures { OnOk result (string_bytes text.new ≡ string_bytes text.old ++ warning_line (machine.now, event.now)) }
+{
+    let machine = machine.as_text();
+    let event = event.as_text();
+    writeln!(text, "warning {machine}: event {event} is not refined")?;
+    Ok(())
+}
+
+fn add_warnings(text: &mut String, warned: &[(Name, Name)]) -> Result<(), OutOfMemory>
+    ensures { OnOk result (string_bytes text.new ≡ string_bytes text.old ++ warning_lines warned.now) }
+{
+    for (machine, event) in warned {
+        add_warning(text, machine, event)?;
+    }
+    Ok(())
+}
+
+/// A line for each fault, then one for each warning, and then one for each status.
 pub fn printed(
     alloc: Global,
     told: &[FaultLine],
+    warned: &[(Name, Name)],
     shown: &[(PoName, Status)],
 ) -> Result<String, OutOfMemory>
-    ensures { IfOk result (λ text. string_bytes text ≡ printed told.now shown.now) }
+    ensures { IfOk result (λ text. string_bytes text ≡ printed told.now warned.now shown.now) }
 {
     let mut text = String::new(alloc);
     add_faults(&mut text, told)?;
+    add_warnings(&mut text, warned)?;
     add_statuses(&mut text, shown)?;
     Ok(text)
 }

@@ -1,5 +1,5 @@
 // The top call: the words of the command line, and the streams, the disk, the prover and the gate that are handed in.
-ghost use Rattle.std.specs.Prelude.{◌≡◌, ◌≢◌, ◌⊎◌, ◌↔◌, [], IsTrue};
+ghost use Rattle.std.specs.Prelude.{◌≡◌, ◌⊎◌, ◌↔◌, IsTrue};
 ghost use Rattle.std.specs.Io.KnownBytes.{IsAtEnd};
 ghost use Rattle.outside.specs.Cause.{Rose};
 ghost use Rattle.rodin_cli.specs.Streams.{reading, writing};
@@ -53,11 +53,11 @@ pub fn run<
     ensures words { result.status ≡ 2 ↔ (IsCheckWords words.now → ⊥) }
     ensures untouched { (IsCheckWords words.now → ⊥) → input.new ≡ input.old }
     ensures disk { result.disk ≡ disk }
-    ensures ended { (result.status ≡ 0) ⊎ (result.status ≡ 4) ⊎ ((result.status ≡ 1) × (result.history.items ≢ [])) → IsAtEnd (I.left input.new) }
+    ensures ended { (result.status ≡ 0) ⊎ (result.status ≡ 1) ⊎ (result.status ≡ 4) → IsAtEnd (I.left input.new) }
     ensures read_fault { result.status ≡ 3 → Rose (I.faults input.old) (I.faults input.new) }
     ensures write_fault { result.status ≡ 4 → Rose (O.faults output.old) (O.faults output.new) }
     ensures without_faults { IsCheckWords words.now → (Rose (I.faults input.old) (I.faults input.new) → ⊥) → (Rose (O.faults output.old) (O.faults output.new) → ⊥)
-        → (result.status ≡ 0) ⊎ (result.status ≡ 1) ⊎ (result.status ≡ 9) }
+        → (result.status ≡ 0) ⊎ (result.status ≡ 1) ⊎ (result.status ≡ 7) ⊎ (result.status ≡ 9) }
 {
     if !is_check(words) {
         return with_disk(ends_with_line(alloc, output, 2, USAGE), disk);

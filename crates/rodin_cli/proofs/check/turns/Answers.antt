@@ -10,7 +10,7 @@ turn-requires g c =
     let before = c.loop-turn.invariant in
     let count = c.obligation_count-obligations.ensures.count in
     let bound = turns_bound (g.P.Prover.answers c.args.prover.now) (g.P.Prover.sure c.args.prover.now) before.0 count.0 c.args.session.now.core c.loop-turn.session.core c.loop-turn._turn
-    c.requires count.1 before.1 before.2.0 before.3 in
+    c.requires c.obligation_count-obligations.ensures.distinct count.1 before.1 before.2.0 before.3 in
     omega (arith, bound.0, bound.1, count.2, c.obligation_count-obligations.ensures.small)
 
 pub returns-in_err-turn-clause-front : goal.returns-in_err-turn-clause-front
@@ -41,5 +41,5 @@ unreachable-requires g c =
     let before = c.loop-turn.invariant in
     let count = c.obligation_count-obligations.ensures.count in
     let bound = turns_bound (g.P.Prover.answers c.args.prover.now) (g.P.Prover.sure c.args.prover.now) before.0 count.0 c.args.session.now.core c.loop-turn.session.core c.loop-turn._turn
-    c.requires count.1 before.1 before.2.0 before.3 in
+    c.requires c.obligation_count-obligations.ensures.distinct count.1 before.1 before.2.0 before.3 in
     omega (arith, bound.0, count.2, c.loop-turn-test.false)
