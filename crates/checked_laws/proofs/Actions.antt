@@ -1,10 +1,9 @@
 -- Actions in a larger environment.
-use Rattle.std.proofs.Common.{◌≡◌, ◌∙◌, ◌⊎◌, inl, inr, sym, ap, subst, refl, ℕ, Bool, true, false, not, cond, ◌&&◌, ◌||◌, List, [], ◌∷◌, ◌++◌, map, Option, Some, None, IsTrue, bytes_eq, is_some, nat_le, length}
+use Rattle.std.proofs.Common.{◌≡◌, ◌∙◌, inl, inr, sym, ap, subst, refl, ℕ, Bool, true, false, not, cond, ◌&&◌, List, [], ◌∷◌, ◌++◌, map, Option, Some, None, IsTrue, bytes_eq, is_some, nat_le, length}
 use Rattle.std.specs.List.{AllByRecursion, list_all}
 use Rattle.formula_core.specs.declared.ty.Ty.{Ty}
 use Rattle.formula_core.specs.declared.raw.Action.{Action}
 use Rattle.formula_core.specs.declared.raw.Action.TheVariants as action
-use Rattle.formula_core.specs.declared.raw.RawAction.{RawAction}
 use Rattle.formula_core.specs.Env.{type_in}
 use Rattle.formula_core.specs.Laws.{IsWithin}
 use Rattle.formula_core.specs.Names.{is_identifier, is_word, is_in_word, starts_word, is_reserved, prime}
@@ -19,13 +18,13 @@ use Rattle.model_core.specs.declared.component.RawStep.{RawStep}
 use Rattle.check_rules.specs.Typed.{Entries, LabelledAction, AreTypedActions}
 use Rattle.type_action.specs.Laws.{IsActionIn, TypedActionsStand}
 use Rattle.checked_laws.specs.Sound.{HasIdentifiers, AreActionsIn}
-use Rattle.checked_laws.proofs.Names.{AllStand, here_or, some_or, absent, met, missed, same_name}
+use Rattle.checked_laws.proofs.Names.{here_or, some_or, absent, met, missed, same_name}
 use Rattle.checked_laws.proofs.Parts.{never_empty, all_map, all_true}
 use Rattle.checked_laws.proofs.Growing.{within_with, with_all_or}
 
 -- A name with a prime is no identifier.
 
-and_false : (a b : Bool) → b ≡ false → (a && b) ≡ false
+pub and_false : (a b : Bool) → b ≡ false → (a && b) ≡ false
 and_false true b e = e
 and_false false b e = refl
 

@@ -10,15 +10,16 @@ use Rattle.formula_core.specs.Env.{HasDistinctNames, type_in}
 use Rattle.formula_core.specs.Identifiers.{carriers}
 use Rattle.formula_core.specs.Laws.{IsWithin}
 use Rattle.formula_core.specs.Names.{is_identifier}
-use Rattle.formula_core.specs.Typed.{Stands, HasCarriers, IsPredicateIn, IsGoodEnv}
+use Rattle.formula_core.specs.Typed.{Stands, HasCarriers, IsPredicateIn}
 use Rattle.formula_core.specs.Types.{is_value_type}
 use Rattle.formula_core.proofs.WholeSets.{value-Given, value-Pow}
-use Rattle.type_core.proofs.Named.{all_append, all_front, all_back, all_each, sooner, found_has}
+use Rattle.type_core.proofs.Named.{all_append, all_front, all_each, sooner, found_has}
 use Rattle.model_core.specs.declared.fault.Fault.{Fault}
 use Rattle.model_core.specs.declared.component.RawLabelled.{RawLabelled}
 use Rattle.model_core.specs.declared.checked.Checked.{Checked}
-use Rattle.model_core.specs.declared.checked.Checked.TheVariants.{Context, Machine}
+use Rattle.model_core.specs.declared.checked.Checked.TheVariants.{Context}
 use Rattle.model_core.specs.declared.checked.CheckedContext.{CheckedContext}
+use Rattle.model_core.specs.declared.checked.CheckedMachine.{CheckedMachine}
 use Rattle.model_core.specs.declared.checked.Labelled.{Labelled}
 use Rattle.model_core.specs.Each.{at_each, is_among}
 use Rattle.model_core.specs.Faults.{first_by_place}
@@ -27,8 +28,9 @@ use Rattle.check_rules.specs.Declarations.{Part, brings_clash_row, brings_clash,
 use Rattle.check_rules.specs.Typed.{Entries, AreTyped, never_typed, in_order}
 use Rattle.check_rules.specs.Visible.{Identifiers, Visible, nothing, identifiers, entries, origins, names, of_context, with_context, seen_from, clashing}
 use Rattle.checked_laws.specs.Projects.{ProjectNames, AreOf, AreConstantsOf, DeclaresIn, Has, IsOf}
+use Rattle.checked_laws.specs.Refining.{IsSoundBeside}
 use Rattle.checked_laws.specs.Sound.{HasIdentifiers, ArePredicatesIn, IsNamedIn, IsSoundContext, IsSound}
-use Rattle.checked_laws.proofs.Names.{AllStand, AreNew, or_left, or_right, found_in, distinct_append, new_turned, parts_stand, stand_sooner, within_all, stand_there}
+use Rattle.checked_laws.proofs.Names.{AllStand, AreNew, or_right, found_in, distinct_append, new_turned, parts_stand, stand_sooner}
 use Rattle.checked_laws.proofs.Parts.{all_map, all_unmap, all_true, map_append, zip_firsts, map_none, first_none, second_none, no_fault}
 use Rattle.checked_laws.proofs.Typing.{set_over, predicates_within, Stood, typed_stand, last_from, in_order_stand, in_order_keys, reaches}
 use Rattle.checked_laws.proofs.Views.{all_entries, IsSoundView, olds_within, constants_within, seen_sound}
@@ -280,10 +282,10 @@ module _ (project : ProjectNames) (name : List ℕ) (sets constants : List Ref) 
         (all_each (λ x. x.1 ≡ name) (λ x. project.is_context x.1 ≡ true) own_identifiers (λ x e. ap project.is_context e ∙ has.0) (all_one name own (sets ++ constants))),
   )
 
-pub context_checked : (project : ProjectNames) (name : List ℕ) (extends sets constants : List Ref) (axioms : List RawLabelled) (parents : List CheckedContext) (checked : Checked) →
+pub context_checked : (project : ProjectNames) (name : List ℕ) (extends sets constants : List Ref) (axioms : List RawLabelled) (parents : List CheckedContext) (abstraction : Option CheckedMachine) (checked : Checked) →
     AllByRecursion (λ r. IsTrue (is_identifier r.name)) (sets ++ constants) → length parents ≡ length extends → AllByRecursion (IsGoodContext project) parents → Has project checked →
-    ChecksContext name extends sets constants axioms parents (Ok checked) → IsSound checked × IsOf project checked
-context_checked project name extends sets constants axioms parents checked ids n good has h =
+    ChecksContext name extends sets constants axioms parents (Ok checked) → IsSound checked × IsSoundBeside abstraction checked × IsOf project checked
+context_checked project name extends sets constants axioms parents abstraction checked ids n good has h =
     let v = seen_from nothing parents in
     let declared = passes (ChecksAxioms name sets constants axioms (seen_from nothing parents) (ok checked)) (first_by_place (context_declarations name extends (sets ++ constants) axioms parents)) checked h in
     let none = no_fault (context_declarations name extends (sets ++ constants) axioms parents) declared.0 in
@@ -303,9 +305,10 @@ context_checked project name extends sets constants axioms parents checked ids n
     let all_typed = second_none faults (never_typed name last constants) no_faults in
     let names_are = all_map (λ n. IsTrue (is_identifier n)) (λ r. r.name) (sets ++ constants) ids in
     let none_varies = variables_kept nothing parents in
-    subst (λ k. Has project k → IsSound k × IsOf project k) (same_checked checked (Context (context_of name (sets ++ constants) v typed last)) out.1)
+    subst (λ k. Has project k → IsSound k × IsSoundBeside abstraction k × IsOf project k) (same_checked checked (Context (context_of name (sets ++ constants) v typed last)) out.1)
     (λ own. (
       context_sound project name sets constants axioms v sound none_varies once names_are typed last checks all_typed,
+      tt,
       context_has project name sets constants axioms v sound none_varies once names_are typed last checks all_typed own,
     ))
     has

@@ -1,6 +1,6 @@
 -- Names that a component declares: once, new, and as the project has them.
-use Rattle.std.proofs.Common.{◌≡◌, ◌∙◌, ◌⊎◌, inl, inr, sym, ap, subst, refl, ℕ, Bool, true, false, cond, ◌||◌, List, [], ◌∷◌, ◌++◌, map, length, Option, Some, None, IsTrue, bytes_eq, is_some}
-use Rattle.std.specs.List.{AllByRecursion, IsDistinct, filter, list_any, zip}
+use Rattle.std.proofs.Common.{◌≡◌, ◌∙◌, inl, inr, sym, ap, subst, refl, ℕ, Bool, true, false, cond, ◌||◌, List, [], ◌∷◌, ◌++◌, map, Option, Some, None, bytes_eq, is_some}
+use Rattle.std.specs.List.{AllByRecursion, IsDistinct, filter, zip}
 use Rattle.std.specs.Map.{keys_of}
 use Rattle.formula_core.specs.declared.raw.Ref.{Ref}
 use Rattle.formula_core.specs.declared.ty.Ty.{Ty}
@@ -9,15 +9,17 @@ use Rattle.formula_core.specs.Laws.{IsWithin}
 use Rattle.formula_core.specs.Typed.{Stands}
 use Rattle.type_core.proofs.Named.{all_append, all_back, all_each, sooner}
 use Rattle.model_core.specs.declared.fault.Fault.{Fault}
+use Rattle.model_core.specs.declared.fault.FaultKind.TheVariants as kind
+use Rattle.model_core.specs.Faults.{fault_at}
 use Rattle.model_core.specs.Each.{at_each, is_among}
 use Rattle.check_rules.specs.Contexts.{names_of}
-use Rattle.check_rules.specs.Declarations.{declared_twice_row, declared_twice}
+use Rattle.check_rules.specs.Declarations.{declared_twice}
 use Rattle.check_rules.specs.Typed.{Entries, never_typed_row, never_typed, in_order}
 use Rattle.check_rules.specs.Visible.{Placed, Identifiers, entries, origins}
 use Rattle.checked_laws.specs.Projects.{ProjectNames, AreOf, DeclaresIn}
 use Rattle.checked_laws.specs.Sound.{IsNamedIn}
-use Rattle.checked_laws.proofs.Names.{AllStand, AreNew, same_name, name_turned, name_is, neither_first, neither_second, lacks_back, not_among, distinct_append, new_turned, stand_there, within_all}
-use Rattle.checked_laws.proofs.Parts.{all_map, all_unmap, all_two, map_append, zip_firsts, filter_all, filter_back, first_none, second_none, any_append}
+use Rattle.checked_laws.proofs.Names.{AreNew, same_name, name_turned, name_is, neither_first, neither_second, lacks_back, not_among, distinct_append, new_turned, stand_there, within_all}
+use Rattle.checked_laws.proofs.Parts.{all_map, all_unmap, all_two, map_append, filter_all, filter_back, first_none, second_none, any_append}
 use Rattle.checked_laws.proofs.Typing.{in_order_keys}
 use Rattle.checked_laws.proofs.Views.{distinct_filter}
 
@@ -52,13 +54,17 @@ pub record DeclaredOnce (known : List (List ℕ)) (names : List (List ℕ)) : Ty
   pub other : AreOther known names
   pub distinct : IsDistinct bytes_eq names
 
-once_at : (component : List ℕ) (known : List (List ℕ)) (before refs : List Ref) → at_each (declared_twice_row component known) before refs ≡ []
+-- where a name has a fault that is known, or stands before it
+abbrev pub twice_row : (Ref → Fault) → List (List ℕ) → List Ref → Ref → List Fault
+twice_row fault known before r = cond (is_among known r.name || is_among (names_before before) r.name) (fault r ∷ []) []
+
+once_at : (fault : Ref → Fault) (known : List (List ℕ)) (before refs : List Ref) → at_each (twice_row fault known) before refs ≡ []
     → AreOther known (names_of refs) × AreOther (names_before before) (names_of refs) × IsDistinct bytes_eq (names_of refs)
 unfolding IsDistinct
-once_at component known before [] e = (tt, tt, tt)
-once_at component known before (r ∷ refs) e =
-    let here = kept_none (is_among known r.name || is_among (names_before before) r.name) _ (first_none (declared_twice_row component known before r) _ e) in
-    let more = once_at component known (before ++ r ∷ []) refs (second_none (declared_twice_row component known before r) _ e) in
+once_at fault known before [] e = (tt, tt, tt)
+once_at fault known before (r ∷ refs) e =
+    let here = kept_none (is_among known r.name || is_among (names_before before) r.name) _ (first_none (twice_row fault known before r) _ e) in
+    let more = once_at fault known (before ++ r ∷ []) refs (second_none (twice_row fault known before r) _ e) in
     let others : AreOther (names_before before ++ r.name ∷ []) (names_of refs) = subst (λ ns. AreOther ns (names_of refs)) (map_append (λ b. b.name) before (r ∷ [])) more.1 in (
       (neither_first (is_among known r.name) (is_among (names_before before) r.name) here, more.0),
       (
@@ -73,8 +79,11 @@ once_at component known before (r ∷ refs) e =
       ),
     )
 
+pub once_in : (fault : Ref → Fault) (known : List (List ℕ)) (refs : List Ref) → at_each (twice_row fault known) [] refs ≡ [] → DeclaredOnce known (names_of refs)
+once_in fault known refs e = let h = once_at fault known [] refs e in record { other = h.0; distinct = h.2 }
+
 pub declared_once : (component : List ℕ) (known : List (List ℕ)) (refs : List Ref) → declared_twice component known refs ≡ [] → DeclaredOnce known (names_of refs)
-declared_once component known refs e = let h = once_at component known [] refs e in record { other = h.0; distinct = h.2 }
+declared_once component known refs e = once_in (λ r. fault_at component kind.DeclaredTwice r.place r.name) known refs e
 
 -- names that are not among those of an environment are new there
 pub not_named : (env : Entries) (ns : List (List ℕ)) → AreOther (keys_of env) ns → AreNew env ns

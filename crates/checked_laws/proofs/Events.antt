@@ -1,40 +1,44 @@
 -- A checked event is sound.
-use Rattle.std.proofs.Common.{◌≡◌, ◌∙◌, ◌⊎◌, inl, inr, sym, ap, subst, refl, ℕ, Bool, true, false, cond, ◌||◌, List, [], ◌∷◌, ◌++◌, map, length, Option, Some, None, IfSome, IsTrue, bytes_eq, is_some}
-use Rattle.std.specs.List.{AllByRecursion, IsDistinct}
+use Rattle.std.proofs.Common.{◌≡◌, ◌∙◌, inl, inr, sym, ap, subst, ℕ, true, false, List, [], ◌∷◌, ◌++◌, map, Option, Some, None, IfSome, IsTrue, bytes_eq, not}
+use Rattle.std.specs.List.{AllByRecursion, IsDistinct, filter, zip}
 use Rattle.std.specs.Map.{keys_of}
-use Rattle.std.specs.Option.{option_map}
-use Rattle.formula_core.specs.declared.raw.Ref.{Ref}
+use Rattle.std.specs.Option.{option_map, option_map_or}
 use Rattle.formula_core.specs.declared.ty.Ty.{Ty}
 use Rattle.formula_core.specs.declared.ty.Ty.TheVariants as ty
 use Rattle.formula_core.specs.Env.{HasDistinctNames, type_in}
 use Rattle.formula_core.specs.Formulas.{joined}
 use Rattle.formula_core.specs.Identifiers.{carriers}
 use Rattle.formula_core.specs.Laws.{IsWithin}
-use Rattle.formula_core.specs.Names.{is_identifier}
+use Rattle.formula_core.specs.Names.{is_identifier, is_name}
 use Rattle.formula_core.specs.Typed.{Stands, HasCarriers, IsPredicateIn, IsGoodEnv}
 use Rattle.formula_core.specs.Types.{is_value_type}
-use Rattle.type_core.specs.Answers.{with_name}
-use Rattle.type_core.proofs.Named.{all_append, all_front, all_back, all_each, sooner, within_name, found_has}
-use Rattle.type_action.specs.CoreActions.{with_all}
+use Rattle.type_core.proofs.Named.{all_append, all_front, all_back, all_each, sooner, found_has}
+use Rattle.type_action.specs.CoreActions.{with_all, primed}
 use Rattle.model_core.specs.declared.fault.Fault.{Fault}
 use Rattle.model_core.specs.declared.component.RawEvent.{RawEvent}
 use Rattle.model_core.specs.declared.checked.CheckedEvent.{CheckedEvent}
 use Rattle.model_core.specs.declared.checked.Labelled.{Labelled}
-use Rattle.model_core.specs.Each.{is_among}
+use Rattle.model_core.specs.Each.{is_among, for_each}
 use Rattle.check_rules.specs.Contexts.{names_of}
 use Rattle.check_rules.specs.Declarations.{declared_twice, labelled_twice}
-use Rattle.check_rules.specs.Events.{refined_at, refined, inherited, inherited_params, inherited_guards, inherited_actions, abstract_params, inherited_labels, event_labels, param_clashes, event_declarations, event_env, event_of, IsTypedEvent, AreTypedEvents}
+use Rattle.check_rules.specs.Events.{refined_at, refined, inherited, inherited_params, inherited_guards, inherited_actions, abstract_params, inherited_labels, event_labels, param_clashes, event_declarations, event_env, param_names, lost_params, witness_env, witnesses_of, event_of, IsTypedEvent, AreTypedEvents, initialisation, event_named}
+use Rattle.check_rules.specs.Refinements.{merged_differ, needed, superfluous_witnesses, missing_witnesses}
 use Rattle.check_rules.specs.Typed.{Entries, LabelledAction, AreTyped, never_typed, in_order}
 use Rattle.check_rules.specs.Visible.{names}
 use Rattle.type_action.specs.Laws.{IsActionIn, TypedActionsStand}
+use Rattle.checked_laws.proofs.Given.{all_given}
 use Rattle.checked_laws.specs.Sound.{HasIdentifiers, HasCarriersAmong, ArePredicatesIn, AreActionsIn, IsNamedIn, IsSoundEvent, StartsPlainly}
-use Rattle.checked_laws.proofs.Names.{AllStand, AreNew, or_left, or_right, name_is, found_in, keys_append, distinct_append, new_turned, parts_stand, stand_sooner, within_all}
-use Rattle.checked_laws.proofs.Parts.{all_map, all_unmap, map_append, first_none, second_none}
-use Rattle.checked_laws.proofs.Typing.{AddsNoSets, set_over, over_set, carriers_kept, predicates_within, Stood, typed_stand, last_from, in_order_has, in_order_stand, in_order_keys}
+use Rattle.checked_laws.proofs.Names.{AllStand, AreNew, none_append, distinct_back, keys_append, distinct_append, new_turned, parts_stand, within_all, here_or, some_or, absent, stand_there, among_self}
+use Rattle.checked_laws.proofs.Parts.{all_map, all_unmap, all_two, filter_all, first_none, second_none, filter_back, any_append}
+use Rattle.checked_laws.proofs.Typing.{AddsNoSets, over_set, carriers_kept, predicates_within, Stood, typed_stand, last_from, in_order_has, in_order_stand, in_order_keys, among_new}
 use Rattle.checked_laws.proofs.Declared.{DeclaredOnce, AreOther, none_left, none_right, not_named, declared_once, all_named}
-use Rattle.checked_laws.proofs.Actions.{actions_more, actions_typed}
+use Rattle.checked_laws.specs.Refining.{with_prime, IsSoundRefinement, IsEventIn, chosen_by_first}
+use Rattle.checked_laws.proofs.Lost.{found_in_events, left_is, lost_distinct, lost_each, lost_other, refined_again, abstract_together}
+use Rattle.checked_laws.proofs.Wanted.{all_wanted, labels_typed, wanted_is, wanted_listed}
+use Rattle.checked_laws.proofs.Witnesses.{named_among, HoldsWitnesses, holds_witnesses}
+use Rattle.checked_laws.proofs.Actions.{actions_more, actions_typed, with_all_new}
 use Rattle.checked_laws.proofs.Growing.{with_all_each, within_with, with_all_or}
-use Rattle.checked_laws.proofs.Refined.{IsUsable, refined_usable, IsInherited, inherited_is, cons_all, joined_all}
+use Rattle.checked_laws.proofs.Refined.{IsUsable, refined_usable, IsInherited, inherited_is, cons_all, joined_all, params_into, inherited_usable, if_some_each, event_found}
 
 option_named : (P : List ℕ → Type 0) (n : List ℕ) (o : Option Ty) → P n → IfSome {T = List ℕ × Ty} (option_map (λ t. (n, t)) o) (λ x. P x.0)
 option_named P n None p = tt
@@ -44,12 +48,19 @@ pub in_order_each : (P : List ℕ → Type 0) (last : Entries) (ns : List (List 
 in_order_each P last [] h = tt
 in_order_each P last (n ∷ ns) h = cons_all {X = List ℕ × Ty} (λ x. P x.0) (option_map (λ t. (n, t)) (type_in last n)) (in_order last ns) (option_named P n (type_in last n) h.0) (in_order_each P last ns h.1)
 
-among_self : (ns : List (List ℕ)) → AllByRecursion (λ n. is_among ns n ≡ true) ns
-among_self [] = tt
-among_self (n ∷ ns) = (
-  or_left (bytes_eq n n) (is_among ns n) (name_is n),
-  all_each (λ m. is_among ns m ≡ true) (λ m. is_among (n ∷ ns) m ≡ true) ns (λ m h. or_right (bytes_eq m n) (is_among ns m) h) (among_self ns),
-)
+lacks_within : (env larger : Entries) (n : List ℕ) → IsWithin env larger → type_in larger n ≡ None → type_in env n ≡ None
+lacks_within env larger n within none = elim (some_or (type_in env n)) [
+  | inl h ↦ absent (type_in larger n) h.0 none (within (n, h.0) h.1)
+  | inr h ↦ h
+]
+
+params_of : (P : Entries → Type 0) (o : Option CheckedEvent) → P [] → IfSome o (λ a. P a.params) → P (option_map_or (λ a. a.params) o [])
+params_of P None e h = e
+params_of P (Some a) e h = h
+
+joined_back : {X Y : Type 0} → (P : Y → Type 0) (f : X → List Y) (xs : List X) → AllByRecursion P (joined (map f xs)) → AllByRecursion (λ x. AllByRecursion P (f x)) xs
+joined_back P f [] h = tt
+joined_back P f (x ∷ xs) h = (all_front P (f x) (joined (map f xs)) h, joined_back P f xs (all_back P (f x) (joined (map f xs)) h))
 
 -- What an event is checked beside: the constants, the environment of its machine, and the one in which its invariants were typed.
 pub record IsPlace (constants env last : Entries) (known : List (List ℕ)) : Type 0 where
@@ -262,34 +273,216 @@ module _ (constants env last : Entries) (known : List (List ℕ)) (place : IsPla
   pub event_sound : (witnesses : List Labelled) (actions : List LabelledAction) → AreActionsIn after actions → IsSoundEvent constants env (event_of m e after guards witnesses actions)
   event_sound witnesses actions h = record { good = target_good; sets = params_sets; names = params_identifiers; guards = all_guards; actions = all_actions actions h }
 
+  -- Its witnesses.
+
+  abbrev left : Entries
+  left = lost_params m e
+
+  params_keys : keys_of params ≡ param_names m e
+  params_keys = keys_append inherits own ∙ ap (λ ks. names inherits ++ ks) own_keys
+
+  left_each : (P : List ℕ × Ty → Type 0) → ((a : CheckedEvent) → IsUsable a_constants a_env known a → AllByRecursion P a.params) → AllByRecursion P left
+  left_each P h = lost_each P m e (all_each (IsUsable a_constants a_env known) (λ a. AllByRecursion P a.params) (refined m e) h usable)
+
+  left_other : AreOther known (keys_of left)
+  left_other = all_map (λ n. is_among known n ≡ false) (λ x. x.0) left
+      (left_each (λ x. is_among known x.0 ≡ false) (λ a h. all_unmap (λ n. is_among known n ≡ false) (λ x. x.0) a.params h.1))
+
+  left_new : AreNew target (keys_of left)
+  left_new = all_two (λ n. type_in env n ≡ None) (λ n. type_in params n ≡ None) (λ n. type_in target n ≡ None) (keys_of left) (λ n h k. none_append env params n h k)
+      (place.known_names (keys_of left) left_other) (not_named params (keys_of left) (subst (λ ks. AreOther ks (keys_of left)) (sym params_keys) (lost_other m e)))
+
+  left_distinct : merged_differ component m e ≡ [] → HasDistinctNames left
+  left_distinct merged = lost_distinct component m e merged
+      (all_each (IsUsable a_constants a_env known) (λ a. HasDistinctNames a.params) (refined m e) (λ a h. distinct_back a_env a.params h.0.good.names) usable)
+
+  left_types : AllByRecursion (λ x. IsTrue (is_value_type x.1)) left
+  left_types = left_each (λ x. IsTrue (is_value_type x.1)) (λ a h. all_back (λ x. IsTrue (is_value_type x.1)) a_env a.params h.0.good.types)
+
+  left_sets : HasCarriersAmong constants left
+  left_sets = over_constants left (left_each (λ x. AllStand a_constants (carriers x.1)) (λ a h. h.0.sets))
+
+  left_names : HasIdentifiers left
+  left_names = left_each (λ x. IsTrue (is_identifier x.0)) (λ a h. h.0.names)
+
+  constants_after : IsWithin constants after
+  constants_after x h = stood.within x (last_first x (place.constants_last x h))
+
+  target_names : HasIdentifiers target
+  target_names = all_append (λ x. IsTrue (is_identifier x.0)) env params place.names_are params_identifiers
+
+  -- The abstract events in the event's environment.
+
+  abbrev base : Entries
+  base = target ++ left
+
+  abbrev others : Entries
+  others = abstract_params m e
+
+  base_names : HasIdentifiers base
+  base_names = all_append (λ x. IsTrue (is_identifier x.0)) target left target_names left_names
+
+  together : merged_differ component m e ≡ [] → AllByRecursion (λ a. AllStand others a.params) (refined m e)
+  together merged = abstract_together component m e merged
+      (all_each (IsUsable a_constants a_env known) (λ a. HasDistinctNames a.params) (refined m e) (λ a h. distinct_back a_env a.params h.0.good.names) usable)
+
+  declared_other : AreOther known declared
+  declared_other = all_each (λ n. is_among (known ++ names inherits) n ≡ false) (λ n. is_among known n ≡ false) declared (λ n h. none_left known (names inherits) n h) once.other
+
+  declared_apart : AreNew inherits declared
+  declared_apart = not_named inherits declared
+      (all_each (λ n. is_among (known ++ names inherits) n ≡ false) (λ n. is_among (names inherits) n ≡ false) declared (λ n h. none_right known (names inherits) n h) once.other)
+
+  -- a declared name is new before the guards, but for what the abstract events say
+  declared_new : (n : List ℕ) → is_among declared n ≡ true → type_in (with_all last inherits) n ≡ None
+  declared_new n h =
+      let before : type_in last n ≡ None = lacks_within last env n place.within (among_new env declared n (place.known_names declared declared_other) h) in
+      with_all_new last inherits n before ∙ among_new inherits declared n declared_apart h
+
+  inherits_named : AllByRecursion (IsNamedIn inherits) (names inherits)
+  inherits_named = all_map (IsNamedIn inherits) (λ x. x.0) inherits
+      (all_each (Stands inherits) (λ x. IsNamedIn inherits x.0) inherits (λ x h. (x.1, h)) (stand_there inherits is_inherited.distinct))
+
+  -- what the event has of the abstract parameters has their types
+  kept_stands : merged_differ component m e ≡ [] → (x : List ℕ × Ty) → Stands others x → is_among (param_names m e) x.0 ≡ true → Stands target x
+  kept_stands merged x h among = elim (any_append (bytes_eq x.0) (names inherits) declared among) [
+    | inl k ↦
+        let inherited_others : AllStand others inherits = params_of (AllStand others) (inherited m e) tt (inherited_usable (λ a. AllStand others a.params) m e (together merged)) in
+        let named = named_among inherits (names inherits) x.0 inherits_named k in
+        within_all target inherits inherits_stand (x.0, named.0) named.1 ∙ sym (within_all others inherits inherited_others (x.0, named.0) named.1) ∙ h
+    | inr k ↦
+        let at_first : Stands first x = with_all_new (with_all last inherits) shared x.0 (declared_new x.0 k) ∙ in_order_has others declared x.0 x.1 h k in
+        own_from x (stood.within x at_first) k
+  ]
+
+  base_distinct : merged_differ component m e ≡ [] → HasDistinctNames base
+  base_distinct merged = distinct_append target left target_distinct (left_distinct merged) (new_turned left target left_new)
+
+  others_stand : merged_differ component m e ≡ [] → AllByRecursion (λ a. AllStand base a.params) (refined m e)
+  others_stand merged =
+      let lacked : AllByRecursion (λ x. not (is_among (param_names m e) x.0) ≡ true → Stands base x) others =
+      filter_back (λ x. not (is_among (param_names m e) x.0)) (Stands base) others (parts_stand target left (base_distinct merged)).1 in
+      all_two (λ a. AllStand others a.params) (λ a. AllByRecursion (λ x. not (is_among (param_names m e) x.0) ≡ true → Stands base x) a.params) (λ a. AllStand base a.params) (refined m e)
+      (λ a h k. all_two (Stands others) (λ x. not (is_among (param_names m e) x.0) ≡ true → Stands base x) (Stands base) a.params
+      (λ x i l. elim (here_or (is_among (param_names m e) x.0)) [
+        | inl n ↦ sooner target left x.0 x.1 (kept_stands merged x i n)
+        | inr n ↦ l (ap not n)
+      ])
+      h k)
+      (together merged) (joined_back (λ x. not (is_among (param_names m e) x.0) ≡ true → Stands base x) (λ a. a.params) (refined m e) lacked)
+
+  abstract_in : merged_differ component m e ≡ [] → AllByRecursion (IsEventIn base) (refined m e)
+  abstract_in merged = all_two (IsUsable a_constants a_env known) (λ a. AllStand base a.params) (IsEventIn base) (refined m e)
+      (λ a h k. let into = params_into a_env a.params base (λ x i. sooner target left x.0 x.1 (env_target x (above.within x i))) k in
+      record {
+        params = k;
+        guards = predicates_within (a_env ++ a.params) base a.guards into h.0.guards;
+        actions = actions_more (a_env ++ a.params) base into base_names a.actions h.0.actions;
+      })
+      usable (others_stand merged)
+
+  pub event_witnessed : (variables lost : List (List ℕ)) (witnesses : List Labelled) (same : Entries) (actions : List LabelledAction) → AllByRecursion (IsNamedIn env) variables →
+      ((n : List ℕ) → is_among lost n ≡ true → is_among variables n ≡ true) → merged_differ component m e ≡ [] →
+      missing_witnesses component e.name.place (map (λ w. w.label) e.witnesses) (needed m lost e) ≡ [] → superfluous_witnesses component (needed m lost e) e.witnesses ≡ [] →
+      AreTyped component (witness_env m e variables after) [] e.witnesses witnesses [] same →
+      IsSoundRefinement env variables lost (found_in_events m (map (λ a. a.name) (refined m e))) (event_of m e after guards witnesses actions)
+  event_witnessed variables lost witnesses same actions variables_named has_lost merged missing superfluous typed =
+      let all = base ++ map with_prime (filter (λ x. is_among variables x.0) env) in
+      let holds : HoldsWitnesses env left base all (witness_env m e variables after) variables =
+      holds_witnesses constants env params left after variables target_good target_names constants_target (left_distinct merged) left_new left_types left_sets left_names after_target stood.carriers
+      constants_after variables_named in
+      let left_named : AllByRecursion (IsNamedIn all) (keys_of left) = all_map (IsNamedIn all) (λ x. x.0) left (all_each (Stands all) (λ x. IsNamedIn all x.0) left (λ x h. (x.1, h)) holds.left_stand) in
+      let wanted_named : (n : List ℕ) → is_among (needed m lost e) n ≡ true → IsNamedIn all n =
+      λ n h. elim (wanted_is m lost e n h) [
+        | inl k ↦ named_among all (keys_of left) n left_named k
+        | inr k ↦ let x : IsNamedIn env k.0 = named_among env variables k.0 variables_named (has_lost k.0 k.2) in
+            subst (IsNamedIn all) (sym k.1) (x.0, holds.variable_stands k.0 x.0 (has_lost k.0 k.2) x.1)
+      ] in
+      let labels : AllByRecursion (λ l. IsNamedIn all l.label) witnesses =
+      labels_typed (IsNamedIn all) component (witness_env m e variables after) [] e.witnesses witnesses same typed
+      (all_each (λ l. is_among (needed m lost e) l.label ≡ true) (λ l. IsNamedIn all l.label) e.witnesses (λ l h. wanted_named l.label h) (all_wanted component (needed m lost e) e.witnesses superfluous)) in
+      let listed : AllByRecursion (λ l. is_among (keys_of left ++ map primed (filter (is_among (chosen_by_first (refined m e))) lost)) l.label ≡ true) witnesses =
+      labels_typed (λ n. is_among (keys_of left ++ map primed (filter (is_among (chosen_by_first (refined m e))) lost)) n ≡ true) component (witness_env m e variables after) [] e.witnesses witnesses same typed
+      (all_each (λ l. is_among (needed m lost e) l.label ≡ true) _ e.witnesses (λ l h. wanted_listed m lost e l.label h) (all_wanted component (needed m lost e) e.witnesses superfluous)) in
+      let start : IfSome (event_named m initialisation) (λ a. a.params ≡ []) =
+      if_some_each (λ a. (IsSoundEvent a_constants a_env a × StartsPlainly a) × (bytes_eq initialisation a.name ≡ true)) (λ a. a.params ≡ []) (event_named m initialisation) (λ a h. (h.0.1 h.1).0)
+      (event_found (λ a. IsSoundEvent a_constants a_env a × StartsPlainly a) m initialisation above.events) in
+      let lost_names : AllByRecursion (λ n. is_identifier n ≡ true) lost = all_each (λ n. is_among lost n ≡ true) (λ n. is_identifier n ≡ true) lost
+      (λ n h. let x = named_among env variables n variables_named (has_lost n h) in found_has (λ y. IsTrue (is_identifier y.0)) env n x.0 place.names_are x.1) (among_self lost) in
+      let all_have = all_given component m lost e witnesses (witness_env m e variables after) same start merged missing typed (all_map (λ n. is_identifier n ≡ true) (λ x. x.0) left left_names)
+      (filter_all (is_among (chosen_by_first (refined m e))) (λ n. is_identifier n ≡ true) lost lost_names) in
+      let is = sym (left_is m e params params_keys) in
+      let lacked = filter (λ x. not (is_among (keys_of params) x.0)) (for_each (λ r. r.params) (found_in_events m (map (λ a. a.name) (refined m e)))) in
+      let with_left : Entries → Entries = λ l. env ++ params ++ l ++ map with_prime (filter (λ x. is_among variables x.0) env) in
+      record {
+        good = subst (λ l. IsGoodEnv (with_left l)) is holds.good;
+        some_primed = subst (λ l. (xs : Entries) → HasDistinctNames xs → AllStand env xs → IsGoodEnv (env ++ params ++ l ++ map with_prime xs)) is holds.some;
+        witnesses = subst (λ l. AllByRecursion (λ x. IsPredicateIn (with_left l) x.1) (witnesses_of witnesses)) is
+            (all_map (λ x. IsPredicateIn all x.1) (λ x. (x.label, x.formula)) (filter (λ x. is_name x.label) witnesses)
+            (filter_all (λ x. is_name x.label) (λ x. IsPredicateIn all x.formula) witnesses (holds.typed component e.witnesses witnesses same typed)));
+        names = subst (λ l. AllByRecursion (λ x. IsNamedIn (with_left l) x.0) (witnesses_of witnesses)) is
+            (all_map (λ x. IsNamedIn all x.0) (λ x. (x.label, x.formula)) (filter (λ x. is_name x.label) witnesses)
+            (filter_all (λ x. is_name x.label) (λ x. IsNamedIn all x.label) witnesses labels));
+        wanted = all_map (λ x. is_among (keys_of lacked ++ map primed (filter (is_among (chosen_by_first (found_in_events m (map (λ a. a.name) (refined m e))))) lost)) x.0 ≡ true)
+            (λ x. (x.label, x.formula)) (filter (λ x. is_name x.label) witnesses)
+            (filter_all (λ x. is_name x.label)
+            (λ x. is_among (keys_of lacked ++ map primed (filter (is_among (chosen_by_first (found_in_events m (map (λ a. a.name) (refined m e))))) lost)) x.label ≡ true) witnesses
+            (subst (λ rs. AllByRecursion (λ x. is_among (keys_of lacked ++ map primed (filter (is_among (chosen_by_first rs)) lost)) x.label ≡ true) witnesses) (sym (refined_again m e))
+            (subst (λ l. AllByRecursion (λ x. is_among (keys_of l ++ map primed (filter (is_among (chosen_by_first (refined m e))) lost)) x.label ≡ true) witnesses) is listed)));
+        given = subst (λ rs. AllByRecursion (λ n. is_among (keys_of (witnesses_of witnesses)) n ≡ true) (keys_of lacked ++ map primed (filter (is_among (chosen_by_first rs)) lost))) (sym (refined_again m e))
+            (subst (λ l. AllByRecursion (λ n. is_among (keys_of (witnesses_of witnesses)) n ≡ true) (keys_of l ++ map primed (filter (is_among (chosen_by_first (refined m e))) lost))) is all_have);
+        found = ap (map (λ a. a.name)) (refined_again m e);
+        abstract = subst (λ rs. AllByRecursion (IsEventIn (env ++ params ++ lacked)) rs) (sym (refined_again m e))
+            (subst (λ l. AllByRecursion (IsEventIn (env ++ params ++ l)) (refined m e)) is (abstract_in merged));
+      }
+
 -- All events of a machine.
 
 pub joined_none : {X Y : Type 0} → (f : X → List Y) (xs : List X) → joined (map f xs) ≡ [] → AllByRecursion (λ x. f x ≡ []) xs
 joined_none f [] e = tt
 joined_none f (x ∷ xs) e = (first_none (f x) (joined (map f xs)) e, joined_none f xs (second_none (f x) (joined (map f xs)) e))
 
+-- what the abstraction asks of witnesses
+pub record AsksWitnesses (component : List ℕ) (m : List CheckedEvent) (lost : List (List ℕ)) (e : RawEvent) : Type 0 where
+  pub merged : merged_differ component m e ≡ []
+  pub missing : missing_witnesses component e.name.place (map (λ w. w.label) e.witnesses) (needed m lost e) ≡ []
+  pub superfluous : superfluous_witnesses component (needed m lost e) e.witnesses ≡ []
+
+-- An event is sound, and so are its witnesses.
+abbrev pub IsWhole : Entries → Entries → List CheckedEvent → List (List ℕ) → List (List ℕ) → CheckedEvent → Type 0
+IsWhole constants env m variables lost e = IsSoundEvent constants env e × IsSoundRefinement env variables lost (found_in_events m e.refines) e
+
 module _ (constants env last : Entries) (known : List (List ℕ)) (place : IsPlace constants env last known) (a_constants a_env : Entries) (m : List CheckedEvent)
-    (above : IsAbove constants env a_constants a_env m) (component : List ℕ) (variables : List (List ℕ)) (actions_stand : TypedActionsStand) where
+    (above : IsAbove constants env a_constants a_env m) (component : List ℕ) (variables lost : List (List ℕ)) (actions_stand : TypedActionsStand)
+    (variables_named : AllByRecursion (IsNamedIn env) variables) (has_lost : (n : List ℕ) → is_among lost n ≡ true → is_among variables n ≡ true) where
   one_sound : (e : RawEvent) (one : CheckedEvent) (here : List Fault) → AllByRecursion (λ r. IsTrue (is_identifier r.name)) e.params → event_declarations component m known e ≡ []
-      → IsTypedEvent component m variables last e one here → here ≡ [] → IsSoundEvent constants env one
-  one_sound e one here ids clear t none =
+      → AsksWitnesses component m lost e → IsTypedEvent component m variables last e one here → here ≡ [] → IsWhole constants env m variables lost one
+  one_sound e one here ids clear asks t none =
       let never = never_typed component t.2 e.params in
       let faults : t.1 ++ never ++ t.5 ++ t.9 ≡ [] = sym t.12 ∙ none in
-      let own_faults : t.1 ++ never ≡ [] = first_none (t.1 ++ never) t.5 (first_none (t.1 ++ never ++ t.5) t.9 faults) in
+      let witness_faults : t.1 ++ never ++ t.5 ≡ [] = first_none (t.1 ++ never ++ t.5) t.9 faults in
+      let own_faults : t.1 ++ never ≡ [] = first_none (t.1 ++ never) t.5 witness_faults in
       let checks : AreTyped component (event_env m e last) (names_of e.params) e.guards t.0 [] t.2 =
       subst (λ fs. AreTyped component (event_env m e last) (names_of e.params) e.guards t.0 fs t.2) (first_none t.1 never own_faults) t.3 in
+      let witnesses : AreTyped component (witness_env m e variables t.2) [] e.witnesses t.4 [] t.6 =
+      subst (λ fs. AreTyped component (witness_env m e variables t.2) [] e.witnesses t.4 fs t.6) (second_none (t.1 ++ never) t.5 witness_faults) t.7 in
       let all_typed = second_none t.1 never own_faults in
       let ids_are = all_map (λ n. IsTrue (is_identifier n)) (λ r. r.name) e.params ids in
       let has = after_carriers constants env last known place a_constants a_env m above component e ids_are clear t.0 t.2 checks all_typed in
       let actions = actions_typed actions_stand component t.2 e.actions t.8 t.9 has t.10 (second_none (t.1 ++ never ++ t.5) t.9 faults) in
-      subst (IsSoundEvent constants env) (sym t.11)
-      (event_sound constants env last known place a_constants a_env m above component e ids_are clear t.0 t.2 checks all_typed t.4 t.8 actions)
+      subst (IsWhole constants env m variables lost) (sym t.11) (
+        event_sound constants env last known place a_constants a_env m above component e ids_are clear t.0 t.2 checks all_typed t.4 t.8 actions,
+        event_witnessed constants env last known place a_constants a_env m above component e ids_are clear t.0 t.2 checks all_typed variables lost t.4 t.6 t.8 variables_named has_lost
+            asks.merged asks.missing asks.superfluous witnesses,
+      )
 
   pub events_sound : (raws : List RawEvent) (typed : List CheckedEvent) (faults : List Fault) → AllByRecursion (λ e. AllByRecursion (λ r. IsTrue (is_identifier r.name)) e.params) raws
-      → AllByRecursion (λ e. event_declarations component m known e ≡ []) raws → AreTypedEvents component m variables last raws typed faults → faults ≡ []
-      → AllByRecursion (IsSoundEvent constants env) typed
-  events_sound [] typed faults ids clear t none = subst (AllByRecursion (IsSoundEvent constants env)) (sym t.0) tt
-  events_sound (e ∷ raws) typed faults ids clear t none =
+      → AllByRecursion (λ e. event_declarations component m known e ≡ []) raws → AllByRecursion (λ p. AsksWitnesses component m lost p.0) (zip raws typed)
+      → AreTypedEvents component m variables last raws typed faults → faults ≡ [] → AllByRecursion (IsWhole constants env m variables lost) typed
+  events_sound [] typed faults ids clear asks t none = subst (AllByRecursion (IsWhole constants env m variables lost)) (sym t.0) tt
+  events_sound (e ∷ raws) typed faults ids clear asks t none =
       let both : t.1 ++ t.3 ≡ [] = sym t.7 ∙ none in
-      subst (AllByRecursion (IsSoundEvent constants env)) (sym t.6)
-      (one_sound e t.0 t.1 ids.0 clear.0 t.4 (first_none t.1 t.3 both), events_sound raws t.2 t.3 ids.1 clear.1 t.5 (second_none t.1 t.3 both))
+      let pairs : AllByRecursion (λ p. AsksWitnesses component m lost p.0) ((e, t.0) ∷ zip raws t.2) =
+      subst (λ es. AllByRecursion (λ p. AsksWitnesses component m lost p.0) (zip (e ∷ raws) es)) t.6 asks in
+      subst (AllByRecursion (IsWhole constants env m variables lost)) (sym t.6)
+      (one_sound e t.0 t.1 ids.0 clear.0 pairs.0 t.4 (first_none t.1 t.3 both), events_sound raws t.2 t.3 ids.1 clear.1 pairs.1 t.5 (second_none t.1 t.3 both))

@@ -1,5 +1,5 @@
 -- Environments with some of the names.
-use Rattle.std.proofs.Common.{◌≡◌, ◌⊎◌, inl, inr, ℕ, Bool, true, false, cond, List, [], ◌∷◌, ◌++◌, Some, is_some}
+use Rattle.std.proofs.Common.{◌⊎◌, inl, inr, ℕ, Bool, true, false, cond, List, [], ◌∷◌, ◌++◌, Some, is_some}
 use Rattle.std.specs.List.{AllByRecursion}
 use Rattle.formula_core.specs.declared.ty.Ty.{Ty}
 use Rattle.formula_core.specs.Env.{type_in}

@@ -3,10 +3,15 @@ pub mod Checked
 pub mod Contexts
 pub mod Declared
 pub mod Events
+pub mod Given
 pub mod Growing
+pub mod Lost
 pub mod Machines
 pub mod Names
 pub mod Parts
 pub mod Refined
+pub mod Targets
 pub mod Typing
 pub mod Views
+pub mod Wanted
+pub mod Witnesses

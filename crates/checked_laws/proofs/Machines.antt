@@ -1,10 +1,9 @@
 -- A checked machine is sound.
-use Rattle.std.proofs.Common.{◌≡◌, ◌∙◌, ◌⊎◌, inl, inr, sym, ap, ap₂, subst, refl, ℕ, Bool, true, false, not, cond, ◌||◌, List, [], ◌∷◌, ◌++◌, append_assoc, map, take, drop, take-append-drop, length, Option, Some, None, IfSome, IsTrue, bytes_eq}
-use Rattle.std.specs.List.{AllByRecursion, IsDistinct, filter, zip, take-map}
+use Rattle.std.proofs.Common.{◌≡◌, ◌∙◌, ◌⊎◌, inl, inr, sym, ap, ap₂, subst, refl, ℕ, Bool, true, false, not, cond, ◌||◌, List, [], ◌∷◌, ◌++◌, append_assoc, map, take, drop, take-append-drop, length, Option, Some, None, IfSome, IsTrue, bytes_eq, ◌&&◌}
+use Rattle.std.specs.List.{AllByRecursion, IsDistinct, filter, zip, take-map, drop-map}
 use Rattle.std.specs.Map.{keys_of}
 use Rattle.std.specs.Option.{option_map_or}
 use Rattle.std.proofs.Math.Seq.{take-append_seam, drop-append_seam}
-use Rattle.formula_core.specs.declared.raw.Ref.{Ref}
 use Rattle.formula_core.specs.declared.ty.Ty.{Ty}
 use Rattle.formula_core.specs.declared.ty.Ty.TheVariants as ty
 use Rattle.formula_core.specs.declared.formula.Formula.{Formula}
@@ -19,29 +18,29 @@ use Rattle.formula_core.proofs.TypedIn.{typed_more}
 use Rattle.type_core.specs.CoreForms.{core_form}
 use Rattle.type_core.proofs.Named.{all_append, all_front, all_back, all_each, sooner, found_has}
 use Rattle.type_core.proofs.Standing.{formulas_stand}
-use Rattle.model_core.specs.declared.fault.Fault.{Fault}
 use Rattle.model_core.specs.declared.component.RawVariant.{RawVariant}
-use Rattle.model_core.specs.declared.checked.Checked.{Checked}
-use Rattle.model_core.specs.declared.checked.Checked.TheVariants.{Context, Machine}
-use Rattle.model_core.specs.declared.checked.CheckedContext.{CheckedContext}
+use Rattle.model_core.specs.declared.checked.Checked.TheVariants.{Machine}
 use Rattle.model_core.specs.declared.checked.CheckedEvent.{CheckedEvent}
 use Rattle.model_core.specs.declared.checked.CheckedMachine.{CheckedMachine}
 use Rattle.model_core.specs.declared.checked.Labelled.{Labelled}
 use Rattle.model_core.specs.Each.{is_among}
-use Rattle.check_rules.specs.Contexts.{names_of}
-use Rattle.check_rules.specs.Events.{event_declarations, AreTypedEvents}
+use Rattle.check_rules.specs.Events.{event_declarations, AreTypedEvents, initialisation}
 use Rattle.check_rules.specs.Machines.{Written, abstract_variables, abstract_events, abstract_view, own_names, new_variables, lost_variables, all_variables, machine_env, machine_of}
 use Rattle.check_rules.specs.Typed.{Entries, AreTyped, IsTypedVariant, never_typed, in_order}
-use Rattle.check_rules.specs.Visible.{Identifiers, Visible, identifiers, entries, origins, names, of_machine, seen_from}
+use Rattle.check_rules.specs.Visible.{Identifiers, Visible, identifiers, entries, origins, names, of_machine}
 use Rattle.type_action.specs.Laws.{TypedActionsStand}
-use Rattle.checked_laws.specs.Projects.{ProjectNames, AreOf, AreConstantsOf, AreVariablesOf, DeclaresIn, Has, IsOf}
-use Rattle.checked_laws.specs.Sound.{HasIdentifiers, HasCarriersAmong, ArePredicatesIn, IsNamedIn, IsSoundEvent, StartsPlainly, IsSoundMachine}
-use Rattle.checked_laws.proofs.Names.{AllStand, AreNew, absent, here_or, same_name, neither_first, neither_second, lacks_back, not_among, none_append, found_in, distinct_back, stand_there, parts_stand, stand_sooner, within_all}
-use Rattle.checked_laws.proofs.Parts.{never_empty, all_map, all_unmap, all_two, map_append, zip_left, zip_firsts, filter_each, filter_all}
-use Rattle.checked_laws.proofs.Typing.{AddsNoSets, set_over, over_set, carriers_kept, predicates_within, Stood, typed_stand, last_from, in_order_stand, in_order_keys, reaches}
+use Rattle.checked_laws.specs.Projects.{ProjectNames, AreConstantsOf, AreVariablesOf, DeclaresIn, Has, IsOf}
+use Rattle.checked_laws.specs.Sound.{HasIdentifiers, HasCarriersAmong, ArePredicatesIn, IsNamedIn, IsSoundEvent, StartsPlainly, AssignsVariables, IsSoundMachine}
+use Rattle.checked_laws.specs.Refining.{refined_by, IsSoundRefinement, IsSoundBeside, IsSoundOver}
+use Rattle.checked_laws.proofs.Targets.{IsAssigningWell, events_assign, distinct_join}
+use Rattle.checked_laws.proofs.Witnesses.{named_among}
+use Rattle.checked_laws.proofs.Lost.{found_in_events, nothing_found}
+use Rattle.checked_laws.proofs.Names.{AllStand, AreNew, absent, same_name, or_right, neither_first, neither_second, lacks_back, not_among, none_append, distinct_back, stand_there, stand_sooner, within_all, here_or, parts_stand, apart, missed, or_left, name_is, among_later, among_sooner, among_self}
+use Rattle.checked_laws.proofs.Parts.{never_empty, all_map, all_unmap, all_two, map_append, zip_left, zip_firsts, filter_each, filter_all, filter_back, all_true}
+use Rattle.checked_laws.proofs.Typing.{over_set, carriers_kept, predicates_within, Stood, typed_stand, last_from, in_order_stand, in_order_keys, reaches}
 use Rattle.checked_laws.proofs.Views.{all_entries, IsSoundView}
 use Rattle.checked_laws.proofs.Contexts.{nothing_sound, map_length, row_length}
-use Rattle.checked_laws.proofs.Events.{IsPlace, IsAbove, events_sound, joined_none}
+use Rattle.checked_laws.proofs.Events.{IsPlace, IsAbove, AsksWitnesses, IsWhole, events_sound, joined_none}
 use Rattle.checked_laws.proofs.Declared.{DeclaredOnce, AreOther, none_left, none_right, not_named, all_named, declared_distinct, zip_row, all_one, declared_of}
 
 -- What the abstraction gives.
@@ -71,6 +70,10 @@ machine_view project m good constants variables =
       axioms = subst (λ es. AllByRecursion (λ x. IsPredicateIn es x.0.formula) (of_machine m).axioms) (sym is) (zip_left (λ l. IsPredicateIn m.env l.formula) m.axioms m.axioms_of good.axioms);
     }
 
+machine_variables : (m : CheckedMachine) → IsSoundMachine m → drop m.variables_from m.env ≡ entries (of_machine m).variables
+machine_variables m good =
+    ap (drop m.variables_from) (sym (zip_firsts m.env m.env_of good.origins)) ∙ drop-map (λ x. x.0) m.variables_from (zip m.env m.env_of)
+
 abbrev pub IsGoodAbstraction : ProjectNames → Option CheckedMachine → Type 0
 IsGoodAbstraction project m = IfSome m (λ a. IsSoundMachine a × AreConstantsOf project (of_machine a).constants × AreVariablesOf project (of_machine a).variables)
 
@@ -92,6 +95,25 @@ above_of project (Some a) env constants good olds larger = (
   },
 )
 
+-- the abstraction's variables stand among those of its environment
+variable_above : (project : ProjectNames) (m : Option CheckedMachine) → IsGoodAbstraction project m → (n : List ℕ) → is_among (abstract_variables m) n ≡ true →
+    IsNamedIn (entries (abstract_view m).variables) n
+variable_above project None good n h = let no : ⊥ = cc in absurd no
+variable_above project (Some a) good n h =
+    named_among (entries (of_machine a).variables) a.variables n
+    (subst (λ es. AllByRecursion (IsNamedIn es) a.variables) (machine_variables a good.0) (all_front (IsNamedIn (drop a.variables_from a.env)) a.variables a.lost good.0.behind)) h
+
+assigns_above : (project : ProjectNames) (m : Option CheckedMachine) → IsGoodAbstraction project m → AllByRecursion (AssignsVariables (abstract_variables m)) (abstract_events m)
+assigns_above project None good = tt
+assigns_above project (Some a) good = good.0.assigns
+
+among_names : (xs : Entries) (n : List ℕ) (t : Ty) → type_in xs n ≡ Some t → is_among (names xs) n ≡ true
+among_names [] n t e = let no : ⊥ = cc in absurd no
+among_names (x ∷ xs) n t e = elim (here_or (bytes_eq n x.0)) [
+  | inl b ↦ or_left (bytes_eq n x.0) (is_among (names xs) n) b
+  | inr b ↦ or_right (bytes_eq n x.0) (is_among (names xs) n) (among_names xs n t (sym (missed (bytes_eq n x.0) x.1 (type_in xs n) b) ∙ e))
+]
+
 -- Names that pass a test.
 
 distinct_cond : (b : Bool) (n : List ℕ) (ns : List (List ℕ)) → AllByRecursion (λ y. bytes_eq n y ≡ false) ns → IsDistinct bytes_eq ns → IsDistinct bytes_eq (cond b (n ∷ ns) ns)
@@ -104,6 +126,11 @@ unfolding IsDistinct
 filter_distinct p [] d = tt
 filter_distinct p (n ∷ ns) d = distinct_cond (p n) n (filter p ns) (filter_all p (λ y. bytes_eq n y ≡ false) ns d.0) (filter_distinct p ns d.1)
 
+both_and : (a b : Bool) → a ≡ true → b ≡ false → (a && not b) ≡ true
+both_and true true h k = cc
+both_and true false h k = refl
+both_and false b h k = cc
+
 kept_other : (p : List ℕ → Bool) (ns : List (List ℕ)) (n : List ℕ) → p n ≡ true → is_among (filter p ns) n ≡ false → is_among ns n ≡ false
 kept_other p [] n k e = refl
 kept_other p (m ∷ ns) n k e = go (p m) (bytes_eq n m) refl refl (kept_other p ns n k) e
@@ -114,6 +141,16 @@ kept_other p (m ∷ ns) n k e = go (p m) (bytes_eq n m) refl refl (kept_other p 
         ap (λ b. b || is_among ns n) (neither_first (bytes_eq n m) (is_among (filter p ns) n) h) ∙ more (neither_second (bytes_eq n m) (is_among (filter p ns) n) h)
     go false true pm nm more h = let no : true ≡ false = sym k ∙ ap p (same_name n m nm) ∙ pm in cc
     go false false pm nm more h = ap (λ b. b || is_among ns n) nm ∙ more h
+
+second_not : (a b : Bool) → (a && not b) ≡ true → b ≡ false
+second_not true true e = cc
+second_not true false e = refl
+second_not false b e = cc
+
+beside_abstraction : (m : Option CheckedMachine) (env : Entries) (variables lost : List (List ℕ)) (e : CheckedEvent) → IsSoundRefinement env variables lost (found_in_events (abstract_events m) e.refines) e
+    → IsSoundRefinement env variables lost (refined_by m e) e
+beside_abstraction None env variables lost e h = subst (λ rs. IsSoundRefinement env variables lost rs e) (nothing_found e.refines) h
+beside_abstraction (Some a) env variables lost e h = h
 
 -- The machine.
 
@@ -285,8 +322,84 @@ module _ (project : ProjectNames) (m : Option CheckedMachine) (w : Written) (v :
   invariants_in None is g = tt
   invariants_in (Some a) is g = predicates_within a.env checked.env a.invariants (abstract_within a is g.0) g.0.invariants
 
-  pub machine_sound : AllByRecursion (IsSoundEvent constants checked.env) events → AllByRecursion StartsPlainly events → IsSoundMachine checked
-  machine_sound events_are start = record {
+  -- Variables stand behind the constants.
+
+  abbrev varying : Entries
+  varying = entries v.variables ++ own
+
+  varying_is : drop checked.variables_from checked.env ≡ varying
+  varying_is = ap₂ drop (sym (map_length (λ x. x.0) v.constants)) env_row ∙ drop-append_seam constants varying
+
+  varying_distinct : HasDistinctNames varying
+  varying_distinct = distinct_back constants varying (subst HasDistinctNames env_row distinct)
+
+  new_behind : AllByRecursion (λ n. is_new n ≡ true → IsNamedIn varying n) (own_names w)
+  new_behind = filter_back is_new (IsNamedIn varying) (own_names w)
+      (subst (AllByRecursion (IsNamedIn varying)) own_keys (named_in varying own (parts_stand (entries v.variables) own varying_distinct).1))
+
+  above_behind : (n : List ℕ) → is_among (abstract_variables m) n ≡ true → IsNamedIn varying n
+  above_behind n h =
+      let x = variable_above project m good n h in
+      (x.0, sooner (entries v.variables) own n x.0 (subst (λ es. Stands (entries es) (n, x.0)) (sym variables_are) x.1))
+
+  own_behind : AllByRecursion (IsNamedIn varying) (own_names w)
+  own_behind = all_each (λ n. is_new n ≡ true → IsNamedIn varying n) (IsNamedIn varying) (own_names w)
+      (λ n h. elim (here_or (is_among (abstract_variables m) n)) [
+        | inl k ↦ above_behind n k
+        | inr k ↦ h (ap not k)
+      ])
+      new_behind
+
+  lost_behind : AllByRecursion (IsNamedIn varying) (lost_variables m w)
+  lost_behind = filter_all _ (IsNamedIn varying) (names (entries (abstract_view m).variables))
+      (subst (λ xs. AllByRecursion (IsNamedIn varying) (names (entries xs))) variables_are
+      (named_in varying (entries v.variables) (parts_stand (entries v.variables) own varying_distinct).0))
+
+  -- a variable of the abstraction that isn't lost is kept
+  keeps : (n : List ℕ) → is_among (abstract_variables m) n ≡ true → is_among (lost_variables m w) n ≡ false → is_among (own_names w) n ≡ true
+  keeps n h k = elim (here_or (is_among (own_names w) n)) [
+    | inl i ↦ i
+    | inr i ↦
+        let x = variable_above project m good n h in
+        let ns = names (entries (abstract_view m).variables) in
+        apart (is_among ns n) (among_names (entries (abstract_view m).variables) n x.0 x.1)
+        (kept_other (λ l. is_among (abstract_variables m) l && not (is_among (own_names w) l)) ns n (both_and (is_among (abstract_variables m) n) (is_among (own_names w) n) h i) k)
+  ]
+
+  pub machine_assigns : AreTypedEvents w.name.name (abstract_events m) (all_variables m w) last w.events events []
+      → AllByRecursion (IsAssigningWell w.name.name (own_names w) (lost_variables m w)) (zip w.events events) → AllByRecursion (AssignsVariables (own_names w)) events
+  machine_assigns typed well = events_assign w.name.name (abstract_events m) (abstract_variables m) (own_names w) (lost_variables m w) (assigns_above project m good) keeps
+      (all_variables m w) last w.events events [] typed refl well
+
+  -- own and lost variables, each once
+  variables_once : IsDistinct bytes_eq (own_names w ++ lost_variables m w)
+  variables_once =
+      let ns = names (entries (abstract_view m).variables) in
+      let gone : List ℕ → Bool = λ l. is_among (abstract_variables m) l && not (is_among (own_names w) l) in
+      let distinct_above : IsDistinct bytes_eq ns = subst (λ xs. IsDistinct bytes_eq (names (entries xs))) variables_are
+      (distinct_back constants (entries v.variables) sound.distinct) in
+      distinct_join (own_names w) (lost_variables m w) once.distinct (filter_distinct gone ns distinct_above)
+      (filter_each gone (λ n. bytes_eq n n ≡ true) (λ n. is_among (own_names w) n ≡ false) ns
+      (λ n k h. second_not (is_among (abstract_variables m) n) (is_among (own_names w) n) k) (all_true (λ n. bytes_eq n n ≡ true) ns (λ n. name_is n)))
+
+  -- a variable of the abstraction is an own one or a lost one
+  abstract_stays : (n : List ℕ) → is_among (abstract_variables m) n ≡ true → is_among (own_names w ++ lost_variables m w) n ≡ true
+  abstract_stays n h = elim (here_or (is_among (lost_variables m w) n)) [
+    | inl k ↦ among_later (own_names w) (lost_variables m w) n k
+    | inr k ↦ among_sooner (own_names w) (lost_variables m w) n (keeps n h k)
+  ]
+
+  over_abstraction : (o : Option CheckedMachine) → m ≡ o → IsGoodAbstraction project o → IfSome o (λ a. IsSoundOver a checked)
+  over_abstraction None is g = tt
+  over_abstraction (Some a) is g = record {
+    env = abstract_within a is g.0;
+    variables = all_each (λ n. is_among a.variables n ≡ true) (λ n. is_among (own_names w ++ lost_variables m w) n ≡ true) a.variables
+        (λ n h. abstract_stays n (subst (λ o. is_among (abstract_variables o) n ≡ true) (sym is) h)) (among_self a.variables);
+  }
+
+  pub machine_sound : AllByRecursion (IsSoundEvent constants checked.env) events → AllByRecursion StartsPlainly events → AllByRecursion (AssignsVariables (own_names w)) events
+      → IsDistinct bytes_eq (map (λ e. e.name) events) → is_among (map (λ e. e.name) events) initialisation ≡ true → IsSoundMachine checked
+  machine_sound events_are start assigns event_names has_start = record {
     env = env_good;
     sets = subst (λ es. HasCarriersAmong es checked.env) (sym constants_taken) env_sets;
     names = names_are;
@@ -297,7 +410,13 @@ module _ (project : ProjectNames) (m : Option CheckedMachine) (w : Written) (v :
     variant = variant_in w.variant variant variant_typed;
     variables = variables_named;
     events = subst (λ es. AllByRecursion (IsSoundEvent es checked.env) events) (sym constants_taken) events_are;
+    behind = subst (λ es. AllByRecursion (IsNamedIn es) (own_names w ++ lost_variables m w)) (sym varying_is)
+        (all_append (IsNamedIn varying) (own_names w) (lost_variables m w) own_behind lost_behind);
+    once = variables_once;
+    event_names = event_names;
+    has_start = has_start;
     start = start;
+    assigns = assigns;
   }
 
   abbrev own_identifiers : Identifiers
@@ -358,13 +477,23 @@ module _ (project : ProjectNames) (m : Option CheckedMachine) (w : Written) (v :
   }
 
   pub machine_whole : TypedActionsStand → IsWithin (entries (abstract_view m).constants) constants → AllByRecursion (λ e. AllByRecursion (λ r. IsTrue (is_identifier r.name)) e.params) w.events
-      → joined (map (event_declarations w.name.name (abstract_events m) known) w.events) ≡ [] → AreTypedEvents w.name.name (abstract_events m) (all_variables m w) last w.events events []
-      → AllByRecursion StartsPlainly events → IsSoundMachine checked × (Has project (Machine checked) → IsOf project (Machine checked))
-  machine_whole actions_stand larger ids clear typed start =
-      let above = above_of project m checked.env constants good (λ x h. old_into x (olds x h)) larger in (
-        machine_sound
-            (events_sound constants checked.env last known place above.0 above.1 (abstract_events m) above.2 w.name.name (all_variables m w) actions_stand w.events events [] ids
-            (joined_none (event_declarations w.name.name (abstract_events m) known) w.events clear) typed refl)
-            start,
+      → joined (map (event_declarations w.name.name (abstract_events m) known) w.events) ≡ []
+      → AllByRecursion (λ p. AsksWitnesses w.name.name (abstract_events m) (lost_variables m w) p.0) (zip w.events events)
+      → AreTypedEvents w.name.name (abstract_events m) (all_variables m w) last w.events events []
+      → AllByRecursion StartsPlainly events → AllByRecursion (IsAssigningWell w.name.name (own_names w) (lost_variables m w)) (zip w.events events)
+      → IsDistinct bytes_eq (map (λ e. e.name) events) → is_among (map (λ e. e.name) events) initialisation ≡ true
+      → IsSoundMachine checked × IsSoundBeside m (Machine checked) × (Has project (Machine checked) → IsOf project (Machine checked))
+  machine_whole actions_stand larger ids clear asks typed start well event_names has_start =
+      let above = above_of project m checked.env constants good (λ x h. old_into x (olds x h)) larger in
+      let whole : AllByRecursion (IsWhole constants checked.env (abstract_events m) (all_variables m w) (lost_variables m w)) events =
+      events_sound constants checked.env last known place above.0 above.1 (abstract_events m) above.2 w.name.name (all_variables m w) (lost_variables m w) actions_stand
+      variables_named (λ n h. among_later (own_names w) (lost_variables m w) n h) w.events events [] ids
+      (joined_none (event_declarations w.name.name (abstract_events m) known) w.events clear) asks typed refl in (
+        machine_sound (all_each (IsWhole constants checked.env (abstract_events m) (all_variables m w) (lost_variables m w)) (IsSoundEvent constants checked.env) events (λ e h. h.0) whole) start (machine_assigns typed well) event_names has_start,
+        (
+          over_abstraction m refl good,
+          all_each (IsWhole constants checked.env (abstract_events m) (all_variables m w) (lost_variables m w)) (λ e. IsSoundRefinement checked.env (all_variables m w) (lost_variables m w) (refined_by m e) e) events
+              (λ e h. beside_abstraction m checked.env (all_variables m w) (lost_variables m w) e h.1) whole,
+        ),
         machine_has,
       )

@@ -1,6 +1,6 @@
 -- Names that stand in environments once.
-use Rattle.std.proofs.Common.{◌≡◌, ◌∙◌, ◌⊎◌, inl, inr, sym, ap, subst, refl, ℕ, Bool, true, false, not, cond, ◌&&◌, ◌||◌, List, [], ◌∷◌, ◌++◌, append_assoc, length, Option, Some, None, bytes_eq}
-use Rattle.std.specs.List.{AllByRecursion, IsDistinct, filter, list_any, zip}
+use Rattle.std.proofs.Common.{◌≡◌, ◌∙◌, ◌⊎◌, inl, inr, sym, ap, subst, refl, ℕ, Bool, true, false, cond, ◌||◌, List, [], ◌∷◌, ◌++◌, append_assoc, Option, Some, None, bytes_eq}
+use Rattle.std.specs.List.{AllByRecursion, IsDistinct}
 use Rattle.std.specs.Map.{keys_of}
 use Rattle.std.specs.Cmp.Lexicographic.{same_text}
 use Rattle.std.proofs.lemmas.Cmp.{nat_list_eq_equiv}
@@ -61,6 +61,25 @@ neither_first false b e = refl
 pub neither_second : (a b : Bool) → (a || b) ≡ false → b ≡ false
 neither_second true b e = cc
 neither_second false b e = e
+
+-- a name that is among some is among more
+pub among_later : (ns ms : List (List ℕ)) (n : List ℕ) → is_among ms n ≡ true → is_among (ns ++ ms) n ≡ true
+among_later [] ms n e = e
+among_later (m ∷ ns) ms n e = or_right (bytes_eq n m) (is_among (ns ++ ms) n) (among_later ns ms n e)
+
+pub among_sooner : (ns ms : List (List ℕ)) (n : List ℕ) → is_among ns n ≡ true → is_among (ns ++ ms) n ≡ true
+among_sooner [] ms n e = let no : ⊥ = cc in absurd no
+among_sooner (m ∷ ns) ms n e = elim (or_cases (bytes_eq n m) (is_among ns n) e) [
+  | inl i ↦ or_left (bytes_eq n m) (is_among (ns ++ ms) n) i
+  | inr i ↦ or_right (bytes_eq n m) (is_among (ns ++ ms) n) (among_sooner ns ms n i)
+]
+
+pub among_self : (ns : List (List ℕ)) → AllByRecursion (λ n. is_among ns n ≡ true) ns
+among_self [] = tt
+among_self (n ∷ ns) = (
+  or_left (bytes_eq n n) (is_among ns n) (name_is n),
+  all_each (λ m. is_among ns m ≡ true) (λ m. is_among (n ∷ ns) m ≡ true) ns (λ m h. or_right (bytes_eq m n) (is_among ns m) h) (among_self ns),
+)
 
 -- Looking up.
 

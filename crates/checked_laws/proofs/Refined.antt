@@ -1,28 +1,23 @@
 -- The abstract events of an event, and what it inherits.
-use Rattle.std.proofs.Common.{◌≡◌, ◌∙◌, ◌⊎◌, inl, inr, sym, ap, subst, refl, ℕ, zero, suc, Bool, true, false, not, cond, ◌&&◌, ◌||◌, ◌==◌, List, [], ◌∷◌, ◌++◌, map, length, Option, Some, None, IfSome, IsTrue, bytes_eq, option_to_list, slice_get}
+use Rattle.std.proofs.Common.{◌≡◌, inl, inr, sym, subst, refl, ℕ, Bool, true, false, cond, ◌&&◌, ◌==◌, List, [], ◌∷◌, ◌++◌, map, length, Option, Some, None, IfSome, IsTrue, bytes_eq, option_to_list, slice_get}
 use Rattle.std.specs.List.{AllByRecursion, IsDistinct, filter, filter_map, cons_option}
-use Rattle.std.specs.Map.{keys_of, lookup}
 use Rattle.std.specs.Option.{option_map, option_map_or}
 use Rattle.formula_core.specs.declared.raw.Ref.{Ref}
-use Rattle.formula_core.specs.declared.ty.Ty.{Ty}
 use Rattle.formula_core.specs.Env.{HasDistinctNames}
 use Rattle.formula_core.specs.Formulas.{joined}
-use Rattle.formula_core.specs.Identifiers.{carriers}
 use Rattle.formula_core.specs.Laws.{IsWithin}
-use Rattle.formula_core.specs.Names.{is_identifier}
-use Rattle.formula_core.specs.Typed.{Stands, IsPredicateIn}
 use Rattle.formula_core.specs.Types.{is_value_type}
-use Rattle.type_core.proofs.Named.{all_append, all_front, all_back, all_each}
+use Rattle.type_core.proofs.Named.{all_append, all_back, all_each}
 use Rattle.model_core.specs.declared.component.RawEvent.{RawEvent}
 use Rattle.model_core.specs.declared.checked.CheckedEvent.{CheckedEvent}
 use Rattle.model_core.specs.Each.{at_each, is_among}
-use Rattle.check_rules.specs.Events.{initialisation, is_initialisation, event_named, RefinedAt, with_event, refined_at, implied, refined, extended_of, inherited, inherited_params, inherited_guards, abstract_params, param_clash_row, param_clashes}
+use Rattle.check_rules.specs.Events.{initialisation, is_initialisation, event_named, RefinedAt, with_event, refined_at, implied, refined, inherited, inherited_params, param_clash_row, param_clashes}
 use Rattle.check_rules.specs.Typed.{Entries}
 use Rattle.check_rules.specs.Visible.{names}
 use Rattle.checked_laws.specs.Sound.{HasIdentifiers, HasCarriersAmong, ArePredicatesIn, AreActionsIn, IsSoundEvent, StartsPlainly}
 use Rattle.checked_laws.proofs.Actions.{actions_more}
 use Rattle.checked_laws.proofs.Declared.{AreOther}
-use Rattle.checked_laws.proofs.Names.{AllStand, name_turned, found_in, distinct_back, within_all}
+use Rattle.checked_laws.proofs.Names.{AllStand, found_in, distinct_back, within_all}
 use Rattle.checked_laws.proofs.Parts.{all_map, filter_none, map_none, first_none, second_none}
 use Rattle.checked_laws.proofs.Typing.{predicates_within}
 
@@ -60,15 +55,15 @@ clear_at component known before (x ∷ refs) e = (
   clear_at component known (before ++ x ∷ []) refs (second_none (param_clash_row component known before x) _ e),
 )
 
-listed : (P : CheckedEvent → Type 0) (o : Option CheckedEvent) → IfSome o P → AllByRecursion P (option_to_list o)
+pub listed : (P : CheckedEvent → Type 0) (o : Option CheckedEvent) → IfSome o P → AllByRecursion P (option_to_list o)
 listed P None h = tt
 listed P (Some a) h = (h, tt)
 
-if_all : (P : CheckedEvent → Type 0) (b : Bool) (xs : List CheckedEvent) → (b ≡ true → AllByRecursion P xs) → AllByRecursion P (cond b xs [])
+pub if_all : (P : CheckedEvent → Type 0) (b : Bool) (xs : List CheckedEvent) → (b ≡ true → AllByRecursion P xs) → AllByRecursion P (cond b xs [])
 if_all P true xs h = h refl
 if_all P false xs h = tt
 
-if_some_each : {X : Type 0} → (P Q : X → Type 0) (o : Option X) → ((x : X) → P x → Q x) → IfSome o P → IfSome o Q
+pub if_some_each : {X : Type 0} → (P Q : X → Type 0) (o : Option X) → ((x : X) → P x → Q x) → IfSome o P → IfSome o Q
 if_some_each P Q None f h = tt
 if_some_each P Q (Some x) f h = f x h
 
@@ -88,7 +83,7 @@ refined_usable constants env component known m e sound clear =
     let apart = clear_at component known [] (refined_at m e) clear in
     let start : IfSome (event_named m initialisation) (IsUsable constants env known) =
     if_some_each (λ a. P a × (bytes_eq initialisation a.name ≡ true)) (IsUsable constants env known) (event_named m initialisation)
-    (λ a h. (h.0.0, subst (λ ps. AreOther known (names ps)) (sym (h.0.1 h.1)) tt)) (event_found P m initialisation sound) in
+    (λ a h. (h.0.0, subst (λ ps. AreOther known (names ps)) (sym (h.0.1 h.1).0) tt)) (event_found P m initialisation sound) in
     all_append (IsUsable constants env known) (map (λ x. x.1) (refined_at m e)) (implied m e)
     (all_map (IsUsable constants env known) (λ x. x.1) (refined_at m e)
     (all_each (λ x. P x.1 × AreOther known (names x.1.params)) (λ x. IsUsable constants env known x.1) (refined_at m e) (λ x h. (h.0.0, h.1))

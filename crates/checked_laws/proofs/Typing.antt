@@ -1,6 +1,6 @@
 -- Formulas that are typed in order are typed in the last environment.
-use Rattle.std.proofs.Common.{◌≡◌, ◌∙◌, ◌⊎◌, inl, inr, sym, ap, subst, refl, ℕ, Bool, true, false, cond, ◌||◌, List, [], ◌∷◌, ◌++◌, Option, Some, None, IsTrue, bytes_eq, is_some}
-use Rattle.std.specs.List.{AllByRecursion, filter_map, cons_option}
+use Rattle.std.proofs.Common.{◌≡◌, ◌∙◌, ◌⊎◌, inl, inr, sym, ap, subst, refl, ℕ, Bool, true, false, cond, ◌||◌, List, [], ◌∷◌, ◌++◌, Option, Some, None, bytes_eq, is_some}
+use Rattle.std.specs.List.{AllByRecursion, cons_option}
 use Rattle.std.specs.Option.{option_map}
 use Rattle.std.specs.Map.{keys_of}
 use Rattle.formula_core.specs.declared.raw.Raw.{Raw}
@@ -16,7 +16,7 @@ use Rattle.formula_core.proofs.Equations.{carriers-Given, carriers-Pow, carriers
 use Rattle.formula_core.proofs.Keeping.{carriers-Int, carriers-Bool, carriers-Truth}
 use Rattle.formula_core.proofs.TypedIn.{predicate_more}
 use Rattle.formula_core.proofs.Types.{type_induction}
-use Rattle.type_core.specs.Answers.{with_name, extended, IsTheFormula, IsTheTyping}
+use Rattle.type_core.specs.Answers.{with_name, extended, IsTheTyping}
 use Rattle.type_core.specs.CoreForms.{core_form}
 use Rattle.type_core.specs.Laws.{HasValues, IsStanding}
 use Rattle.type_core.proofs.Named.{all_append, all_front, all_back, all_each, sooner, later, within_extended, extended_has, found_has}

@@ -1,25 +1,23 @@
 -- What a component sees of others is sound where they are.
-use Rattle.std.proofs.Common.{◌≡◌, ◌∙◌, ◌⊎◌, inl, inr, sym, ap, subst, refl, ℕ, Bool, true, false, not, cond, ◌&&◌, ◌||◌, List, [], ◌∷◌, ◌++◌, map, length, Option, Some, None, IsTrue, bytes_eq}
+use Rattle.std.proofs.Common.{◌≡◌, ◌∙◌, inl, inr, sym, ap, subst, refl, ℕ, Bool, true, false, not, cond, ◌&&◌, ◌||◌, List, [], ◌∷◌, ◌++◌, Some, None, IsTrue, bytes_eq}
 use Rattle.std.specs.List.{AllByRecursion, IsDistinct, filter, list_any, zip}
 use Rattle.std.specs.Map.{keys_of}
 use Rattle.formula_core.specs.declared.ty.Ty.{Ty}
-use Rattle.formula_core.specs.declared.raw.Ref.{Ref}
 use Rattle.formula_core.specs.Env.{HasDistinctNames, type_in}
 use Rattle.formula_core.specs.Identifiers.{carriers}
 use Rattle.formula_core.specs.Laws.{IsWithin}
 use Rattle.formula_core.specs.Names.{is_identifier}
-use Rattle.formula_core.specs.Typed.{Stands, HasCarriers, IsPredicateIn, IsGoodEnv}
+use Rattle.formula_core.specs.Typed.{Stands, IsPredicateIn}
 use Rattle.formula_core.specs.Types.{is_value_type}
 use Rattle.formula_core.proofs.TypedIn.{predicate_more}
 use Rattle.model_core.specs.declared.checked.CheckedContext.{CheckedContext}
-use Rattle.model_core.specs.declared.checked.Labelled.{Labelled}
 use Rattle.model_core.specs.Each.{is_among}
 use Rattle.check_rules.specs.Typed.{Entries}
-use Rattle.check_rules.specs.Visible.{Placed, Identifiers, Visible, identifiers, entries, origins, with_new, of_context, with_context, clashing}
+use Rattle.check_rules.specs.Visible.{Placed, Identifiers, Visible, identifiers, entries, origins, of_context, with_context, clashing}
 use Rattle.type_core.proofs.Named.{all_append, all_front, all_back, all_each}
-use Rattle.checked_laws.specs.Projects.{ProjectNames, AreOf, AreConstantsOf, AreVariablesOf}
+use Rattle.checked_laws.specs.Projects.{ProjectNames, AreConstantsOf, AreVariablesOf}
 use Rattle.checked_laws.specs.Sound.{HasIdentifiers, HasCarriersAmong, IsSoundContext}
-use Rattle.checked_laws.proofs.Names.{AllStand, AreNew, here_or, absent, apart, missed, or_left, or_right, or_cases, same_name, neither_first, neither_second, distinct_front, distinct_between, stand_there, stand_sooner, within_all}
+use Rattle.checked_laws.proofs.Names.{AllStand, AreNew, here_or, apart, missed, or_left, or_right, or_cases, same_name, neither_first, neither_second, distinct_front, distinct_between, stand_there, stand_sooner, within_all}
 use Rattle.checked_laws.proofs.Parts.{all_map, all_unmap, all_two, map_append, zip_left, zip_firsts, filter_each, filter_all, filter_back, filter_none, any_append}
 
 abbrev pub all_entries : Visible → Entries

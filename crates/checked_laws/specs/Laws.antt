@@ -1,14 +1,15 @@
 -- What is known of a checked component beside sound ones.
-use Rattle.std.specs.Prelude.{◌≡◌, ℕ, List, [], ◌++◌, map, length, IsTrue, Ok}
+use Rattle.std.specs.Prelude.{◌≡◌, List, ◌++◌, length, IsTrue, Ok}
 use Rattle.std.specs.List.{AllByRecursion}
 use Rattle.formula_core.specs.declared.raw.Ref.{Ref}
 use Rattle.formula_core.specs.Names.{is_identifier}
 use Rattle.model_core.specs.declared.component.RawComponent.{RawComponent}
 use Rattle.model_core.specs.declared.component.RawComponent.TheVariants as raw
 use Rattle.model_core.specs.declared.checked.Checked.{Checked}
-use Rattle.check_rules.specs.Components.{contexts_in, ChecksBeside}
+use Rattle.check_rules.specs.Components.{contexts_in, first_machine_in, ChecksBeside}
 use Rattle.checked_laws.specs.Projects.{ProjectNames, Has, IsOf}
 use Rattle.checked_laws.specs.Sound.{IsSound}
+use Rattle.checked_laws.specs.Refining.{IsSoundBeside}
 
 -- names that are declared have no prime
 abbrev pub DeclareIdentifiers : List Ref → Type 0
@@ -32,4 +33,4 @@ abbrev pub CheckedIsSound : Type 0
 CheckedIsSound =
     (project : ProjectNames) (written : RawComponent) (parts : List Checked) (checked : Checked) →
     DeclaresIdentifiers written → AreParts project written parts → Has project checked → ChecksBeside written parts (Ok checked) →
-    IsSound checked × IsOf project checked
+    IsSound checked × IsSoundBeside (first_machine_in parts) checked × IsOf project checked

@@ -1,3 +1,4 @@
 pub mod Laws
 pub mod Projects
+pub mod Refining
 pub mod Sound

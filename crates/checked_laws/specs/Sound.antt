@@ -1,6 +1,6 @@
--- Checked components whose formulas are typed in the environments of their places.
-use Rattle.std.specs.Prelude.{◌≡◌, ℕ, true, List, [], ◌++◌, take, length, IfSome, IsTrue, bytes_eq}
-use Rattle.std.specs.List.{AllByRecursion}
+-- Checked components whose formulas are typed in the environments of their places, and whose events assign their variables.
+use Rattle.std.specs.Prelude.{◌≡◌, ℕ, true, List, [], ◌++◌, map, take, drop, length, IfSome, IsTrue, bytes_eq}
+use Rattle.std.specs.List.{AllByRecursion, IsDistinct}
 use Rattle.formula_core.specs.declared.ty.Ty.{Ty}
 use Rattle.formula_core.specs.Identifiers.{carriers}
 use Rattle.formula_core.specs.Names.{is_identifier}
@@ -11,6 +11,8 @@ use Rattle.model_core.specs.declared.checked.CheckedContext.{CheckedContext}
 use Rattle.model_core.specs.declared.checked.CheckedEvent.{CheckedEvent}
 use Rattle.model_core.specs.declared.checked.CheckedMachine.{CheckedMachine}
 use Rattle.model_core.specs.declared.checked.Labelled.{Labelled}
+use Rattle.model_core.specs.Each.{is_among}
+use Rattle.check_rules.specs.Assignments.{all_assigned}
 use Rattle.check_rules.specs.Events.{initialisation}
 use Rattle.check_rules.specs.Typed.{Entries, LabelledAction}
 use Rattle.type_action.specs.Laws.{IsActionIn}
@@ -47,10 +49,17 @@ pub record IsSoundEvent (constants env : Entries) (e : CheckedEvent) : Type 0 wh
   pub guards : ArePredicatesIn (env ++ e.params) e.guards
   pub actions : AreActionsIn (env ++ e.params) e.actions
 
--- INITIALISATION has no parameters
+-- INITIALISATION has no parameters and no guards
 abbrev pub StartsPlainly : CheckedEvent → Type 0
-StartsPlainly e = bytes_eq initialisation e.name ≡ true → e.params ≡ []
+StartsPlainly e = bytes_eq initialisation e.name ≡ true → (e.params ≡ []) × (e.guards ≡ [])
 
+-- What an event assigns are variables of its machine, each once, and INITIALISATION assigns all of them.
+pub record AssignsVariables (variables : List (List ℕ)) (e : CheckedEvent) : Type 0 where
+  pub targets : AllByRecursion (λ n. is_among variables n ≡ true) (all_assigned e.actions)
+  pub once : IsDistinct bytes_eq (all_assigned e.actions)
+  pub all : bytes_eq initialisation e.name ≡ true → AllByRecursion (λ n. is_among (all_assigned e.actions) n ≡ true) variables
+
+-- In the environment variables stand behind the constants. Own and lost variables, and events, are there once each.
 pub record IsSoundMachine (m : CheckedMachine) : Type 0 where
   pub env : IsGoodEnv m.env
   pub sets : HasCarriersAmong (take m.variables_from m.env) m.env
@@ -60,8 +69,13 @@ pub record IsSoundMachine (m : CheckedMachine) : Type 0 where
   pub invariants : ArePredicatesIn m.env m.invariants
   pub variant : IfSome m.variant (IsTypedIn m.env)
   pub variables : AllByRecursion (IsNamedIn m.env) (m.variables ++ m.lost)
+  pub behind : AllByRecursion (IsNamedIn (drop m.variables_from m.env)) (m.variables ++ m.lost)
+  pub once : IsDistinct bytes_eq (m.variables ++ m.lost)
   pub events : AllByRecursion (IsSoundEvent (take m.variables_from m.env) m.env) m.events
+  pub event_names : IsDistinct bytes_eq (map (λ e. e.name) m.events)
+  pub has_start : is_among (map (λ e. e.name) m.events) initialisation ≡ true
   pub start : AllByRecursion StartsPlainly m.events
+  pub assigns : AllByRecursion (AssignsVariables m.variables) m.events
 
 abbrev pub IsSound : Checked → Type 0
 IsSound (Context c) = IsSoundContext c
