@@ -1,0 +1,9 @@
+pub mod ArithmeticLaws
+pub mod Kinds
+pub mod Linear
+pub mod LogicLaws
+pub mod Rewriting
+pub mod Rows
+pub mod Rules
+pub mod SetLaws
+pub mod Shapes

@@ -1,0 +1,4 @@
+pub mod Atoms
+pub mod Widths
+pub mod Narrow
+pub mod Rewriting
