@@ -1,0 +1,9 @@
+pub mod Assigned
+pub mod Components
+pub mod Environments
+pub mod Formulas
+pub mod GoodParts
+pub mod Primes
+pub mod Rows
+pub mod Tables
+pub mod Values
