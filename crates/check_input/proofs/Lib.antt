@@ -6,3 +6,4 @@ pub mod PastBlanks
 pub mod Pieces
 pub mod Sets
 pub mod Texts
+pub mod Whole

@@ -1,7 +1,12 @@
-//! The law of inputs. The call does nothing.
-ghost use Rattle.check_input.specs.Laws.{HasOneInput};
+//! The laws of inputs. The calls do nothing.
+ghost use Rattle.check_input.specs.Laws.{HasOneInput, PartsMakeTheInput};
 
 /// Bytes are one input: its components, or one fault.
 pub fn one_input()
     ensures { HasOneInput }
+{}
+
+/// The texts of its components are the whole of an input that isn't blank.
+pub fn whole_input()
+    ensures { PartsMakeTheInput }
 {}
