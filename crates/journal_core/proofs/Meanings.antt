@@ -1,17 +1,18 @@
 -- Sides stand for one thing at most.
-use Rattle.std.proofs.Common.{◌≡◌, ◌≢◌, ◌⊎◌, inl, inr, ⊎_elim, ℕ, ◌+◌, ◌^◌, ◌<◌, ◌≤◌, List, [], ◌∷◌, ◌++◌, length, take, drop, get_or, refl, sym, ◌∙◌, ap, subst, arith, length-append, append_assoc}
+use Rattle.std.proofs.Common.{◌≡◌, ◌⊎◌, inl, inr, ⊎_elim, ℕ, ◌+◌, ◌^◌, ◌<◌, ◌≤◌, List, [], ◌∷◌, ◌++◌, length, take, drop, get_or, refl, sym, ◌∙◌, ap, subst, arith, append_assoc}
 use Rattle.std.proofs.lemmas.List.{take-take, drop_at, drop-drop}
 use Rattle.std.proofs.lemmas.Nat.{from_le_bytes-to_le_bytes_4}
 use Rattle.std.specs.Int.{w32, to_le_bytes, from_le_bytes}
 use Rattle.outside.specs.Disk.{Sides}
 use Rattle.outside.specs.declared.side.Side.{Side}
 use Rattle.outside.specs.declared.side.Side.TheVariants.{Left, Right}
-use Rattle.journal_core.specs.Sides.{magic, header, record_bytes, open_records, HasRecords, HoldsNone, IsForeign, IsOpen, Yields, other, Stands, IsWhole, IsBroken, IsDamaged}
-use Rattle.journal_core.specs.Sides.Stands.{empty, counting}
-use Rattle.journal_core.specs.Start.{Meaning, records, foreign, damaged, StandsFor, IsCause, IsAnswerFor}
+use Rattle.journal_core.specs.Sides.{record_bytes, open_records, HasRecords, HoldsNone, IsForeign, IsOpen, Yields, other, IsWhole, IsBroken, IsDamaged, StandsAt}
+use Rattle.journal_core.specs.Private.{Stands}
+use Rattle.journal_core.specs.Private.Stands.{empty, counting}
+use Rattle.journal_core.specs.Start.{Meaning, meaning_of, nothing, records, foreign, damaged, StandsFor, IsCause, IsAnswerFor}
 use Rattle.journal_core.specs.declared.piece.JournalFault.{JournalFault}
 use Rattle.journal_core.specs.declared.piece.JournalFault.TheVariants as fault
-use Rattle.journal_core.proofs.Standing.{unique, not_both, not_two, is_open, not_nil, left_is_not_right, same_parts, open_more, length-open_first, length-record_bytes}
+use Rattle.journal_core.proofs.Standing.{unique, same_number, stands_of, not_both, not_two, is_open, same_parts, open_more, length-open_first, length-record_bytes}
 
 -- a side with an open first gate is a journal
 open_is_journal : (side : List ℕ) (generation : ℕ) → IsOpen side generation → IsForeign side → ⊥
@@ -184,14 +185,45 @@ one_foreign sides Right Right a b = refl
 one_foreign sides Left Right a b = absurd (b.0 a)
 one_foreign sides Right Left a b = absurd (a.0 b)
 
+-- records that count do so on one side, in one generation
+one_counting : (sides : Sides) (s t : Side) (g h : ℕ) (x y : List ℕ) (xs ys : List (List ℕ)) → StandsAt sides s g (x ∷ xs) → StandsAt sides t h (y ∷ ys) → (s ≡ t) × (g ≡ h)
+one_counting sides Left Left g h x y xs ys a b = (refl, same_number _ g h (is_open _ g x xs a.0) (is_open _ h y ys b.0))
+one_counting sides Right Right g h x y xs ys a b = (refl, same_number _ g h (is_open _ g x xs a.0) (is_open _ h y ys b.0))
+one_counting sides Left Right g h x y xs ys a b = absurd (not_two_open sides Left g h (is_open _ g x xs a.0) (is_open _ h y ys b.0) a.1 b.1)
+one_counting sides Right Left g h x y xs ys a b = absurd (not_two_open sides Right g h (is_open _ g x xs a.0) (is_open _ h y ys b.0) a.1 b.1)
+
+same_records : (s t : Side) (g h : ℕ) (x y : List ℕ) (xs ys : List (List ℕ)) → s ≡ t → g ≡ h → x ∷ xs ≡ y ∷ ys → records s g x xs ≡ records t h y ys
+same_records s t g h x y xs ys side number bodies = cc
+
+-- what means some records stands
+pub means_stands : (sides : Sides) (side : Side) (generation : ℕ) (bodies : List (List ℕ)) → StandsFor sides (meaning_of side generation bodies) → StandsAt sides side generation bodies
+means_stands sides side generation [] is = is
+means_stands sides side generation (body ∷ bodies) is = is
+
+pub stands_means : (sides : Sides) (side : Side) (generation : ℕ) (bodies : List (List ℕ)) → StandsAt sides side generation bodies → StandsFor sides (meaning_of side generation bodies)
+stands_means sides side generation [] is = is
+stands_means sides side generation (body ∷ bodies) is = is
+
+at_none : (sides : Sides) → StandsFor sides nothing → Stands sides []
+at_none sides is = stands_of sides Left 0 [] is
+
 pub one_meaning : (sides : Sides) (a b : Meaning) → StandsFor sides a → StandsFor sides b → a ≡ b
-one_meaning sides (records xs) (records ys) a b = ap (λ (l : List (List ℕ)). records l) (one_list_stands sides ys xs b a)
-one_meaning sides (records xs) (foreign s) a b = absurd (no_records sides xs s a (foreign_side sides s b))
-one_meaning sides (records xs) (damaged s at) a b = absurd (sound_sides sides xs s at a b)
-one_meaning sides (foreign s) (records ys) a b = absurd (no_records sides ys s b (foreign_side sides s a))
+one_meaning sides nothing nothing a b = refl
+one_meaning sides nothing (records t h y ys) a b = absurd (let same = one_list_stands sides [] (y ∷ ys) (at_none sides a) (stands_of sides t h (y ∷ ys) b) in cc)
+one_meaning sides nothing (foreign s) a b = absurd (no_records sides [] s (at_none sides a) (foreign_side sides s b))
+one_meaning sides nothing (damaged s at) a b = absurd (sound_sides sides [] s at (at_none sides a) b)
+one_meaning sides (records s g x xs) nothing a b = absurd (let same = one_list_stands sides [] (x ∷ xs) (at_none sides b) (stands_of sides s g (x ∷ xs) a) in cc)
+one_meaning sides (records s g x xs) (records t h y ys) a b =
+    let place = one_counting sides s t g h x y xs ys a b in
+    same_records s t g h x y xs ys place.0 place.1 (one_list_stands sides (y ∷ ys) (x ∷ xs) (stands_of sides t h (y ∷ ys) b) (stands_of sides s g (x ∷ xs) a))
+one_meaning sides (records s g x xs) (foreign t) a b = absurd (no_records sides (x ∷ xs) t (stands_of sides s g (x ∷ xs) a) (foreign_side sides t b))
+one_meaning sides (records s g x xs) (damaged t at) a b = absurd (sound_sides sides (x ∷ xs) t at (stands_of sides s g (x ∷ xs) a) b)
+one_meaning sides (foreign s) nothing a b = absurd (no_records sides [] s (at_none sides b) (foreign_side sides s a))
+one_meaning sides (foreign s) (records t h y ys) a b = absurd (no_records sides (y ∷ ys) s (stands_of sides t h (y ∷ ys) b) (foreign_side sides s a))
 one_meaning sides (foreign s) (foreign t) a b = one_foreign sides s t a b
 one_meaning sides (foreign s) (damaged t at) a b = absurd (no_damage sides t at s b (foreign_side sides s a))
-one_meaning sides (damaged s at) (records ys) a b = absurd (sound_sides sides ys s at b a)
+one_meaning sides (damaged s at) nothing a b = absurd (sound_sides sides [] s at (at_none sides b) a)
+one_meaning sides (damaged s at) (records t h y ys) a b = absurd (sound_sides sides (y ∷ ys) s at (stands_of sides t h (y ∷ ys) b) a)
 one_meaning sides (damaged s at) (foreign t) a b = absurd (no_damage sides s at t a (foreign_side sides t b))
 one_meaning sides (damaged s at) (damaged t at') a b = one_damage sides s t at at' a b
 

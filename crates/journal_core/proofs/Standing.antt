@@ -8,8 +8,9 @@ use Rattle.std.specs.Int.{w32, w64, to_le_bytes, from_le_bytes}
 use Rattle.outside.specs.Disk.{Sides, overwritten}
 use Rattle.outside.specs.declared.side.Side.{Side}
 use Rattle.outside.specs.declared.side.Side.TheVariants.{Left, Right}
-use Rattle.journal_core.specs.Sides.{header, record_bytes, open_records, HasRecords, HoldsNone, IsOpen, IsOlder, Yields, other, Stands, IsBeforeOrAfter}
-use Rattle.journal_core.specs.Sides.Stands.{empty, counting}
+use Rattle.journal_core.specs.Sides.{header, record_bytes, open_records, HasRecords, HoldsNone, IsOpen, IsOlder, Yields, other, IsBeforeOrAfter, StandsAt}
+use Rattle.journal_core.specs.Private.{Stands}
+use Rattle.journal_core.specs.Private.Stands.{empty, counting}
 use Rattle.journal_core.specs.State.{Only, HasFront, IsWritten, HasGate, IsShut, IsAtRest}
 
 -- two lists whose fronts have one length
@@ -129,6 +130,23 @@ stands_if c side generation [] has yields first =
     let none = first refl in
     empty (holds_none _ generation (subst (λ s. HasRecords (c s) generation []) none.0 has)) (subst (λ s. HoldsNone (c (other s))) none.0 none.1) refl
 stands_if c side generation (body ∷ bodies) has yields first = counting side generation (λ e. not_nil body bodies e) has yields
+
+-- the same, with the side and its generation
+pub stands_at_if : (c : Sides) (side : Side) (generation : ℕ) (bodies : List (List ℕ)) → HasRecords (c side) generation bodies → Yields (c (other side)) side generation
+    → (bodies ≡ [] → (side ≡ Left) × HoldsNone (c (other side))) → StandsAt c side generation bodies
+stands_at_if c side generation [] has yields first =
+    let none = first refl in
+    (holds_none _ generation (subst (λ s. HasRecords (c s) generation []) none.0 has), subst (λ s. HoldsNone (c (other s))) none.0 none.1)
+stands_at_if c side generation (body ∷ bodies) has yields first = (has, yields)
+
+pub stands_at_some : (c : Sides) (side : Side) (generation : ℕ) (bodies : List (List ℕ)) → bodies ≢ [] → HasRecords (c side) generation bodies → Yields (c (other side)) side generation → StandsAt c side generation bodies
+stands_at_some c side generation [] some has yields = absurd (some refl)
+stands_at_some c side generation (body ∷ bodies) some has yields = (has, yields)
+
+-- what stands on a side stands
+pub stands_of : (c : Sides) (side : Side) (generation : ℕ) (bodies : List (List ℕ)) → StandsAt c side generation bodies → Stands c bodies
+stands_of c side generation [] at = empty at.0 at.1 refl
+stands_of c side generation (body ∷ bodies) at = counting side generation (λ e. not_nil body bodies e) at.0 at.1
 
 pub none_of : (l : List ℕ) → IsShut l → HoldsNone l
 none_of l shut = inr (shut.named, shut.shut)
@@ -250,17 +268,17 @@ module _ (bytes : Sides) (images : Sides → Type 0) (side : Side) (gate generat
   none_first e = none_of (bytes (other side)) (rest.shut (rest.first e).1)
 
   -- a disk whose other side is as it was stands for the records of the current side
-  stands_as : (c : Sides) (bodies : List (List ℕ)) → HasRecords (c side) generation bodies → ((s : Side) → s ≢ side → c s ≡ bytes s) → (bodies ≡ [] → rest.bodies ≡ []) → Stands c bodies
+  stands_as : (c : Sides) (bodies : List (List ℕ)) → HasRecords (c side) generation bodies → ((s : Side) → s ≢ side → c s ≡ bytes s) → (bodies ≡ [] → rest.bodies ≡ []) → StandsAt c side generation bodies
   stands_as c bodies has stays same =
       let unmoved : c (other side) ≡ bytes (other side) = stays (other side) (other_differs side) in
-      stands_if c side generation bodies has (subst (λ l. Yields l side generation) (sym unmoved) rest_yields)
+      stands_at_if c side generation bodies has (subst (λ l. Yields l side generation) (sym unmoved) rest_yields)
       (λ e. ((rest.first (same e)).0, subst HoldsNone (sym unmoved) (none_first (same e))))
 
   pub reaches_gate : gate + 1 ≤ length (bytes side)
   reaches_gate = gate_inside (bytes side) generation rest.bodies gate ends
 
   -- before the gate is opened they are the old ones
-  pub still : (c : Sides) → HasFront side (gate + 1) bytes c → Stands c rest.bodies
+  pub still : (c : Sides) → HasFront side (gate + 1) bytes c → StandsAt c side generation rest.bodies
   still c has = stands_as c rest.bodies (still_has (bytes side) generation rest.bodies gate ends (c side) within number has.front) has.stays (λ e. e)
 
   module _ (body : List ℕ) (fits : gate + 6 + length body ≤ 67108864) (mid : Sides) (staged : IsWritten (gate + 1) (record_bytes body ++ 0 ∷ []) (bytes side) (mid side)) (kept : (s : Side) → s ≢ side → mid s ≡ bytes s) where
@@ -268,11 +286,11 @@ module _ (bytes : Sides) (images : Sides → Type 0) (side : Side) (gate generat
     inside_gate = inside (bytes side) generation rest.bodies gate ends body fits (mid side) staged
 
     -- and once it is open the new one is among them
-    pub added : (c : Sides) → c side ≡ overwritten gate (1 ∷ []) (mid side) → ((s : Side) → s ≢ side → c s ≡ mid s) → Stands c (rest.bodies ++ body ∷ [])
+    pub added : (c : Sides) → c side ≡ overwritten gate (1 ∷ []) (mid side) → ((s : Side) → s ≢ side → c s ≡ mid s) → StandsAt c side generation (rest.bodies ++ body ∷ [])
     added c is stays = stands_as c (rest.bodies ++ body ∷ []) (added_has (bytes side) generation rest.bodies gate ends body fits (mid side) staged (c side) number is)
         (λ s no. stays s no ∙ kept s no) (λ e. absurd (not_empty rest.bodies body e))
 
-    pub either : (c : Sides) → HasGate side gate mid c → IsBeforeOrAfter rest.bodies body c
+    pub either : (c : Sides) → HasGate side gate mid c → IsBeforeOrAfter side generation rest.bodies body c
     either c gated = elim (cases_eq gated.byte 1) [
       | inl opened ↦ inr (added c (gated.changed ∙ ap (λ (x : ℕ). overwritten gate (x ∷ []) (mid side)) opened) gated.stays)
       | inr shut ↦ inl (stands_as c rest.bodies (closed_has (bytes side) generation rest.bodies gate ends body fits (mid side) staged (c side) gated.byte within number shut gated.changed)
@@ -302,6 +320,15 @@ module _ (bytes : Sides) (images : Sides → Type 0) (side : Side) (gate generat
   same_bodies bodies stands = unique bytes side generation rest.bodies bodies
       (still_has (bytes side) generation rest.bodies gate ends (bytes side) within number refl) rest_yields none_first stands
 
+  -- the records that stand on the current side are these alone
+  pub same_at : (bodies : List (List ℕ)) → StandsAt bytes side generation bodies → bodies ≡ rest.bodies
+  same_at bodies stands = same_bodies bodies (stands_of bytes side generation bodies stands)
+
+  -- what stands, stands on the current side
+  pub here_at : (bodies : List (List ℕ)) → Stands bytes bodies → StandsAt bytes side generation bodies
+  here_at bodies stands = subst (λ bs. StandsAt bytes side generation bs) (sym (same_bodies bodies stands))
+      (stands_as bytes rest.bodies (still_has (bytes side) generation rest.bodies gate ends (bytes side) within number refl) (λ s no. refl) (λ e. e))
+
   -- and the current side has them
   pub current_has : (bodies : List (List ℕ)) → Stands bytes bodies → HasRecords (bytes side) generation bodies
   current_has bodies stands = subst (HasRecords (bytes side) generation) (sym (same_bodies bodies stands)) (still_has (bytes side) generation rest.bodies gate ends (bytes side) within number refl)
@@ -309,6 +336,9 @@ module _ (bytes : Sides) (images : Sides → Type 0) (side : Side) (gate generat
 -- sides with the same bytes stand for the same records
 pub stands_same : (a b : Sides) (bodies : List (List ℕ)) → ((s : Side) → a s ≡ b s) → Stands b bodies → Stands a bodies
 stands_same a b bodies same stands = subst (λ (c : Sides). Stands c bodies) (λ i s. sym (same s) i) stands
+
+pub stands_at_same : (a b : Sides) (side : Side) (generation : ℕ) (bodies : List (List ℕ)) → ((s : Side) → a s ≡ b s) → StandsAt b side generation bodies → StandsAt a side generation bodies
+stands_at_same a b side generation bodies same stands = subst (λ (c : Sides). StandsAt c side generation bodies) (λ i s. sym (same s) i) stands
 
 -- a side that holds no project may hold none in another way
 pub quiet : (old new : Sides) (side : Side) (bodies : List (List ℕ)) → HoldsNone (old side) → HoldsNone (new side) → ((s : Side) → s ≢ side → new s ≡ old s) → Stands old bodies → Stands new bodies

@@ -60,18 +60,18 @@ abbrev pub other : Side → Side
 other Left = Right
 other Right = Left
 
--- The sides stand for these records: the empty project, or the records of the side that counts.
-pub data Stands (sides : Sides) (bodies : List (List ℕ)) : Type 0 where
-  empty : HoldsNone (sides Left) → HoldsNone (sides Right) → bodies ≡ [] → Stands sides bodies
-  counting : (side : Side) (generation : ℕ) → bodies ≢ [] → HasRecords (sides side) generation bodies → Yields (sides (other side)) side generation → Stands sides bodies
+-- The sides stand for these records, which this side has in this generation; of no record neither side nor generation is told.
+abbrev pub StandsAt : Sides → Side → ℕ → List (List ℕ) → Type 0
+StandsAt sides side generation [] = HoldsNone (sides Left) × HoldsNone (sides Right)
+StandsAt sides side generation (body ∷ bodies) = HasRecords (sides side) generation (body ∷ bodies) × Yields (sides (other side)) side generation
 
--- with one more record or without it
-abbrev pub IsBeforeOrAfter : List (List ℕ) → List ℕ → Sides → Type 0
-IsBeforeOrAfter bodies body sides = Stands sides bodies ⊎ Stands sides (bodies ++ body ∷ [])
+-- with one more record on this side or without it
+abbrev pub IsBeforeOrAfter : Side → ℕ → List (List ℕ) → List ℕ → Sides → Type 0
+IsBeforeOrAfter side generation bodies body sides = StandsAt sides side generation bodies ⊎ StandsAt sides side generation (bodies ++ body ∷ [])
 
--- these records, or this one in their place
-abbrev pub IsBeforeOrOne : List (List ℕ) → List ℕ → Sides → Type 0
-IsBeforeOrOne bodies body sides = Stands sides bodies ⊎ Stands sides (body ∷ [])
+-- these records, or this one on the other side, in the next generation
+abbrev pub IsBeforeOrOne : Side → ℕ → List (List ℕ) → List ℕ → Sides → Type 0
+IsBeforeOrOne side generation bodies body sides = StandsAt sides side generation bodies ⊎ StandsAt sides (other side) (generation + 1) (body ∷ [])
 
 -- behind the open gate at this offset: a length, a body and a next gate, inside the side and its limit
 pub record IsWhole (side : List ℕ) (gate : ℕ) (body : List ℕ) : Type 0 where

@@ -1,10 +1,10 @@
 // The open journal.
-ghost use Rattle.std.specs.Prelude.{◌≡◌, ◌+◌, ◌-◌, ◌^◌, ◌<◌, ◌≤◌, ◌++◌, ◌↔◌, ◌⊎◌, [], ◌∷◌, List, ℕ, ◌≢◌, ⊤, length, true, false, OnOk, IfOk, MatchResult, IsErrOf};
+ghost use Rattle.std.specs.Prelude.{◌≡◌, ◌+◌, ◌-◌, ◌^◌, ◌<◌, ◌≤◌, ◌++◌, ◌↔◌, ◌⊎◌, [], ◌∷◌, List, ℕ, ◌≢◌, ⊤, length, true, false, OnOk, IfOk, MatchResult, IsErrOf, IsTrue};
 ghost use Rattle.outside.specs.Cause.{Rose};
 ghost use Rattle.outside.specs.Disk.{Sides, LeavesOnly};
 ghost use Rattle.outside.specs.declared.side.Side.{Side};
-ghost use Rattle.journal_core.specs.Sides.{Stands, HasRecords, IsBeforeOrAfter, IsBeforeOrOne, open_records, other};
-ghost use Rattle.journal_core.specs.Start.{Meaning, records, StandsFor, IsAnswerFor, IsCause, IsReady, StandsAsSome, ArePlaced, bodies_of};
+ghost use Rattle.journal_core.specs.Sides.{StandsAt, HasRecords, IsBeforeOrAfter, IsBeforeOrOne, open_records, other};
+ghost use Rattle.journal_core.specs.Start.{Meaning, meaning_of, StandsFor, IsAnswerFor, IsCause, IsReady, StandsAsSome, ArePlaced, bodies_of};
 ghost use Rattle.journal_core.specs.Reading.{side_of, number_of, rest_of};
 ghost use Rattle.journal_core.specs.State.{IsKept, JournalState};
 
@@ -12,6 +12,7 @@ use crate::open::open;
 use crate::piece::{JournalFault, Piece};
 use crate::reading::Current;
 use crate::renew::replace;
+use crate::scan::LIMIT;
 use crate::steps::{set_gate, stage};
 use outside::{Disk, Side};
 use std::alloc::Global;
@@ -39,9 +40,6 @@ fn other_side(side: Side) -> Side
         Side::Right => Side::Left,
     }
 }
-
-// The number of bytes that a side may have.
-const LIMIT: u64 = 67_108_864;
 
 /// Why a record wasn't added.
 #[derive(Clone, Copy, Debug, PartialEq, Eq)]
@@ -84,9 +82,9 @@ impl<D: Disk> Journal<D> {
     /// that isn't a header with a gate of 0 becomes a new side, unless the start is refused; then the disk comes back.
     pub fn start(alloc: Global, disk: D) -> Result<(Journal<D>, Vec<Piece>), (D, JournalFault)>
         // The records are those that stand, each on the current side behind its gate; a fault has its cause in the sides.
-        ensures records { D.told → MatchResult result (λ opened. Stands (D.bytes_of disk) (bodies_of opened.1.items)) (λ refused. IsCause (D.bytes_of disk) refused.1) }
+        ensures records { D.told → MatchResult result (λ opened. StandsAt (D.bytes_of disk) opened.0.side opened.0.generation (bodies_of opened.1.items)) (λ refused. IsCause (D.bytes_of disk) refused.1) }
         // Sides stand for one thing at most, so a start answers exactly that, if the disk doesn't fail and memory is there.
-        ensures exactly { D.told → (meaning : Meaning) → StandsFor (D.bytes_of disk) meaning → MatchResult result (λ opened. meaning ≡ records (bodies_of opened.1.items)) (λ refused. IsAnswerFor meaning refused.1) }
+        ensures exactly { D.told → (meaning : Meaning) → StandsFor (D.bytes_of disk) meaning → MatchResult result (λ opened. meaning ≡ meaning_of opened.0.side opened.0.generation (bodies_of opened.1.items)) (λ refused. IsAnswerFor meaning refused.1) }
         ensures placed { D.told → IfOk result (λ opened. ArePlaced opened.0.side 16 opened.1.items) }
         ensures gate { D.told → IfOk result (λ opened. opened.0.gate ≡ 16 + length (open_records (bodies_of opened.1.items))) }
         ensures current { D.told → IfOk result (λ opened. HasRecords (D.bytes_of opened.0.disk opened.0.side) opened.0.generation (bodies_of opened.1.items)) }
@@ -97,8 +95,8 @@ impl<D: Disk> Journal<D> {
         ensures any_moment { D.told → MatchResult result
             (λ opened. LeavesOnly D.clock D.moments disk opened.0.disk (StandsAsSome (D.images disk)))
             (λ refused. LeavesOnly D.clock D.moments disk refused.0 (StandsAsSome (D.images disk))) }
-        ensures standing { D.told → IfOk result (λ opened. (c : Sides) → D.images opened.0.disk c → Stands c (bodies_of opened.1.items)) }
-        ensures read { D.told → IfOk result (λ opened. Stands (D.bytes_of opened.0.disk) (bodies_of opened.1.items)) }
+        ensures standing { D.told → IfOk result (λ opened. (c : Sides) → D.images opened.0.disk c → StandsAt c opened.0.side opened.0.generation (bodies_of opened.1.items)) }
+        ensures read { D.told → IfOk result (λ opened. StandsAt (D.bytes_of opened.0.disk) opened.0.side opened.0.generation (bodies_of opened.1.items)) }
         ensures untouched { D.told → MatchResult result (λ _. ⊤) (λ refused. refused.1 ≢ JournalFault.DiskFault → D.bytes_of refused.0 ≡ D.bytes_of disk) }
         ensures fault { MatchResult result (λ _. ⊤) (λ refused. refused.1 ≡ JournalFault.DiskFault → Rose (D.faults disk) (D.faults refused.0)) }
         ensures later { MatchResult result (λ opened. D.faults disk ≤ D.faults opened.0.disk) (λ refused. D.faults disk ≤ D.faults refused.0) }
@@ -123,12 +121,12 @@ impl<D: Disk> Journal<D> {
     /// Adds a record behind those that stand. After Ok every stop leaves sides that have it. It takes no memory.
     pub fn append(&mut self, bytes: &[u8]) -> Result<(), AppendFault>
         // A stop at any moment leaves the records from before, with the new one or without.
-        ensures any_moment { D.told → self.old.failed ≡ false → (bodies : List (List ℕ)) → Stands (D.bytes_of self.old.disk) bodies
-            → LeavesOnly D.clock D.moments self.old.disk self.new.disk (IsBeforeOrAfter bodies bytes.now) }
-        ensures acknowledged { D.told → OnOk result ((bodies : List (List ℕ)) → Stands (D.bytes_of self.old.disk) bodies
-            → (c : Sides) → D.images self.new.disk c → Stands c (bodies ++ bytes.now ∷ [])) }
-        ensures read { D.told → OnOk result ((bodies : List (List ℕ)) → Stands (D.bytes_of self.old.disk) bodies
-            → Stands (D.bytes_of self.new.disk) (bodies ++ bytes.now ∷ [])) }
+        ensures any_moment { D.told → self.old.failed ≡ false → (bodies : List (List ℕ)) → StandsAt (D.bytes_of self.old.disk) self.old.side self.old.generation bodies
+            → LeavesOnly D.clock D.moments self.old.disk self.new.disk (IsBeforeOrAfter self.old.side self.old.generation bodies bytes.now) }
+        ensures acknowledged { D.told → OnOk result ((bodies : List (List ℕ)) → StandsAt (D.bytes_of self.old.disk) self.old.side self.old.generation bodies
+            → (c : Sides) → D.images self.new.disk c → StandsAt c self.old.side self.old.generation (bodies ++ bytes.now ∷ [])) }
+        ensures read { D.told → OnOk result ((bodies : List (List ℕ)) → StandsAt (D.bytes_of self.old.disk) self.old.side self.old.generation bodies
+            → StandsAt (D.bytes_of self.new.disk) self.old.side self.old.generation (bodies ++ bytes.now ∷ [])) }
         ensures length { OnOk result (self.new.gate ≡ self.old.gate + 5 + length bytes.now) }
 
         // Exactly when it is refused, and what stays.
@@ -160,10 +158,10 @@ impl<D: Disk> Journal<D> {
     /// sides that have it alone. It takes no memory.
     pub fn checkpoint(&mut self, bytes: &[u8]) -> Result<(), AppendFault>
         // A stop at any moment leaves the records from before, or the new one alone.
-        ensures any_moment { D.told → self.old.failed ≡ false → (bodies : List (List ℕ)) → Stands (D.bytes_of self.old.disk) bodies
-            → LeavesOnly D.clock D.moments self.old.disk self.new.disk (IsBeforeOrOne bodies bytes.now) }
-        ensures acknowledged { D.told → OnOk result ((c : Sides) → D.images self.new.disk c → Stands c (bytes.now ∷ [])) }
-        ensures read { D.told → OnOk result (Stands (D.bytes_of self.new.disk) (bytes.now ∷ [])) }
+        ensures any_moment { D.told → self.old.failed ≡ false → (bodies : List (List ℕ)) → StandsAt (D.bytes_of self.old.disk) self.old.side self.old.generation bodies
+            → LeavesOnly D.clock D.moments self.old.disk self.new.disk (IsBeforeOrOne self.old.side self.old.generation bodies bytes.now) }
+        ensures acknowledged { D.told → OnOk result ((c : Sides) → D.images self.new.disk c → StandsAt c (other self.old.side) (self.old.generation + 1) (bytes.now ∷ [])) }
+        ensures read { D.told → OnOk result (StandsAt (D.bytes_of self.new.disk) (other self.old.side) (self.old.generation + 1) (bytes.now ∷ [])) }
         ensures length { OnOk result (self.new.gate ≡ 21 + length bytes.now) }
         ensures turned { OnOk result (self.new.side ≡ other self.old.side) }
         ensures next { OnOk result (self.new.generation ≡ self.old.generation + 1) }
@@ -194,6 +192,20 @@ impl<D: Disk> Journal<D> {
         self.gate = 21 + bytes.len() as u64;
         self.generation = generation;
         Ok(())
+    }
+
+    /// Whether a record of so many bytes fits behind those that stand.
+    pub fn has_room(&self, len: usize) -> bool
+        ensures room { IsTrue result ↔ (self.now.gate + 6 + «len» ≤ 67108864) }
+    {
+        len <= 67_108_864 && len as u64 + 6 <= LIMIT - self.gate
+    }
+
+    /// Whether there is a generation for one more checkpoint.
+    pub fn can_turn(&self) -> bool
+        ensures turns { IsTrue result ↔ (self.now.generation < 2 ^ 64 - 1) }
+    {
+        self.generation < u64::MAX
     }
 
     /// The disk.
