@@ -3,7 +3,7 @@ ghost use Rattle.std.specs.Prelude.{◌≡◌, ◌+◌, ◌<◌, ◌≤◌, ◌^
 ghost use Rattle.std.specs.Thread.{IsSync};
 ghost use Rattle.turn_desk.specs.Log.{NoneFrom};
 ghost use Rattle.turn_desk.specs.Chairs.{IsOf, AreSame, IsSameChair};
-ghost use Rattle.prover_pool.specs.Shift.{EachServed, WasServed};
+ghost use Rattle.prover_pool.specs.Shift.{fair, EachServed, WasServed};
 ghost use Rattle.pool_run.specs.Tray.{log_of, chair_of, meaning};
 
 use crate::tray::{CountFinishes, Tray};
@@ -76,7 +76,7 @@ fn serve_all<R: Threads + Wait + Sync, V: Work + Send, P: Prover + Sync, G: Gate
 ) -> Vec<Chair<V>>
     requires { All (IsOf desk.now) chairs.items }
     ensures same { AreSame chairs.items result.items }
-    ensures served { EachServed V.chair_of V.meaning (P.answers prover.now) desk.now.base chairs.items result.items }
+    ensures served { EachServed V.chair_of V.meaning (fair (P.answers prover.now) (P.sure prover.now)) desk.now.base chairs.items result.items }
 {
     crew(
         rt,
@@ -105,7 +105,7 @@ pub fn work_beside<R: Threads + Wait + Sync, P: Prover + Sync, G: Gate + Sync>(
     gate: &G,
 ) -> Result<Tray, Tray>
     requires { (log_of tray ≡ []) × (workers + 1 < 2 ^ 32) }
-    ensures served { IfOk result (λ done. (k : ℕ) → 0 < k → k ≤ workers → WasServed chair_of meaning (P.answers prover.now) tray.room k [] (log_of done)) }
+    ensures served { IfOk result (λ done. (k : ℕ) → 0 < k → k ≤ workers → WasServed chair_of meaning (fair (P.answers prover.now) (P.sure prover.now)) tray.room k [] (log_of done)) }
     ensures no_other { IfOk result (λ done. NoneFrom chair_of (workers + 1) (log_of done)) }
     ensures refused { IfErr result (λ same. same ≡ tray) }
 {
@@ -126,7 +126,7 @@ pub fn work_beside<R: Threads + Wait + Sync, P: Prover + Sync, G: Gate + Sync>(
         { use_desk(rt, &desk, first, &notices, shut) },
         || -> Vec<Chair<Tray>>
             requires { IsSync R.row × All (IsOf desk) chairs.items }
-            ensures { AreSame chairs.items result.items × EachServed chair_of meaning (P.answers prover.entry.now) desk.base chairs.items result.items }
+            ensures { AreSame chairs.items result.items × EachServed chair_of meaning (fair (P.answers prover.entry.now) (P.sure prover.entry.now)) desk.base chairs.items result.items }
         { serve_all(rt, alloc, &desk, chairs, &notices, prover, gate) },
     );
     first.join_all(&desk, chairs);
