@@ -1,2 +1,4 @@
 pub mod Conditions
+pub mod InOrder
 pub mod Numbers
+pub mod SameKind

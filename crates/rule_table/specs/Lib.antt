@@ -2,6 +2,7 @@ pub mod ArithmeticLaws
 pub mod Kinds
 pub mod Linear
 pub mod LogicLaws
+pub mod Parts
 pub mod Rewriting
 pub mod Rows
 pub mod Rules

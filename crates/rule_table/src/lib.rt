@@ -1,9 +1,11 @@
 //! The types of rules and laws. What is a rule is said in specs/.
 #![tactic(auto)]
 
+mod copies;
 mod kind;
 mod law;
 mod makers;
+mod parts;
 mod rule;
 mod shapes;
 
