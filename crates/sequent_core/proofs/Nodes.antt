@@ -3,15 +3,16 @@ use Rattle.std.proofs.Common.{◌≡◌, ◌∙◌, sym, ap, subst, refl, ℕ, s
 use Rattle.std.specs.List.{AllByRecursion, list_all, list_any}
 use Rattle.std.specs.Prelude.{if◌then◌else◌}
 use Rattle.sequent_core.specs.declared.sequent.Sequent.{Sequent}
-use Rattle.sequent_core.specs.declared.rule.Rule.{Rule}
-use Rattle.sequent_core.specs.declared.rule.Antecedent.{Antecedent}
+use Rattle.rule_table.specs.declared.rule.Rule.{Rule}
+use Rattle.rule_table.specs.declared.rule.Antecedent.{Antecedent}
 use Rattle.sequent_core.specs.declared.tree.Tree.{Tree}
 use Rattle.sequent_core.specs.declared.tree.Tree.TheOpen.{Leaf as LeafF, Node as NodeF}
 use Rattle.sequent_core.specs.declared.tree.Tree.TheVariants.{Leaf, Node}
 use Rattle.sequent_core.specs.declared.tree.Tree.TheViews.{rolls-Leaf, rolls-Node}
 use Rattle.sequent_core.specs.declared.tree.Tree.TheFolds.{fold-roll-Tree}
-use Rattle.sequent_core.specs.Rules.{IsRule}
-use Rattle.sequent_core.specs.Trees.{extended, Meets, IsFresh, NodeAt, below, nodes_step, nodes, Fits, Applies, is_closed_step, is_closed, is_review, is_reviewed_step, is_reviewed, Derives, node_count_step, node_count, rule_count_step, rule_count}
+use Rattle.rule_table.specs.Parts.{is_review}
+use Rattle.rule_table.specs.Rules.{IsRule}
+use Rattle.sequent_core.specs.Trees.{extended, Meets, IsFresh, NodeAt, below, nodes_step, nodes, Fits, Applies, is_closed_step, is_closed, is_reviewed_step, is_reviewed, Derives, node_count_step, node_count, rule_count_step, rule_count}
 use Rattle.sequent_core.specs.Children.{EachApplies}
 
 module _ {X : Type 0} (P : X → Type 0) where

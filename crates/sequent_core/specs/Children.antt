@@ -1,7 +1,7 @@
 -- Applying, level by level: what a node asks of its children.
 use Rattle.std.specs.Prelude.{List, [], ◌∷◌, ⊤}
 use Rattle.sequent_core.specs.declared.sequent.Sequent.{Sequent}
-use Rattle.sequent_core.specs.declared.rule.Antecedent.{Antecedent}
+use Rattle.rule_table.specs.declared.rule.Antecedent.{Antecedent}
 use Rattle.sequent_core.specs.declared.tree.Tree.{Tree}
 use Rattle.sequent_core.specs.Trees.{extended, IsFresh, Applies}
 

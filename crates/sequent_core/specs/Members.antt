@@ -6,8 +6,11 @@ use Rattle.formula_core.specs.declared.Ty.TheFolds.{fold-Ty}
 use Rattle.formula_core.specs.declared.Formula.{Formula}
 use Rattle.formula_core.specs.declared.Formula.TheOpen.{Formula-F, Int, Free, Bound, Node as Operation, Bind}
 use Rattle.formula_core.specs.declared.Formula.TheFolds.{fold-Formula}
-use Rattle.sequent_core.specs.declared.rule.Antecedent.{Antecedent}
-use Rattle.sequent_core.specs.declared.rule.Rule.{Rule}
+use Rattle.rule_table.specs.declared.kind.RuleKind.{RuleKind}
+use Rattle.rule_table.specs.declared.rule.Antecedent.{Antecedent}
+use Rattle.rule_table.specs.declared.rule.Rule.{Rule}
+use Rattle.rule_table.specs.Parts.{place_in, multipliers_in}
+use Rattle.rule_table.specs.Rules.{terms_of}
 use Rattle.sequent_core.specs.declared.tree.Tree.{Tree}
 use Rattle.sequent_core.specs.declared.tree.Tree.TheOpen.{Tree-F, Leaf, Node}
 use Rattle.sequent_core.specs.declared.tree.Tree.TheFolds.{fold-Tree}
@@ -55,9 +58,13 @@ goal_members (Some goal) = formula_members goal
 abbrev pub antecedent_members : Antecedent → ℕ
 antecedent_members a = counted (map identifier_members a.idents) + counted (map formula_members a.hyps) + goal_members a.goal
 
+-- those of a kind of rule: its terms, its place and its multipliers
+abbrev pub kind_members : RuleKind → ℕ
+kind_members k = counted (map formula_members (terms_of k)) + length (place_in k) + length (multipliers_in k)
+
 -- those of a rule
 abbrev pub rule_members : Rule → ℕ
-rule_members r = goal_members r.needed_goal + counted (map formula_members r.needed_hyps) + counted (map identifier_members r.used) + counted (map antecedent_members r.antecedents)
+rule_members r = kind_members r.kind + goal_members r.needed_goal + counted (map formula_members r.needed_hyps) + counted (map identifier_members r.used) + counted (map antecedent_members r.antecedents)
 
 abbrev pub tree_members_step : Tree-F ℕ → ℕ
 tree_members_step Leaf = 0

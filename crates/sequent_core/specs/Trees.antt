@@ -4,14 +4,13 @@ use Rattle.std.specs.List.{AllByRecursion, list_all, list_any}
 use Rattle.formula_core.specs.declared.Formula.{Formula}
 use Rattle.formula_core.specs.Env.{type_in}
 use Rattle.sequent_core.specs.declared.sequent.Sequent.{Sequent}
-use Rattle.sequent_core.specs.declared.rule.RuleKind.{RuleKind}
-use Rattle.sequent_core.specs.declared.rule.RuleKind.TheVariants.{Hyp}
-use Rattle.sequent_core.specs.declared.rule.Rule.{Rule}
-use Rattle.sequent_core.specs.declared.rule.Antecedent.{Antecedent}
+use Rattle.rule_table.specs.declared.rule.Rule.{Rule}
+use Rattle.rule_table.specs.declared.rule.Antecedent.{Antecedent}
 use Rattle.sequent_core.specs.declared.tree.Tree.{Tree}
 use Rattle.sequent_core.specs.declared.tree.Tree.TheOpen.{Tree-F, Leaf, Node}
 use Rattle.sequent_core.specs.declared.tree.Tree.TheFolds.{fold-Tree}
-use Rattle.sequent_core.specs.Rules.{IsRule}
+use Rattle.rule_table.specs.Parts.{is_review}
+use Rattle.rule_table.specs.Rules.{IsRule}
 use Rattle.formula_core.specs.Typed.{Stands}
 
 -- the new goal, or the old one where there is none
@@ -71,10 +70,6 @@ is_closed_step (Node r children) = list_all (λ closed. closed) children
 -- whether no leaf is left
 abbrev pub is_closed : Tree → Bool
 is_closed = fold-Tree Bool is_closed_step
-
--- whether a rule of the kind is a review, which proves nothing: none is yet
-abbrev pub is_review : RuleKind → Bool
-is_review Hyp = false
 
 abbrev pub is_reviewed_step : Tree-F Bool → Bool
 is_reviewed_step Leaf = false

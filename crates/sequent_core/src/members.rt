@@ -1,10 +1,10 @@
 // How many members the lists of a proof have together.
 ghost use Rattle.std.specs.Prelude.{◌≡◌, ◌+◌, ◌-◌, ◌^◌, length, map, min};
-ghost use Rattle.sequent_core.specs.Members.{antecedent_members, counted, formula_members, goal_members, identifier_members, rule_members, tree_members, type_members};
+ghost use Rattle.sequent_core.specs.Members.{antecedent_members, counted, formula_members, goal_members, identifier_members, kind_members, rule_members, tree_members, type_members};
 
-use crate::rule::{Antecedent, Rule};
 use crate::tree::Tree;
 use formula_core::{Formula, Name, Ty};
+use rule_table::{Antecedent, Rule, RuleKind};
 
 impl Tree {
     /// How many members its lists have together, the bytes of its names among them, or the greatest `u64` where there
@@ -43,10 +43,19 @@ fn counting(total: u64, members: u64) -> u64
 fn members_of_rule(rule: &Rule) -> u64
     ensures { result ≡ min (rule_members rule.now) (2 ^ 64 - 1) }
 {
-    members_of_goal(&rule.needed_goal)
+    members_of_kind(&rule.kind)
+        .saturating_add(members_of_goal(&rule.needed_goal))
         .saturating_add(members_of_formulas(rule.needed_hyps.items()))
         .saturating_add(members_of_identifiers(rule.used.items()))
         .saturating_add(members_of_antecedents(rule.antecedents.items()))
+}
+
+fn members_of_kind(kind: &RuleKind) -> u64
+    ensures { result ≡ min (kind_members kind.now) (2 ^ 64 - 1) }
+{
+    members_of_formulas(kind.terms())
+        .saturating_add(kind.place().len() as u64)
+        .saturating_add(kind.multipliers().len() as u64)
 }
 
 fn members_of_antecedents(antecedents: &[Antecedent]) -> u64

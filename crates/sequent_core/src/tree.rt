@@ -1,10 +1,10 @@
 // Proof trees.
 ghost use Rattle.std.specs.Prelude.{◌≡◌, ◌↔◌, ◌-◌, ◌^◌, IsTrue, IfOk, min, sum, map};
 ghost use Rattle.std.specs.List.{list_all, list_any};
-ghost use Rattle.sequent_core.specs.Trees.{is_closed, is_review, is_reviewed, node_count};
+ghost use Rattle.sequent_core.specs.Trees.{is_closed, is_reviewed, node_count};
 
-use crate::rule::{Rule, RuleKind};
 use formula_core::{List, OutOfMemory};
+use rule_table::Rule;
 use std::alloc::Global;
 
 /// A proof tree. A leaf is still to be proved.
@@ -88,17 +88,6 @@ impl Tree {
         match self {
             Tree::Leaf => 1,
             Tree::Node(_, children) => node_count_of_all(children.items()).saturating_add(1),
-        }
-    }
-}
-
-impl RuleKind {
-    /// Whether it is a review, which proves nothing.
-    pub fn is_review(self) -> bool
-        ensures { result ≡ is_review self }
-    {
-        match self {
-            RuleKind::Hyp => false,
         }
     }
 }

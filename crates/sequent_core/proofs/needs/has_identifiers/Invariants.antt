@@ -1,7 +1,7 @@
 use Rattle.std.proofs.Common.{take}
 use Rattle.std.specs.List.{AllByRecursion}
 use Rattle.formula_core.specs.Typed.{Stands}
-use Rattle.sequent_core.proofs.apply.has_identifiers.Given as goal
+use Rattle.sequent_core.proofs.needs.has_identifiers.Given as goal
 
 abbrev pub invariant-loop-identifier : goal.invariant-loop-identifier
 invariant-loop-identifier l = AllByRecursion (Stands l.env) (take l.identifier-index l.wanted)

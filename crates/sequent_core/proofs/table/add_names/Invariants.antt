@@ -1,6 +1,0 @@
-use Rattle.std.proofs.Common.{◌≡◌, ◌++◌, drop}
-use Rattle.sequent_core.specs.Rules.{names_in}
-use Rattle.sequent_core.proofs.table.add_names.Given as goal
-
-abbrev pub invariant-loop-formula : goal.invariant-loop-formula
-invariant-loop-formula l = l.names.items ++ names_in (drop l.formula-index l.formulas) ≡ l.initial.names.items ++ names_in l.formulas

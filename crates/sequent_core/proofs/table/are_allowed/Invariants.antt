@@ -1,7 +1,0 @@
-use Rattle.std.proofs.Common.{take}
-use Rattle.std.specs.List.{AllByRecursion}
-use Rattle.sequent_core.specs.Rules.{IsAllowed}
-use Rattle.sequent_core.proofs.table.are_allowed.Given as goal
-
-abbrev pub invariant-loop-formula : goal.invariant-loop-formula
-invariant-loop-formula l = AllByRecursion IsAllowed (take l.formula-index l.formulas)
