@@ -1,0 +1,2 @@
+pub mod Overridden
+pub mod Replacing
