@@ -1,4 +1,6 @@
 pub mod Atoms
-pub mod Widths
+pub mod Forms
 pub mod Narrow
 pub mod Rewriting
+pub mod Steps
+pub mod Widths

@@ -2,9 +2,11 @@
 #![tactic(auto)]
 
 mod checked;
+mod form;
+mod joining;
 mod laws;
-mod linear;
 mod places;
+mod step;
 mod values;
 
 pub use checked::{difference_of, product_of, sum_of};
@@ -13,6 +15,6 @@ pub use laws::{
     member_of_positive_naturals, member_of_predecessor, member_of_successor, negated_at_most,
     negated_less,
 };
-pub use linear::{Joining, are_absent, further, is_met, kept, multiple_of};
 pub use places::{at_place, with_at};
-pub use values::{computed, too_wide};
+pub use step::{linear_step_of, linear_width};
+pub use values::{computed, too_wide, width_at};

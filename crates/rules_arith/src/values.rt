@@ -4,10 +4,13 @@ ghost use Rattle.std.specs.Option.{option_map};
 ghost use Rattle.formula_core.specs.declared.op.Op.TheVariants as op;
 ghost use Rattle.rule_table.specs.Shapes.{literal, numeral, as_numeral, not_negative};
 ghost use Rattle.rule_table.specs.ArithmeticLaws.{numerals, computed, too_wide, modulo, power};
+ghost use Rattle.rule_table.specs.Rewriting.{width_of};
+ghost use Rattle.rule_table.specs.Rules.{width_at};
 ghost use Rattle.rules_arith.specs.Private.{narrow, narrow_value, two_numerals, negated};
 
+use crate::places::at_place;
 use formula_core::{Formula, Op, OutOfMemory, Ty};
-use rule_table::one;
+use rule_table::{Law, one};
 use std::alloc::Global;
 
 /// `m op n` of literals or negated literals: the value, where it is well defined and not too wide.
@@ -32,6 +35,26 @@ pub fn too_wide(f: &Formula) -> Option<(i128, i128)>
     };
     match value_of(op, m, n) {
         Some(None) => Some((m, n)),
+        _ => None,
+    }
+}
+
+/// The two numerals of the operator at a place, where the law with this number computes its value, which is too wide.
+pub fn width_at(law: u8, place: &[u32], f: &Formula) -> Option<(i128, i128)>
+    ensures width { result ≡ width_at law place.now f.now }
+{
+    let law = Law::of_number(law)?;
+    let Some(part) = at_place(place, f) else {
+        return None;
+    };
+    width_of(law, part)
+}
+
+fn width_of(law: Law, f: &Formula) -> Option<(i128, i128)>
+    ensures { result ≡ width_of law f.now }
+{
+    match law {
+        Law::Computed => too_wide(f),
         _ => None,
     }
 }

@@ -1,7 +1,6 @@
 use Rattle.std.proofs.Common.{◌≡◌, [], Ok, fold}
-use Rattle.rules_arith.specs.Joining.{act_of}
-use Rattle.rules_arith.specs.Private.{keep}
-use Rattle.rules_arith.proofs.linear.kept.Given as goal
+use Rattle.rules_arith.specs.Private.{act_of, keep}
+use Rattle.rules_arith.proofs.joining.kept.Given as goal
 
 abbrev pub invariant-loop-atom : goal.invariant-loop-atom
 invariant-loop-atom l = l.done ≡ fold (keep (act_of l.joining) l.second) (Ok []) l.yielded
