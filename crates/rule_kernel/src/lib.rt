@@ -1,0 +1,21 @@
+//! Whether a rule is one of the table.
+#![tactic(auto)]
+
+mod bounds;
+mod instances;
+mod laws;
+mod names;
+mod parts;
+mod read;
+mod rewriting;
+mod same;
+mod sizes;
+mod sound;
+mod table;
+
+pub use bounds::is_surely_too_large;
+pub use instances::instance;
+pub use laws::right_side;
+pub use read::main_of;
+pub use rewriting::{rewritten, rw_goal, rw_hyp};
+pub use table::{is_instance, is_rule, used_if_sound};
