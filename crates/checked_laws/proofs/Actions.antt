@@ -1,9 +1,12 @@
 -- Actions in a larger environment.
-use Rattle.std.proofs.Common.{◌≡◌, ◌∙◌, inl, inr, sym, ap, subst, refl, ℕ, Bool, true, false, not, cond, ◌&&◌, List, [], ◌∷◌, ◌++◌, map, Option, Some, None, IsTrue, bytes_eq, is_some, nat_le, length}
+use Rattle.std.proofs.Common.{◌≡◌, ◌≢◌, ◌∙◌, inl, inr, sym, ap, subst, refl, ℕ, Bool, true, false, not, cond, ◌&&◌, List, [], ◌∷◌, ◌++◌, map, Option, Some, None, IsTrue, bytes_eq, is_some, nat_le, length}
 use Rattle.std.specs.List.{AllByRecursion, list_all}
 use Rattle.formula_core.specs.declared.ty.Ty.{Ty}
 use Rattle.formula_core.specs.declared.raw.Action.{Action}
 use Rattle.formula_core.specs.declared.raw.Action.TheVariants as action
+use Rattle.formula_core.specs.declared.raw.RawAction.{RawAction}
+use Rattle.formula_core.specs.declared.raw.RawAction.TheVariants as raw
+use Rattle.formula_core.specs.declared.raw.Ref.{Ref}
 use Rattle.formula_core.specs.Env.{type_in}
 use Rattle.formula_core.specs.Laws.{IsWithin}
 use Rattle.formula_core.specs.Names.{is_identifier, is_word, is_in_word, starts_word, is_reserved, prime}
@@ -12,12 +15,14 @@ use Rattle.formula_core.specs.Wellness.{type_of}
 use Rattle.formula_core.proofs.TypedIn.{typed_more, predicate_more}
 use Rattle.type_core.specs.Answers.{with_name}
 use Rattle.type_core.proofs.Named.{all_each, later, found_has}
-use Rattle.type_action.specs.CoreActions.{primed, with_all}
+use Rattle.type_action.specs.Answers.{IsActionTyping}
+use Rattle.type_action.specs.CoreActions.{primed, with_all, target_type, with_target, typed_targets, unknown_targets}
 use Rattle.model_core.specs.declared.fault.Fault.{Fault}
 use Rattle.model_core.specs.declared.component.RawStep.{RawStep}
+use Rattle.check_rules.specs.Assignments.{written_targets}
 use Rattle.check_rules.specs.Typed.{Entries, LabelledAction, AreTypedActions}
 use Rattle.type_action.specs.Laws.{IsActionIn, TypedActionsStand}
-use Rattle.checked_laws.specs.Sound.{HasIdentifiers, AreActionsIn}
+use Rattle.checked_laws.specs.Sound.{HasIdentifiers, HasTargets, AreActionsIn}
 use Rattle.checked_laws.proofs.Names.{here_or, some_or, absent, met, missed, same_name}
 use Rattle.checked_laws.proofs.Parts.{never_empty, all_map, all_true}
 use Rattle.checked_laws.proofs.Growing.{within_with, with_all_or}
@@ -102,12 +107,35 @@ action_more env target w ids = elim [
   )
 ]
 
+-- Actions with targets.
+
+typed_first : (x : List ℕ) (o : Option Ty) (xs : Entries) → is_some o ≡ true → with_target x o xs ≡ [] → ⊥
+typed_first x None xs h e = cc
+typed_first x (Some t) xs h e = cc
+
+known_first : (b : Bool) (u : List ℕ × ℕ) (us : List (List ℕ × ℕ)) → cond b us (u ∷ us) ≡ [] → b ≡ true
+known_first true u us e = refl
+known_first false u us e = cc
+
+some_typed : (env : Entries) (targets : List Ref) → unknown_targets env targets ≡ [] → (targets ≡ [] → ⊥) → typed_targets env targets ≡ [] → ⊥
+some_typed env [] known some none = some refl
+some_typed env (r ∷ rs) known some none =
+    typed_first r.name (target_type env r.name) (typed_targets env rs)
+    (known_first (is_some (target_type env r.name)) (r.name, r.place) (unknown_targets env rs) known) none
+
+targets_typed : (env : Entries) (written : RawAction) (a : Action) → IsActionTyping env written a → (written_targets written ≡ [] → ⊥) → HasTargets a
+targets_typed env (raw.Assign targets values) a h some = subst HasTargets (sym h.2) tt
+targets_typed env (raw.Apply target x e) a h some = subst HasTargets (sym h.2) tt
+targets_typed env (raw.ChooseIn target set) a h some = subst HasTargets (sym h.2) tt
+targets_typed env (raw.ChooseSuch targets p) a h some = subst HasTargets (sym h.2) (some_typed env targets h.1.0 some)
+
 pub actions_more : (env target : Entries) → IsWithin env target → HasIdentifiers target → (actions : List LabelledAction) → AreActionsIn env actions → AreActionsIn target actions
-actions_more env target w ids actions h = all_each (λ a. IsActionIn env a.1) (λ a. IsActionIn target a.1) actions (λ a k. action_more env target w ids a.1 k) h
+actions_more env target w ids actions h =
+    all_each (λ a. IsActionIn env a.1 × HasTargets a.1) (λ a. IsActionIn target a.1 × HasTargets a.1) actions (λ a k. (action_more env target w ids a.1 k.0, k.1)) h
 
 pub actions_typed : TypedActionsStand → (component : List ℕ) (env : Entries) (steps : List RawStep) (typed : List LabelledAction) (faults : List Fault) → HasCarriers env
-    → AreTypedActions component env steps typed faults → faults ≡ [] → AreActionsIn env typed
-actions_typed stand component env [] typed faults has t none = subst (AreActionsIn env) (sym t.0) tt
-actions_typed stand component env (s ∷ steps) typed faults has (inl t) none =
-    subst (AreActionsIn env) (sym t.5) (stand env s.action t.0 t.3 has, actions_typed stand component env steps t.1 faults has t.4 none)
-actions_typed stand component env (s ∷ steps) typed faults has (inr t) none = never_empty t.0 t.1 (sym none ∙ t.4)
+    → AllByRecursion (λ s. written_targets s.action ≢ []) steps → AreTypedActions component env steps typed faults → faults ≡ [] → AreActionsIn env typed
+actions_typed stand component env [] typed faults has some t none = subst (AreActionsIn env) (sym t.0) tt
+actions_typed stand component env (s ∷ steps) typed faults has some (inl t) none =
+    subst (AreActionsIn env) (sym t.5) ((stand env s.action t.0 t.3 has, targets_typed env s.action t.0 t.3.holds some.0), actions_typed stand component env steps t.1 faults has some.1 t.4 none)
+actions_typed stand component env (s ∷ steps) typed faults has some (inr t) none = never_empty t.0 t.1 (sym none ∙ t.4)

@@ -1,5 +1,5 @@
 -- A checked component beside sound parts is sound.
-use Rattle.std.proofs.Common.{◌≡◌, ◌∙◌, sym, ap, subst, refl, ℕ, suc, Bool, true, false, not, cond, ◌||◌, ◌==◌, List, [], ◌∷◌, ◌++◌, map, length, Option, IfSome, IsTrue, bytes_eq, is_some, arith, ap₂}
+use Rattle.std.proofs.Common.{◌≡◌, ◌≢◌, ◌∙◌, sym, ap, subst, refl, ℕ, suc, Bool, true, false, not, cond, ◌||◌, ◌==◌, List, [], ◌∷◌, ◌++◌, map, length, Option, IfSome, IsTrue, bytes_eq, is_some, arith, ap₂}
 use Rattle.std.specs.Prelude.{Ok}
 use Rattle.std.specs.List.{AllByRecursion, filter, list_all, zip, IsDistinct}
 use Rattle.std.proofs.lemmas.Bool.{ne_eqb}
@@ -16,7 +16,7 @@ use Rattle.model_core.specs.declared.checked.CheckedEvent.{CheckedEvent}
 use Rattle.model_core.specs.declared.checked.CheckedMachine.{CheckedMachine}
 use Rattle.model_core.specs.Each.{at_each, is_among}
 use Rattle.model_core.specs.Faults.{first_by_place}
-use Rattle.check_rules.specs.Assignments.{targets_in, all_assigned, no_variable_row, assigned_twice_row, inherited_targets, BothEvents, is_bad_start, bad_start_row, no_start, no_variables, assigned_twice}
+use Rattle.check_rules.specs.Assignments.{written_targets, targets_in, all_assigned, no_variable_row, assigned_twice_row, inherited_targets, BothEvents, is_bad_start, bad_start_row, no_start, no_variables, assigned_twice}
 use Rattle.check_rules.specs.Components.{context_in, contexts_in, first_machine_in}
 use Rattle.check_rules.specs.Declarations.{declared_twice, brings_clash, labelled_twice}
 use Rattle.check_rules.specs.Contexts.{Outcome, labels_of, unless, names_of}
@@ -141,9 +141,9 @@ keeps_own component m lost has_variant p e =
 -- Machines.
 
 machine_checked : TypedActionsStand → (project : ProjectNames) (m : Option CheckedMachine) (w : Written) (seen : List CheckedContext) (checked : Checked) → IsGoodAbstraction project m →
-    DeclareIdentifiers w.variables → AllByRecursion (λ e. DeclareIdentifiers e.params) w.events → length seen ≡ length w.sees → AllByRecursion (IsGoodContext project) seen → Has project checked →
+    DeclareIdentifiers w.variables → AllByRecursion (λ e. DeclareIdentifiers e.params) w.events → AllByRecursion (λ e. AllByRecursion (λ s. written_targets s.action ≢ []) e.actions) w.events → length seen ≡ length w.sees → AllByRecursion (IsGoodContext project) seen → Has project checked →
     ChecksMachine m w seen (Ok checked) → IsSound checked × IsSoundBeside m checked × IsOf project checked
-machine_checked stand project m w seen checked good ids params n contexts has h =
+machine_checked stand project m w seen checked good ids params some n contexts has h =
     let name = w.name.name in
     let v = seen_from (abstract_view m) seen in
     let declared = passes (ChecksFormulas m w v (Ok checked)) (first_by_place (machine_declarations m w seen)) checked h in
@@ -216,16 +216,18 @@ machine_checked stand project m w seen checked good ids params n contexts has h 
     let has_start = subst (λ ns. is_among ns initialisation ≡ true) named
     (starts_once name w.name.place w.events t.7 (first_none (no_start name w.name.place starts) of_starts assigned1)) in
     let all_typed = second_none t.1 never faults2 in
+    let variant_good : bad_variant name w.variant t.4 ≡ [] = second_none (lost_in_variant name (lost_variables m w) w.variant) (bad_variant name w.variant t.4)
+    (first_none (lost_in_variant name (lost_variables m w) w.variant ++ bad_variant name w.variant t.4) (joined (map row pairs)) refinements) in
     let whole = machine_whole project m w v good over.sound (variables_kept (abstract_view m) seen) over.within once (all_map (λ x. IsTrue (is_identifier x)) (λ r. r.name) w.variables ids)
-    t.0 last checks all_typed t.4 variant t.7 stand over.constants params clear asks events start well event_names has_start in
+    t.0 last checks all_typed t.4 variant variant_good t.7 stand over.constants params some clear asks events start well event_names has_start in
     subst (λ k. Has project k → IsSound k × IsSoundBeside m k × IsOf project k) (ap (λ c. Machine c) (sym t.10) ∙ same_checked checked (Machine a.0) out.1) (λ own. (whole.0, whole.1, whole.2 own)) has
 
 -- Components.
 
 pub checked_is_sound : TypedActionsStand → CheckedIsSound
-checked_is_sound stand project (raw.Context name extends sets constants axioms) parts checked ids are has h =
+checked_is_sound stand project (raw.Context name extends sets constants axioms) parts checked ids some are has h =
     context_checked project name.name extends sets constants axioms (contexts_in parts) (first_machine_in parts) checked ids are.all (good_contexts project parts are.sound) has h
-checked_is_sound stand project (raw.Machine name refines sees variables invariants variant events) parts checked ids are has h =
+checked_is_sound stand project (raw.Machine name refines sees variables invariants variant events) parts checked ids some are has h =
     machine_checked stand project (first_machine_in parts)
     (record { name = name; sees = sees; variables = variables; invariants = invariants; variant = variant; events = events })
-    (contexts_in parts) checked (good_machine project parts are.sound) ids.0 ids.1 are.all (good_contexts project parts are.sound) has h
+    (contexts_in parts) checked (good_machine project parts are.sound) ids.0 ids.1 some are.all (good_contexts project parts are.sound) has h

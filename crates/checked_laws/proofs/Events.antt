@@ -1,5 +1,5 @@
 -- A checked event is sound.
-use Rattle.std.proofs.Common.{◌≡◌, ◌∙◌, inl, inr, sym, ap, subst, ℕ, true, false, List, [], ◌∷◌, ◌++◌, map, Option, Some, None, IfSome, IsTrue, bytes_eq, not}
+use Rattle.std.proofs.Common.{◌≡◌, ◌≢◌, ◌∙◌, inl, inr, sym, ap, subst, ℕ, true, false, List, [], ◌∷◌, ◌++◌, map, Option, Some, None, IfSome, IsTrue, bytes_eq, not}
 use Rattle.std.specs.List.{AllByRecursion, IsDistinct, filter, zip}
 use Rattle.std.specs.Map.{keys_of}
 use Rattle.std.specs.Option.{option_map, option_map_or}
@@ -19,6 +19,7 @@ use Rattle.model_core.specs.declared.component.RawEvent.{RawEvent}
 use Rattle.model_core.specs.declared.checked.CheckedEvent.{CheckedEvent}
 use Rattle.model_core.specs.declared.checked.Labelled.{Labelled}
 use Rattle.model_core.specs.Each.{is_among, for_each}
+use Rattle.check_rules.specs.Assignments.{written_targets}
 use Rattle.check_rules.specs.Contexts.{names_of}
 use Rattle.check_rules.specs.Declarations.{declared_twice, labelled_twice}
 use Rattle.check_rules.specs.Events.{refined_at, refined, inherited, inherited_params, inherited_guards, inherited_actions, abstract_params, inherited_labels, event_labels, param_clashes, event_declarations, event_env, param_names, lost_params, witness_env, witnesses_of, event_of, IsTypedEvent, AreTypedEvents, initialisation, event_named}
@@ -27,7 +28,7 @@ use Rattle.check_rules.specs.Typed.{Entries, LabelledAction, AreTyped, never_typ
 use Rattle.check_rules.specs.Visible.{names}
 use Rattle.type_action.specs.Laws.{IsActionIn, TypedActionsStand}
 use Rattle.checked_laws.proofs.Given.{all_given}
-use Rattle.checked_laws.specs.Sound.{HasIdentifiers, HasCarriersAmong, ArePredicatesIn, AreActionsIn, IsNamedIn, IsSoundEvent, StartsPlainly}
+use Rattle.checked_laws.specs.Sound.{HasIdentifiers, HasCarriersAmong, ArePredicatesIn, HasTargets, AreActionsIn, IsNamedIn, IsSoundEvent, StartsPlainly}
 use Rattle.checked_laws.proofs.Names.{AllStand, AreNew, none_append, distinct_back, keys_append, distinct_append, new_turned, parts_stand, within_all, here_or, some_or, absent, stand_there, among_self}
 use Rattle.checked_laws.proofs.Parts.{all_map, all_unmap, all_two, filter_all, first_none, second_none, filter_back, any_append}
 use Rattle.checked_laws.proofs.Typing.{AddsNoSets, over_set, carriers_kept, predicates_within, Stood, typed_stand, last_from, in_order_has, in_order_stand, in_order_keys, among_new}
@@ -267,7 +268,7 @@ module _ (constants env last : Entries) (known : List (List ℕ)) (place : IsPla
   all_actions : (actions : List LabelledAction) → AreActionsIn after actions → AreActionsIn target (inherited_actions m e ++ actions)
   all_actions actions h =
       let ids : HasIdentifiers target = all_append (λ x. IsTrue (is_identifier x.0)) env params place.names_are params_identifiers in
-      all_append (λ a. IsActionIn target a.1) (inherited_actions m e) actions (is_inherited.actions target (λ x k. env_target x (above.within x k)) inherits_stand ids)
+      all_append (λ a. IsActionIn target a.1 × HasTargets a.1) (inherited_actions m e) actions (is_inherited.actions target (λ x k. env_target x (above.within x k)) inherits_stand ids)
       (actions_more after target after_target ids actions h)
 
   pub event_sound : (witnesses : List Labelled) (actions : List LabelledAction) → AreActionsIn after actions → IsSoundEvent constants env (event_of m e after guards witnesses actions)
@@ -455,9 +456,9 @@ IsWhole constants env m variables lost e = IsSoundEvent constants env e × IsSou
 module _ (constants env last : Entries) (known : List (List ℕ)) (place : IsPlace constants env last known) (a_constants a_env : Entries) (m : List CheckedEvent)
     (above : IsAbove constants env a_constants a_env m) (component : List ℕ) (variables lost : List (List ℕ)) (actions_stand : TypedActionsStand)
     (variables_named : AllByRecursion (IsNamedIn env) variables) (has_lost : (n : List ℕ) → is_among lost n ≡ true → is_among variables n ≡ true) where
-  one_sound : (e : RawEvent) (one : CheckedEvent) (here : List Fault) → AllByRecursion (λ r. IsTrue (is_identifier r.name)) e.params → event_declarations component m known e ≡ []
-      → AsksWitnesses component m lost e → IsTypedEvent component m variables last e one here → here ≡ [] → IsWhole constants env m variables lost one
-  one_sound e one here ids clear asks t none =
+  one_sound : (e : RawEvent) (one : CheckedEvent) (here : List Fault) → AllByRecursion (λ r. IsTrue (is_identifier r.name)) e.params → AllByRecursion (λ s. written_targets s.action ≢ []) e.actions
+      → event_declarations component m known e ≡ [] → AsksWitnesses component m lost e → IsTypedEvent component m variables last e one here → here ≡ [] → IsWhole constants env m variables lost one
+  one_sound e one here ids some clear asks t none =
       let never = never_typed component t.2 e.params in
       let faults : t.1 ++ never ++ t.5 ++ t.9 ≡ [] = sym t.12 ∙ none in
       let witness_faults : t.1 ++ never ++ t.5 ≡ [] = first_none (t.1 ++ never ++ t.5) t.9 faults in
@@ -469,7 +470,7 @@ module _ (constants env last : Entries) (known : List (List ℕ)) (place : IsPla
       let all_typed = second_none t.1 never own_faults in
       let ids_are = all_map (λ n. IsTrue (is_identifier n)) (λ r. r.name) e.params ids in
       let has = after_carriers constants env last known place a_constants a_env m above component e ids_are clear t.0 t.2 checks all_typed in
-      let actions = actions_typed actions_stand component t.2 e.actions t.8 t.9 has t.10 (second_none (t.1 ++ never ++ t.5) t.9 faults) in
+      let actions = actions_typed actions_stand component t.2 e.actions t.8 t.9 has some t.10 (second_none (t.1 ++ never ++ t.5) t.9 faults) in
       subst (IsWhole constants env m variables lost) (sym t.11) (
         event_sound constants env last known place a_constants a_env m above component e ids_are clear t.0 t.2 checks all_typed t.4 t.8 actions,
         event_witnessed constants env last known place a_constants a_env m above component e ids_are clear t.0 t.2 checks all_typed variables lost t.4 t.6 t.8 variables_named has_lost
@@ -477,12 +478,12 @@ module _ (constants env last : Entries) (known : List (List ℕ)) (place : IsPla
       )
 
   pub events_sound : (raws : List RawEvent) (typed : List CheckedEvent) (faults : List Fault) → AllByRecursion (λ e. AllByRecursion (λ r. IsTrue (is_identifier r.name)) e.params) raws
-      → AllByRecursion (λ e. event_declarations component m known e ≡ []) raws → AllByRecursion (λ p. AsksWitnesses component m lost p.0) (zip raws typed)
+      → AllByRecursion (λ e. AllByRecursion (λ s. written_targets s.action ≢ []) e.actions) raws → AllByRecursion (λ e. event_declarations component m known e ≡ []) raws → AllByRecursion (λ p. AsksWitnesses component m lost p.0) (zip raws typed)
       → AreTypedEvents component m variables last raws typed faults → faults ≡ [] → AllByRecursion (IsWhole constants env m variables lost) typed
-  events_sound [] typed faults ids clear asks t none = subst (AllByRecursion (IsWhole constants env m variables lost)) (sym t.0) tt
-  events_sound (e ∷ raws) typed faults ids clear asks t none =
+  events_sound [] typed faults ids some clear asks t none = subst (AllByRecursion (IsWhole constants env m variables lost)) (sym t.0) tt
+  events_sound (e ∷ raws) typed faults ids some clear asks t none =
       let both : t.1 ++ t.3 ≡ [] = sym t.7 ∙ none in
       let pairs : AllByRecursion (λ p. AsksWitnesses component m lost p.0) ((e, t.0) ∷ zip raws t.2) =
       subst (λ es. AllByRecursion (λ p. AsksWitnesses component m lost p.0) (zip (e ∷ raws) es)) t.6 asks in
       subst (AllByRecursion (IsWhole constants env m variables lost)) (sym t.6)
-      (one_sound e t.0 t.1 ids.0 clear.0 pairs.0 t.4 (first_none t.1 t.3 both), events_sound raws t.2 t.3 ids.1 clear.1 pairs.1 t.5 (second_none t.1 t.3 both))
+      (one_sound e t.0 t.1 ids.0 some.0 clear.0 pairs.0 t.4 (first_none t.1 t.3 both), events_sound raws t.2 t.3 ids.1 some.1 clear.1 pairs.1 t.5 (second_none t.1 t.3 both))

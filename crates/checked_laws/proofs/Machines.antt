@@ -1,5 +1,5 @@
 -- A checked machine is sound.
-use Rattle.std.proofs.Common.{◌≡◌, ◌∙◌, ◌⊎◌, inl, inr, sym, ap, ap₂, subst, refl, ℕ, Bool, true, false, not, cond, ◌||◌, List, [], ◌∷◌, ◌++◌, append_assoc, map, take, drop, take-append-drop, length, Option, Some, None, IfSome, IsTrue, bytes_eq, ◌&&◌}
+use Rattle.std.proofs.Common.{◌≡◌, ◌≢◌, ◌∙◌, ◌⊎◌, inl, inr, sym, ap, ap₂, subst, refl, ℕ, Bool, true, false, not, cond, ◌||◌, List, [], ◌∷◌, ◌++◌, append_assoc, map, take, drop, take-append-drop, length, Option, Some, None, IfSome, IsTrue, bytes_eq, ◌&&◌, is_some}
 use Rattle.std.specs.List.{AllByRecursion, IsDistinct, filter, zip, take-map, drop-map}
 use Rattle.std.specs.Map.{keys_of}
 use Rattle.std.specs.Option.{option_map_or}
@@ -12,8 +12,9 @@ use Rattle.formula_core.specs.Formulas.{joined}
 use Rattle.formula_core.specs.Identifiers.{carriers}
 use Rattle.formula_core.specs.Laws.{IsWithin}
 use Rattle.formula_core.specs.Names.{is_identifier}
-use Rattle.formula_core.specs.Typed.{Stands, HasCarriers, IsTypedIn, IsPredicateIn, IsGoodEnv}
-use Rattle.formula_core.specs.Types.{is_value_type}
+use Rattle.formula_core.specs.Typed.{Stands, HasCarriers, IsPredicateIn, IsGoodEnv}
+use Rattle.formula_core.specs.Types.{is_value_type, is_integer, members}
+use Rattle.formula_core.specs.Wellness.{type_of}
 use Rattle.formula_core.proofs.TypedIn.{typed_more}
 use Rattle.type_core.specs.CoreForms.{core_form}
 use Rattle.type_core.proofs.Named.{all_append, all_front, all_back, all_each, sooner, found_has}
@@ -24,24 +25,26 @@ use Rattle.model_core.specs.declared.checked.CheckedEvent.{CheckedEvent}
 use Rattle.model_core.specs.declared.checked.CheckedMachine.{CheckedMachine}
 use Rattle.model_core.specs.declared.checked.Labelled.{Labelled}
 use Rattle.model_core.specs.Each.{is_among}
+use Rattle.check_rules.specs.Assignments.{written_targets}
+use Rattle.check_rules.specs.Refinements.{bad_variant, bad_variant_row}
 use Rattle.check_rules.specs.Events.{event_declarations, AreTypedEvents, initialisation}
 use Rattle.check_rules.specs.Machines.{Written, abstract_variables, abstract_events, abstract_view, own_names, new_variables, lost_variables, all_variables, machine_env, machine_of}
 use Rattle.check_rules.specs.Typed.{Entries, AreTyped, IsTypedVariant, never_typed, in_order}
 use Rattle.check_rules.specs.Visible.{Identifiers, Visible, identifiers, entries, origins, names, of_machine}
 use Rattle.type_action.specs.Laws.{TypedActionsStand}
 use Rattle.checked_laws.specs.Projects.{ProjectNames, AreConstantsOf, AreVariablesOf, DeclaresIn, Has, IsOf}
-use Rattle.checked_laws.specs.Sound.{HasIdentifiers, HasCarriersAmong, ArePredicatesIn, IsNamedIn, IsSoundEvent, StartsPlainly, AssignsVariables, IsSoundMachine}
+use Rattle.checked_laws.specs.Sound.{HasIdentifiers, HasCarriersAmong, ArePredicatesIn, IsNamedIn, IsVariantIn, IsSoundEvent, StartsPlainly, AssignsVariables, IsSoundMachine}
 use Rattle.checked_laws.specs.Refining.{refined_by, IsSoundRefinement, IsSoundBeside, IsSoundOver}
 use Rattle.checked_laws.proofs.Targets.{IsAssigningWell, events_assign, distinct_join}
 use Rattle.checked_laws.proofs.Witnesses.{named_among}
 use Rattle.checked_laws.proofs.Lost.{found_in_events, nothing_found}
 use Rattle.checked_laws.proofs.Names.{AllStand, AreNew, absent, same_name, or_right, neither_first, neither_second, lacks_back, not_among, none_append, distinct_back, stand_there, stand_sooner, within_all, here_or, parts_stand, apart, missed, or_left, name_is, among_later, among_sooner, among_self}
-use Rattle.checked_laws.proofs.Parts.{never_empty, all_map, all_unmap, all_two, map_append, zip_left, zip_firsts, filter_each, filter_all, filter_back, all_true}
+use Rattle.checked_laws.proofs.Parts.{never_empty, first_none, all_map, all_unmap, all_two, map_append, zip_left, zip_firsts, filter_each, filter_all, filter_back, all_true}
 use Rattle.checked_laws.proofs.Typing.{over_set, carriers_kept, predicates_within, Stood, typed_stand, last_from, in_order_stand, in_order_keys, reaches}
 use Rattle.checked_laws.proofs.Views.{all_entries, IsSoundView}
 use Rattle.checked_laws.proofs.Contexts.{nothing_sound, map_length, row_length}
 use Rattle.checked_laws.proofs.Events.{IsPlace, IsAbove, AsksWitnesses, IsWhole, events_sound, joined_none}
-use Rattle.checked_laws.proofs.Declared.{DeclaredOnce, AreOther, none_left, none_right, not_named, all_named, declared_distinct, zip_row, all_one, declared_of}
+use Rattle.checked_laws.proofs.Declared.{dropped_none, DeclaredOnce, AreOther, none_left, none_right, not_named, all_named, declared_distinct, zip_row, all_one, declared_of}
 
 -- What the abstraction gives.
 
@@ -160,7 +163,7 @@ module _ (project : ProjectNames) (m : Option CheckedMachine) (w : Written) (v :
     (identifiers_are : AllByRecursion (λ n. IsTrue (is_identifier n)) (own_names w))
     (invariants : List Labelled) (last : Entries) (checks : AreTyped w.name.name (machine_env m v) (new_variables m w) w.invariants invariants [] last)
     (all_typed : never_typed w.name.name last w.variables ≡ [])
-    (variant : Option Formula) (variant_typed : IsTypedVariant w.name.name last w.variant variant []) (events : List CheckedEvent) where
+    (variant : Option Formula) (variant_typed : IsTypedVariant w.name.name last w.variant variant []) (variant_good : bad_variant w.name.name w.variant variant ≡ []) (events : List CheckedEvent) where
   abbrev constants : Entries
   constants = entries v.constants
 
@@ -311,12 +314,17 @@ module _ (project : ProjectNames) (m : Option CheckedMachine) (w : Written) (v :
   variables_named = all_append (IsNamedIn checked.env) (own_names w) (lost_variables m w)
       (all_each (IsNamedIn last) (IsNamedIn checked.env) (own_names w) (λ n h. (h.0, into (n, h.0) h.1)) own_named) lost_named
 
-  variant_in : (written : Option RawVariant) (typed : Option Formula) → IsTypedVariant w.name.name last written typed [] → IfSome typed (IsTypedIn checked.env)
-  variant_in None typed h = subst (λ o. IfSome o (IsTypedIn checked.env)) (sym h.0) tt
-  variant_in (Some r) typed (inl h) =
-      subst (λ o. IfSome o (IsTypedIn checked.env)) (sym h.3)
-      (typed_more last checked.env into h.0 (formulas_stand last [] (core_form r.formula) None h.0 h.2 stood.carriers tt).typed)
-  variant_in (Some r) typed (inr h) = never_empty h.0 [] h.3
+  variant_in : (written : Option RawVariant) (typed : Option Formula) → IsTypedVariant w.name.name last written typed [] → bad_variant w.name.name written typed ≡ []
+      → IfSome typed (IsVariantIn checked.env)
+  variant_in None typed h good = subst (λ o. IfSome o (IsVariantIn checked.env)) (sym h.0) tt
+  variant_in (Some r) typed (inl h) good =
+      let v = h.0 in
+      let row : bad_variant w.name.name (Some r) (Some v) ≡ [] = ap (bad_variant w.name.name (Some r)) (sym h.3) ∙ good in
+      subst (λ o. IfSome o (IsVariantIn checked.env)) (sym h.3) (
+        typed_more last checked.env into v (formulas_stand last [] (core_form r.formula) None v h.2 stood.carriers tt).typed,
+        dropped_none (is_integer (type_of v) || is_some (members (type_of v))) _ (first_none (bad_variant_row w.name.name (r, v)) [] row),
+      )
+  variant_in (Some r) typed (inr h) good = never_empty h.0 [] h.3
 
   invariants_in : (o : Option CheckedMachine) → m ≡ o → IsGoodAbstraction project o → ArePredicatesIn checked.env (option_map_or (λ a. a.invariants) o [])
   invariants_in None is g = tt
@@ -407,7 +415,7 @@ module _ (project : ProjectNames) (m : Option CheckedMachine) (w : Written) (v :
     axioms = predicates_within old checked.env (map (λ x. x.0) v.axioms) old_into (all_map (λ l. IsPredicateIn old l.formula) (λ x. x.0) v.axioms sound.axioms);
     invariants = all_append (λ l. IsPredicateIn checked.env l.formula) (option_map_or (λ a. a.invariants) m []) invariants (invariants_in m refl good)
         (predicates_within last checked.env invariants into stood.typed);
-    variant = variant_in w.variant variant variant_typed;
+    variant = variant_in w.variant variant variant_typed variant_good;
     variables = variables_named;
     events = subst (λ es. AllByRecursion (IsSoundEvent es checked.env) events) (sym constants_taken) events_are;
     behind = subst (λ es. AllByRecursion (IsNamedIn es) (own_names w ++ lost_variables m w)) (sym varying_is)
@@ -477,17 +485,17 @@ module _ (project : ProjectNames) (m : Option CheckedMachine) (w : Written) (v :
   }
 
   pub machine_whole : TypedActionsStand → IsWithin (entries (abstract_view m).constants) constants → AllByRecursion (λ e. AllByRecursion (λ r. IsTrue (is_identifier r.name)) e.params) w.events
-      → joined (map (event_declarations w.name.name (abstract_events m) known) w.events) ≡ []
+      → AllByRecursion (λ e. AllByRecursion (λ s. written_targets s.action ≢ []) e.actions) w.events → joined (map (event_declarations w.name.name (abstract_events m) known) w.events) ≡ []
       → AllByRecursion (λ p. AsksWitnesses w.name.name (abstract_events m) (lost_variables m w) p.0) (zip w.events events)
       → AreTypedEvents w.name.name (abstract_events m) (all_variables m w) last w.events events []
       → AllByRecursion StartsPlainly events → AllByRecursion (IsAssigningWell w.name.name (own_names w) (lost_variables m w)) (zip w.events events)
       → IsDistinct bytes_eq (map (λ e. e.name) events) → is_among (map (λ e. e.name) events) initialisation ≡ true
       → IsSoundMachine checked × IsSoundBeside m (Machine checked) × (Has project (Machine checked) → IsOf project (Machine checked))
-  machine_whole actions_stand larger ids clear asks typed start well event_names has_start =
+  machine_whole actions_stand larger ids some clear asks typed start well event_names has_start =
       let above = above_of project m checked.env constants good (λ x h. old_into x (olds x h)) larger in
       let whole : AllByRecursion (IsWhole constants checked.env (abstract_events m) (all_variables m w) (lost_variables m w)) events =
       events_sound constants checked.env last known place above.0 above.1 (abstract_events m) above.2 w.name.name (all_variables m w) (lost_variables m w) actions_stand
-      variables_named (λ n h. among_later (own_names w) (lost_variables m w) n h) w.events events [] ids
+      variables_named (λ n h. among_later (own_names w) (lost_variables m w) n h) w.events events [] ids some
       (joined_none (event_declarations w.name.name (abstract_events m) known) w.events clear) asks typed refl in (
         machine_sound (all_each (IsWhole constants checked.env (abstract_events m) (all_variables m w) (lost_variables m w)) (IsSoundEvent constants checked.env) events (λ e h. h.0) whole) start (machine_assigns typed well) event_names has_start,
         (

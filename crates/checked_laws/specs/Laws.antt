@@ -1,11 +1,12 @@
 -- What is known of a checked component beside sound ones.
-use Rattle.std.specs.Prelude.{◌≡◌, List, ◌++◌, length, IsTrue, Ok}
+use Rattle.std.specs.Prelude.{⊤, ◌≡◌, ◌≢◌, List, [], ◌++◌, length, IsTrue, Ok}
 use Rattle.std.specs.List.{AllByRecursion}
 use Rattle.formula_core.specs.declared.raw.Ref.{Ref}
 use Rattle.formula_core.specs.Names.{is_identifier}
 use Rattle.model_core.specs.declared.component.RawComponent.{RawComponent}
 use Rattle.model_core.specs.declared.component.RawComponent.TheVariants as raw
 use Rattle.model_core.specs.declared.checked.Checked.{Checked}
+use Rattle.check_rules.specs.Assignments.{written_targets}
 use Rattle.check_rules.specs.Components.{contexts_in, first_machine_in, ChecksBeside}
 use Rattle.checked_laws.specs.Projects.{ProjectNames, Has, IsOf}
 use Rattle.checked_laws.specs.Sound.{IsSound}
@@ -20,6 +21,12 @@ DeclaresIdentifiers (raw.Context name extends sets constants axioms) = DeclareId
 DeclaresIdentifiers (raw.Machine name refines sees variables invariants variant events) =
     DeclareIdentifiers variables × AllByRecursion (λ e. DeclareIdentifiers e.params) events
 
+-- each action assigns something
+abbrev pub AssignsSomething : RawComponent → Type 0
+AssignsSomething (raw.Context name extends sets constants axioms) = ⊤
+AssignsSomething (raw.Machine name refines sees variables invariants variant events) =
+    AllByRecursion (λ e. AllByRecursion (λ s. written_targets s.action ≢ []) e.actions) events
+
 abbrev pub references_to_contexts : RawComponent → List Ref
 references_to_contexts (raw.Context name extends sets constants axioms) = extends
 references_to_contexts (raw.Machine name refines sees variables invariants variant events) = sees
@@ -32,5 +39,5 @@ pub record AreParts (project : ProjectNames) (written : RawComponent) (parts : L
 abbrev pub CheckedIsSound : Type 0
 CheckedIsSound =
     (project : ProjectNames) (written : RawComponent) (parts : List Checked) (checked : Checked) →
-    DeclaresIdentifiers written → AreParts project written parts → Has project checked → ChecksBeside written parts (Ok checked) →
+    DeclaresIdentifiers written → AssignsSomething written → AreParts project written parts → Has project checked → ChecksBeside written parts (Ok checked) →
     IsSound checked × IsSoundBeside (first_machine_in parts) checked × IsOf project checked

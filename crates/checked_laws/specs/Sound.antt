@@ -1,10 +1,15 @@
 -- Checked components whose formulas are typed in the environments of their places, and whose events assign their variables.
-use Rattle.std.specs.Prelude.{◌≡◌, ℕ, true, List, [], ◌++◌, map, take, drop, length, IfSome, IsTrue, bytes_eq}
+use Rattle.std.specs.Prelude.{⊤, ◌≡◌, ◌≢◌, ℕ, true, ◌||◌, List, [], ◌++◌, map, take, drop, length, is_some, IfSome, IsTrue, bytes_eq}
 use Rattle.std.specs.List.{AllByRecursion, IsDistinct}
 use Rattle.formula_core.specs.declared.ty.Ty.{Ty}
+use Rattle.formula_core.specs.declared.formula.Formula.{Formula}
+use Rattle.formula_core.specs.declared.raw.Action.{Action}
+use Rattle.formula_core.specs.declared.raw.Action.TheVariants.{Assign, ChooseIn, ChooseSuch}
 use Rattle.formula_core.specs.Identifiers.{carriers}
 use Rattle.formula_core.specs.Names.{is_identifier}
 use Rattle.formula_core.specs.Typed.{Stands, IsTypedIn, IsPredicateIn, IsGoodEnv}
+use Rattle.formula_core.specs.Types.{is_integer, members}
+use Rattle.formula_core.specs.Wellness.{type_of}
 use Rattle.model_core.specs.declared.checked.Checked.{Checked}
 use Rattle.model_core.specs.declared.checked.Checked.TheVariants.{Context, Machine}
 use Rattle.model_core.specs.declared.checked.CheckedContext.{CheckedContext}
@@ -24,8 +29,18 @@ HasIdentifiers env = AllByRecursion (λ x. IsTrue (is_identifier x.0)) env
 abbrev pub ArePredicatesIn : Entries → List Labelled → Type 0
 ArePredicatesIn env labelled = AllByRecursion (λ l. IsPredicateIn env l.formula) labelled
 
+-- a predicate on new values speaks of some
+abbrev pub HasTargets : Action → Type 0
+HasTargets (Assign pairs) = ⊤
+HasTargets (ChooseIn x s) = ⊤
+HasTargets (ChooseSuch targets p) = targets ≢ []
+
 abbrev pub AreActionsIn : Entries → List LabelledAction → Type 0
-AreActionsIn env actions = AllByRecursion (λ a. IsActionIn env a.1) actions
+AreActionsIn env actions = AllByRecursion (λ a. IsActionIn env a.1 × HasTargets a.1) actions
+
+-- a variant is an integer or a set
+abbrev pub IsVariantIn : Entries → Formula → Type 0
+IsVariantIn env v = IsTypedIn env v × ((is_integer (type_of v) || is_some (members (type_of v))) ≡ true)
 
 -- each carrier set of the types stands among the constants
 abbrev pub HasCarriersAmong : Entries → Entries → Type 0
@@ -67,7 +82,7 @@ pub record IsSoundMachine (m : CheckedMachine) : Type 0 where
   pub origins : length m.env_of ≡ length m.env
   pub axioms : ArePredicatesIn m.env m.axioms
   pub invariants : ArePredicatesIn m.env m.invariants
-  pub variant : IfSome m.variant (IsTypedIn m.env)
+  pub variant : IfSome m.variant (IsVariantIn m.env)
   pub variables : AllByRecursion (IsNamedIn m.env) (m.variables ++ m.lost)
   pub behind : AllByRecursion (IsNamedIn (drop m.variables_from m.env)) (m.variables ++ m.lost)
   pub once : IsDistinct bytes_eq (m.variables ++ m.lost)
