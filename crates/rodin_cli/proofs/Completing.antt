@@ -29,7 +29,7 @@ use Rattle.status_core.specs.Run.{Exchange, Run, IsLegal}
 use Rattle.status_core.proofs.Alls.{all_both, all_last, all_so, all_so_both}
 use Rattle.status_core.proofs.NameMaps.{get_same, get_other}
 use Rattle.status_core.proofs.Tables.{present_one}
-use Rattle.rodin_cli.specs.Script.{IsAttempted, IsTurn, AreTurns}
+use Rattle.rodin_cli.specs.Script.{IsTurn, AreTurns}
 use Rattle.rodin_cli.specs.Completeness.{LacksMemory, HasNoMemory}
 use Rattle.rodin_cli.proofs.OneTable.{one_table, distinct_table}
 
@@ -287,16 +287,11 @@ module _ (answers : Sequent → Attempt → Type 0) (sure : Sequent → Type 0) 
       subst (λ os. Finishes (record m { out = [] }) os (ticket_for s.next o) attempt reply entry t) (one_table s.durable.built table' (before ++ o ∷ behind) is table) f3 in
       finished before o behind s t xs ys attempt reply entry distinct worked more worked.legal legal fair memory f4
 
-  -- on a sure sequent the attempt is good
-  good_attempt : (s : Sequent) (attempt : Attempt) → IsAttempted answers sure s attempt → sure s → IsGood attempt s
-  good_attempt s attempt (inl typed) is = typed.1.1 is
-  good_attempt s attempt (inr untyped) is = subst (λ a. IsGood a s) (sym untyped.1) tt
-
   -- a turn works on the next obligation
   pub turned : (before ahead : List Obligation) (s t : State) (xs : List Exchange) (x y : Exchange) →
       IsTable s.durable.built (before ++ ahead) → HasDistinctPoNames (before ++ ahead) → Worked sure before ahead s xs → IsTurn answers sure x y → Run s (x ∷ y ∷ []) t →
       Turned sure before ahead s t (xs ++ x ∷ y ∷ [])
-  turned before ahead s t xs x y table distinct worked (ticket, attempt, takes, given, finishes, attempted) (m, first, (n, second, last)) =
+  turned before ahead s t xs x y table distinct worked (ticket, attempt, takes, given, finishes, fair) (m, first, (n, second, last)) =
       let d : Does s (Take None) (Taken ticket) x.entry m = subst (λ r. Does s (Take None) r x.entry m) given (subst (λ e. Does s e x.reply x.entry m) takes first) in
       let taken : TakesFirst s (before ++ ahead) (Taken ticket) m =
       subst (λ os. TakesFirst s os (Taken ticket) m) (one_table s.durable.built d.0 (before ++ ahead) d.1 table) d.2 in
@@ -309,7 +304,7 @@ module _ (answers : Sequent → Attempt → Type 0) (sure : Sequent → Type 0) 
       (λ q has. has_behind q xs (x ∷ y ∷ []) has)
       (λ legal. all_both (λ z. (number : ℕ) → z.reply ≢ NoTicket number) xs (x ∷ y ∷ []) worked.legal
       ((λ number e. let no : Taken ticket ≡ NoTicket number = sym given ∙ e in cc), (legal, tt)))
-      (subst (λ k. sure k.sequent → IsGood attempt k.sequent) is (good_attempt ticket.sequent attempt attempted))
+      (subst (λ k. sure k.sequent → IsGood attempt k.sequent) is fair.1)
       (λ lacks. has_before o xs (x ∷ y ∷ [])
       (inl (ticket, given, (ap (λ k. k.name) is, ap (λ k. k.sequent) is), finishes ∙ ap (λ a. Finish ticket.number a) lacks)))
       (subst (λ u. Does (record s { out = ticket_for s.next o ∷ []; next = s.next + 1 }) (Finish s.next attempt) y.reply y.entry u) (sym last)

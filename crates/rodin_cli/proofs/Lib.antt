@@ -7,4 +7,5 @@ pub mod Known
 pub mod Legal
 pub mod OneTable
 pub mod Sessions
+pub mod Typed
 pub mod Words

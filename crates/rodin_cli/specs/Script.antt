@@ -4,8 +4,6 @@ use Rattle.std.specs.Prelude.{◌≡◌, ◌⊎◌, ℕ, List, [], ◌∷◌, �
 use Rattle.sequent_core.specs.declared.Sequent.{Sequent}
 use Rattle.sequent_core.specs.declared.Ticket.{Ticket}
 use Rattle.sequent_core.specs.declared.Attempt.{Attempt}
-use Rattle.sequent_core.specs.declared.Attempt.TheVariants.{NoMemory}
-use Rattle.sequent_core.specs.Sequents.{IsSequent}
 use Rattle.sequent_core.specs.Provers.{IsFair}
 use Rattle.status_core.specs.declared.Status.{Status}
 use Rattle.status_core.specs.declared.FaultLine.{FaultLine}
@@ -29,16 +27,11 @@ AreFirstEdits parts [] = ⊤
 AreFirstEdits [] (x ∷ exchanges) = ⊥
 AreFirstEdits (part ∷ parts) (x ∷ exchanges) = (x.event ≡ Edit part.0 part.1) × AreFirstEdits parts exchanges
 
--- A fair attempt at the sequent of a ticket. One that isn't typed is handed to no prover.
-abbrev pub IsAttempted : (Sequent → Attempt → Type 0) → (Sequent → Type 0) → Sequent → Attempt → Type 0
-IsAttempted answers sure s attempt =
-    (IsSequent s × IsFair (answers s attempt) (sure s) attempt s) ⊎ ((IsSequent s → ⊥) × (attempt ≡ NoMemory))
-
--- a ticket was taken, and finished with an attempt at its sequent
+-- a ticket was taken, and finished with a fair attempt at its sequent
 abbrev pub IsTurn : (Sequent → Attempt → Type 0) → (Sequent → Type 0) → Exchange → Exchange → Type 0
 IsTurn answers sure x y =
     (ticket : Ticket) × (attempt : Attempt) × (x.event ≡ Take None) × (x.reply ≡ Taken ticket) × (y.event ≡ Finish ticket.number attempt)
-    × IsAttempted answers sure ticket.sequent attempt
+    × IsFair (answers ticket.sequent attempt) (sure ticket.sequent) attempt ticket.sequent
 
 abbrev pub AreTurns : (Sequent → Attempt → Type 0) → (Sequent → Type 0) → List Exchange → Type 0
 AreTurns answers sure [] = ⊤

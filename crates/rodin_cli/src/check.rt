@@ -10,7 +10,7 @@ ghost use Rattle.status_core.specs.Table.{HasDistinctTable};
 ghost use Rattle.status_core.specs.State.{opened, no_texts, IsFresh};
 ghost use Rattle.check_input.specs.Inputs.{IsInput};
 ghost use Rattle.rodin_cli.specs.Completeness.{IsComplete};
-ghost use Rattle.rodin_cli.specs.Script.{AreEdits, AreFirstEdits, AreTurns, IsAttempted, IsTurn, IsEndFront, IsBuiltReply, IsFull, IsWhole, IsFront};
+ghost use Rattle.rodin_cli.specs.Script.{AreEdits, AreFirstEdits, AreTurns, IsTurn, IsEndFront, IsBuiltReply, IsFull, IsWhole, IsFront};
 ghost use Rattle.rodin_cli.specs.Session.{Extends, IsUnchanged};
 ghost use Rattle.rodin_cli.specs.Streams.{reading, writing, Writes, WritesCut, WritesOrFails, WritesNothing};
 ghost use Rattle.rodin_cli.specs.Texts.{printed};
@@ -24,8 +24,7 @@ use crate::texts::printed;
 use check_input::{InputError, InputFault, input_line, parts_of};
 use formula_core::{List, Name, OutOfMemory, PoName, Text};
 use outside::{Sink, Source};
-use sequent_core::{Attempt, Prover, Sequent};
-use sequent_test::is_sequent;
+use sequent_core::Prover;
 use status_core::{Core, Durable, FaultLine, Reply, Status};
 use std::alloc::Global;
 
@@ -68,16 +67,6 @@ fn begin(session: &mut Session, parts: Vec<(Name, Text)>) -> Result<bool, OutOfM
     }
 }
 
-// An attempt at the sequent. One that isn't typed is handed to no prover.
-fn attempt<P: Prover>(alloc: Global, prover: &P, sequent: &Sequent) -> Result<Attempt, OutOfMemory>
-    ensures { IfOk result (λ attempt. IsAttempted (P.answers prover.now) (P.sure prover.now) sequent.now attempt) }
-{
-    if !is_sequent(alloc, sequent)? {
-        return Ok(Attempt::NoMemory);
-    }
-    Ok(prover.attempt(alloc, sequent))
-}
-
 // Takes a ticket and finishes it. False where nothing is left.
 fn turn<P: Prover>(alloc: Global, prover: &P, session: &mut Session) -> Result<bool, OutOfMemory>
     requires { session.old.core.next + 1 < 2 ^ 64 }
@@ -89,7 +78,7 @@ fn turn<P: Prover>(alloc: Global, prover: &P, session: &mut Session) -> Result<b
     match take(session)? {
         None => Ok(false),
         Some(ticket) => {
-            let attempt = attempt(alloc, prover, &ticket.sequent)?;
+            let attempt = prover.attempt(alloc, &ticket.sequent);
             finish(session, ticket.number, attempt)?;
             Ok(true)
         }

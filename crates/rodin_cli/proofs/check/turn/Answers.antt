@@ -4,14 +4,8 @@ use Rattle.std.proofs.lemmas.Result.{err_from_is_err_and}
 use Rattle.status_core.specs.declared.Event.TheVariants.{Take, Finish}
 use Rattle.status_core.specs.declared.Reply.TheVariants.{Taken, Nothing}
 use Rattle.rodin_cli.proofs.Sessions.{performed, unchanged, both}
+use Rattle.rodin_cli.proofs.Typed.{ticket_typed}
 use Rattle.rodin_cli.proofs.check.turn.Goals as goal
-
-pub returns-in_err-attempt-in-Some-clause-front : goal.returns-in_err-attempt-in-Some-clause-front
-returns-in_err-attempt-in-Some-clause-front g c =
-    let p = err_from_is_err_and c.from_residual-in_err-attempt-in-Some.result c.from_residual-in_err-attempt-in-Some.ensures.1 in
-    let done = rw c.in-Some.is at c.in_ok-take.ensures.done in
-    let x = performed c.args.session.now c.take.new.session (Take None) (Taken c.in-Some.ticket) done in
-    rw p.1 (x.0 ∷ [], x.1, x.3)
 
 pub returns-in_err-finish-in-Some-clause-front : goal.returns-in_err-finish-in-Some-clause-front
 returns-in_err-finish-in-Some-clause-front g c =
@@ -29,10 +23,12 @@ returns-in_ok-finish-in-Some-clause-turned g c =
     let done = rw c.in-Some.is at c.in_ok-take.ensures.done in
     let x = performed c.args.session.now c.take.new.session (Take None) (Taken c.in-Some.ticket) done in
     let finished = c.in_ok-finish-in-Some.ensures.done in
-    let attempt = c.in_ok-attempt-in-Some.attempt in
-    let y = performed c.take.new.session c.finish.new.session (Finish c.in-Some.ticket.number attempt) finished.0 finished.1 in (
+    let y = performed c.take.new.session c.finish.new.session (Finish c.in-Some.ticket.number c.attempt-attempt.result) finished.0 finished.1 in (
       x.0,
       y.0,
-      (c.in-Some.ticket, attempt, x.1, x.2, y.1, c.in_ok-attempt-in-Some.ensures),
+      (c.in-Some.ticket, c.attempt-attempt.result, x.1, x.2, y.1, (c.attempt-attempt.ensures.allowed, c.attempt-attempt.ensures.sure)),
       both c.args.session.now c.take.new.session c.finish.new.session (x.0 ∷ []) (y.0 ∷ []) x.3 y.3,
     )
+
+pub attempt-attempt-requires : goal.attempt-attempt-requires
+attempt-attempt-requires g c = ticket_typed c.args.session.now c.take.new.session c.in-Some.ticket (rw c.in-Some.is at c.in_ok-take.ensures.done)
