@@ -7,7 +7,7 @@ use Rattle.proof_deps.proofs.gather.+gather.Goals as goal
 pub gather-returns-in_ok-gather_each-in-Node : goal.gather-returns-in_ok-gather_each-in-Node
 gather-returns-in_ok-gather_each-in-Node t c =
     node_narrows _ _ c.in-Node.rule c.items.result.now c.in-Node.children c.items-in-Node.result.now _ _ _ c.in-Node.is c.items.ensures c.items-in-Node.ensures
-    (c.in_ok-is_rule-in-Node.ensures.table.0 c.if-not-branch.false) c.in_ok-need_rule-in-Node.ensures c.in_ok-gather_each-in-Node.ensures
+    (c.in_ok-is_rule-in-Node.ensures.rule.0 c.if-not-branch.false) c.in_ok-need_rule-in-Node.ensures c.in_ok-gather_each-in-Node.ensures
 
 pub gather_each-returns-then-trees-antecedents : goal.gather_each-returns-then-trees-antecedents
 gather_each-returns-then-trees-antecedents t c = each_never _ _ _ _ _ c.if-trees-antecedents.true refl
