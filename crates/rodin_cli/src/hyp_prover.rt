@@ -3,7 +3,8 @@ ghost use Rattle.sequent_core.specs.Provers.{AnswersWithin};
 ghost use Rattle.rodin_cli.specs.Hyp.{IsAssumed};
 
 use formula_core::List;
-use sequent_core::{Attempt, Prover, Sequent, Tree, hypothesis};
+use proof_tree::hypothesis;
+use sequent_core::{Attempt, Prover, Sequent, Tree};
 use std::alloc::Global;
 
 /// A prover of the sequents whose goal is a hypothesis, by the one rule `hyp`.
