@@ -4,7 +4,8 @@ ghost use Rattle.std.specs.Prelude.{◌≡◌, ◌+◌, ◌<◌, ◌≤◌, ◌^
 use crate::replies::{add_faults, add_reply, add_statuses, add_warnings};
 use crate::scripts::{Answer, Step};
 use formula_core::{Boxed, Formula, List, Name, Op, Text, Ty};
-use sequent_core::{Attempt, Tree, hypothesis};
+use proof_tree::hypothesis;
+use sequent_core::{Attempt, Tree};
 use status_core::{Core, Reply};
 use std::alloc::Global;
 use std::fmt::Write;
