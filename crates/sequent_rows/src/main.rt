@@ -1,10 +1,8 @@
-//! Rules, proof trees and sequents, each with what sequent_core says of it.
+//! Sequents and proof trees, each with what sequent_core says of it.
 #![tactic(auto)]
 
-use formula_core::{
-    Boxed, Env, Formula, List, Name, Op, OutOfMemory, PoName, Ty, same_identifiers,
-};
-use sequent_core::{Obligation, Rule, RuleKind, Sequent, Tree, hypothesis, is_rule};
+use formula_core::{Boxed, Env, Formula, List, Name, Op, OutOfMemory, PoName, Ty};
+use sequent_core::{Obligation, Rule, RuleKind, Sequent, Tree, meets};
 use std::alloc::Global;
 use std::io;
 use std::process::ExitCode;
@@ -40,11 +38,6 @@ fn is_in_s(alloc: Global, name: &str) -> Option<Formula> {
     member(alloc, element(alloc, name)?, whole_set(alloc)?).ok()
 }
 
-// `a ∈ a`, which isn't well.
-fn is_in_itself(alloc: Global) -> Option<Formula> {
-    member(alloc, element(alloc, "a")?, element(alloc, "a")?).ok()
-}
-
 fn list_of(alloc: Global, formula: Formula) -> Result<List<Formula>, OutOfMemory> {
     let mut formulas = Vec::new(alloc);
     formulas.push(formula)?;
@@ -77,78 +70,31 @@ fn add_name(names: &mut Vec<(Name, Ty)>, alloc: Global, name: &str, ty: Ty) -> O
     names.push((Name::read(alloc, name).ok()?, ty)).ok()
 }
 
-// S with ℙ(S) and `a` with S, in this order or in the other one.
-fn names_of_a(alloc: Global, set_first: bool) -> Option<List<(Name, Ty)>> {
+// S with ℙ(S), and the name with S.
+fn names(alloc: Global, name: &str) -> Option<List<(Name, Ty)>> {
     let mut names = Vec::new(alloc);
-    if set_first {
-        add_name(&mut names, alloc, "S", sets_in_s(alloc)?)?;
-    }
-    add_name(&mut names, alloc, "a", in_s(alloc)?)?;
-    if !set_first {
-        add_name(&mut names, alloc, "S", sets_in_s(alloc)?)?;
-    }
+    add_name(&mut names, alloc, "S", sets_in_s(alloc)?)?;
+    add_name(&mut names, alloc, name, in_s(alloc)?)?;
     Some(List::of(names))
 }
 
-// `hyp` for a goal, with these hypotheses and names.
-fn rule_from(
-    alloc: Global,
-    goal: Formula,
-    needed_hyps: List<Formula>,
-    used: List<(Name, Ty)>,
-) -> Rule {
-    Rule {
+// `hyp` for `name ∈ S`.
+fn hyp(alloc: Global, name: &str) -> Option<Rule> {
+    Some(Rule {
         kind: RuleKind::Hyp,
-        needed_goal: Some(goal),
-        needed_hyps,
-        used,
+        needed_goal: Some(is_in_s(alloc, name)?),
+        needed_hyps: list_of(alloc, is_in_s(alloc, name)?).ok()?,
+        used: names(alloc, name)?,
         antecedents: List::of(Vec::new(alloc)),
-    }
+    })
 }
 
-// Whether `hyp` for `a ∈ S` is a rule with this hypothesis, and with its names in this order.
-fn is_rule_with(alloc: Global, hypothesis: &str, set_first: bool) -> Option<bool> {
-    let hyps = list_of(alloc, is_in_s(alloc, hypothesis)?).ok()?;
-    let used = names_of_a(alloc, set_first)?;
-    let rule = rule_from(alloc, is_in_s(alloc, "a")?, hyps, used);
-    is_rule(alloc, &rule).ok()
-}
-
-fn is_rule_for(alloc: Global, formula: &Formula) -> Option<bool> {
-    let rule = hypothesis(alloc, formula).ok()?;
-    is_rule(alloc, &rule).ok()
-}
-
-// Whether `hyp` for a formula names S and a.
-fn uses_a(alloc: Global, formula: &Formula) -> Option<bool> {
-    let rule = hypothesis(alloc, formula).ok()?;
-    let expected = names_of_a(alloc, true)?;
-    Some(same_identifiers(rule.used.items(), expected.items()))
-}
-
-fn hypothesis_for(alloc: Global, name: &str) -> Option<Rule> {
-    hypothesis(alloc, &is_in_s(alloc, name)?).ok()
-}
-
-// The rule `hyp` for `name ∈ S`, without a child.
-fn proof_of(alloc: Global, name: &str) -> Option<Tree> {
-    let children = List::of(Vec::new(alloc));
-    Some(Tree::Node(hypothesis_for(alloc, name)?, children))
-}
-
-// The same over one leaf.
+// `hyp` for `name ∈ S` over one leaf.
 fn proof_over_leaf(alloc: Global, name: &str) -> Option<Tree> {
     let mut children = Vec::new(alloc);
     children.push(Tree::Leaf).ok()?;
     let children = List::of(children);
-    Some(Tree::Node(hypothesis_for(alloc, name)?, children))
-}
-
-// Whether the tree applies, derives and is good.
-fn answers(alloc: Global, tree: &Tree, sequent: &Sequent) -> Option<(bool, bool, bool)> {
-    let applies = tree.applies(alloc, sequent).ok()?;
-    let derives = tree.derives(alloc, sequent).ok()?;
-    Some((applies, derives, tree.is_good(alloc, sequent).ok()?))
+    Some(Tree::Node(hyp(alloc, name)?, children))
 }
 
 // A sequent at which `hyp` for `a ∈ S` is tried: its elements, its hypothesis and its goal.
@@ -190,8 +136,9 @@ fn sequent_of(alloc: Global, row: &SequentRow) -> Option<Sequent> {
     sequent(alloc, row.elements, row.hypothesis, row.goal)
 }
 
-fn answers_at(alloc: Global, tree: &Tree, row: &SequentRow) -> Option<(bool, bool, bool)> {
-    answers(alloc, tree, &sequent_of(alloc, row)?)
+// Whether the sequent of a row meets `hyp` for `a ∈ S`.
+fn is_met(alloc: Global, row: &SequentRow) -> Option<bool> {
+    Some(meets(&hyp(alloc, "a")?, &sequent_of(alloc, row)?))
 }
 
 // Whether a copied sequent is the same as this one, which it is at a, b and the goal `b ∈ S`.
@@ -213,24 +160,9 @@ fn copied_obligation(alloc: Global) -> Option<Obligation> {
     Obligation { name, sequent }.copy(alloc).ok()
 }
 
-fn print_rules(rt: &HostRuntime, alloc: Global) -> io::Result<()> {
-    let member = is_in_s(alloc, "a").and_then(|f| is_rule_for(alloc, &f));
-    println!(rt; "hyp for a in S: {member:?}")?;
-    let ill_typed = is_in_itself(alloc).and_then(|f| is_rule_for(alloc, &f));
-    println!(rt; "hyp for a in a: {ill_typed:?}")?;
-    println!(rt; "hyp for 1: {:?}", is_rule_for(alloc, &Formula::Int(1)))?;
-    let uses = is_in_s(alloc, "a").and_then(|f| uses_a(alloc, &f));
-    println!(rt; "it uses S and a: {uses:?}")?;
-    println!(rt; "with S before a: {:?}", is_rule_with(alloc, "a", true))?;
-    println!(rt; "with a before S: {:?}", is_rule_with(alloc, "a", false))?;
-    println!(rt; "from b in S: {:?}", is_rule_with(alloc, "b", true))?;
-    Ok(())
-}
-
-fn print_answers(rt: &HostRuntime, alloc: Global, what: &str, tree: &Tree) -> io::Result<()> {
+fn print_met(rt: &HostRuntime, alloc: Global) -> io::Result<()> {
     for row in &SEQUENTS {
-        let answers = answers_at(alloc, tree, row);
-        println!(rt; "{what}, {}: {answers:?}", row.name)?;
+        println!(rt; "hyp, {}: {:?}", row.name, is_met(alloc, row))?;
     }
     Ok(())
 }
@@ -262,21 +194,16 @@ fn print_copies(rt: &HostRuntime, alloc: Global) -> io::Result<()> {
 }
 
 fn print_trees(rt: &HostRuntime, alloc: Global) -> io::Result<()> {
-    if let Some(proof) = proof_of(alloc, "a") {
-        print_answers(rt, alloc, "hyp", &proof)?;
-    }
     print_tree(rt, "leaf", &Tree::Leaf)?;
-    print_answers(rt, alloc, "leaf", &Tree::Leaf)?;
     if let Some(proof) = proof_over_leaf(alloc, "a") {
         print_tree(rt, "hyp over a leaf", &proof)?;
-        print_answers(rt, alloc, "hyp over a leaf", &proof)?;
     }
     Ok(())
 }
 
 fn main(rt: HostRuntime) -> io::Result<ExitCode> {
     let alloc = rt.alloc();
-    print_rules(&rt, alloc)?;
+    print_met(&rt, alloc)?;
     print_trees(&rt, alloc)?;
     print_copies(&rt, alloc)?;
     Ok(ExitCode::SUCCESS)
