@@ -1,14 +1,16 @@
-//! Checks projects, as `rodin check` does.
+//! Checks projects by the words `check`, as `rodin` does.
 //!
 //! A line `# NAME` begins a project, which goes on up to the next such line: the input of `rodin check`. Of each project come
 //! that line, what the check prints, and a line with its exit status.
 #![tactic(auto)]
 
-use outside::{MemorySink, MemorySource};
-use rodin_cli::{HypProver, run_check};
+use outside::{MemorySink, MemorySource, NullDisk, OpenGate};
+use rodin_cli::{HypProver, run};
 use std::alloc::{AllocError, Global};
 use std::io;
 use std::io::{BufRead, BufReader};
+use std::sync::Wait;
+use std::thread::Threads;
 
 /// The greatest number of bytes that the source gives at a time.
 const MOST: usize = 4_096;
@@ -17,13 +19,30 @@ const MOST: usize = 4_096;
 const ROOM: usize = 65_536;
 
 // Adds the name of a project and what the check of it answers.
-fn answer(alloc: Global, name: &str, text: &str, out: &mut String) -> Result<(), AllocError> {
+fn answer<R: Threads + Wait + Sync>(
+    rt: &R,
+    alloc: Global,
+    name: &str,
+    text: &str,
+    out: &mut String,
+) -> Result<(), AllocError> {
     if name.is_empty() {
         return Ok(());
     }
+    let mut words = Vec::new(alloc);
+    words.push(String::from_str(alloc, "check")?)?;
     let mut source = MemorySource::new(text.as_bytes().to_vec(alloc)?, MOST, Vec::new(alloc));
     let mut sink = MemorySink::new(alloc, ROOM, Vec::new(alloc))?;
-    let done = run_check(alloc, &mut source, &mut sink, &HypProver::new());
+    let done = run(
+        rt,
+        alloc,
+        &words,
+        &mut source,
+        &mut sink,
+        NullDisk::new(),
+        &HypProver::new(),
+        &OpenGate,
+    );
     let printed = match std::str::from_utf8(sink.taken()) {
         Ok(printed) => printed,
         Err(_) => "not UTF-8\n",
@@ -42,7 +61,7 @@ fn main(rt: HostRuntime) -> io::Result<()> {
     for line in BufReader::new(alloc, rt.reader())?.lines(alloc) {
         let line = line?;
         if line.starts_with("# ") {
-            answer(alloc, &name, &text, &mut out)?;
+            answer(&rt, alloc, &name, &text, &mut out)?;
             name.clear();
             name.push_str(&line)?;
             text.clear();
@@ -51,7 +70,7 @@ fn main(rt: HostRuntime) -> io::Result<()> {
             text.push('\n')?;
         }
     }
-    answer(alloc, &name, &text, &mut out)?;
+    answer(&rt, alloc, &name, &text, &mut out)?;
     print!(rt; "{out}")?;
     Ok(())
 }
