@@ -1,4 +1,5 @@
 pub mod Faults
+pub mod Good
 pub mod HeadingLines
 pub mod Inputs
 pub mod Lines

@@ -9,6 +9,6 @@ mod parts;
 mod telling;
 
 pub use input::{InputError, InputFault};
-pub use laws::{one_input, whole_input};
+pub use laws::{good_parts, one_input, whole_input};
 pub use parts::parts_of;
 pub use telling::input_line;
