@@ -21,6 +21,7 @@ use Rattle.rodin_cli.specs.Completeness.{IsComplete}
 use Rattle.rodin_cli.proofs.Sessions.{front_of_whole}
 use Rattle.rodin_cli.proofs.Folding.{run_folds}
 use Rattle.rodin_cli.proofs.Clean.{told_of, clean_of, proved_of}
+use Rattle.rodin_cli.proofs.Building.{built_of}
 
 -- a session that began empty and did these exchanges
 pub record Did (old new : Session) (exchanges : List Exchange) (part : Part) : Type 0 where
@@ -70,6 +71,7 @@ module _ (answers : Sequent → Attempt → Type 0) (sure : Sequent → Type 0) 
           shown = shown;
           whole = whole;
           leads = leads;
+          built = ap (λ d. d.built) did.last ∙ built_of answers sure bytes parts told warned shown exchanges new.core made whole ran;
           faults = subst (λ d. TellsFaults d told) (sym did.last) tells.0;
           warnings = subst (λ d. TellsWarnings d warned) (sym did.last) tells.1;
           clean = subst (λ d. IsCleanRebuild d shown) (sym did.last) clean;

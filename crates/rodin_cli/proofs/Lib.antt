@@ -1,4 +1,5 @@
 pub mod Answering
+pub mod Building
 pub mod Clean
 pub mod Completing
 pub mod Edits

@@ -1,7 +1,7 @@
 -- What `check` did: its status, its history, and what it read and wrote.
-use Rattle.std.specs.Prelude.{◌≡◌, ◌⊎◌, ℕ, ◌≤◌, ◌<◌, List, [], ◌∷◌, length, map, codes, String, string_bytes, Some, Ok, Err}
+use Rattle.std.specs.Prelude.{◌≡◌, ◌⊎◌, ℕ, ◌≤◌, ◌<◌, List, [], ◌∷◌, length, map, fold, codes, String, string_bytes, Some, Ok, Err}
 use Rattle.std.specs.List.{AllZip}
-use Rattle.std.specs.FinMap.{get}
+use Rattle.std.specs.FinMap.{empty, get, insert}
 use Rattle.std.specs.declared.alloc.Global.{Global}
 use Rattle.sequent_core.specs.declared.Sequent.{Sequent}
 use Rattle.sequent_core.specs.declared.Obligation.{Obligation}
@@ -12,6 +12,7 @@ use Rattle.status_core.specs.declared.Durable.{Durable}
 use Rattle.status_core.specs.declared.FaultLine.{FaultLine}
 use Rattle.status_core.specs.declared.Status.{Status}
 use Rattle.status_core.specs.declared.Status.TheVariants.{Discharged}
+use Rattle.status_core.specs.Durable.{ProjectMap}
 use Rattle.status_core.specs.Status.{Shows}
 use Rattle.status_core.specs.Faults.{AreFaults, AreWarnings}
 use Rattle.status_core.specs.Table.{IsTable}
@@ -58,12 +59,20 @@ TellsFaults d told = AreFaults d.built told
 abbrev pub TellsWarnings : Durable → List (List ℕ × List ℕ) → Type 0
 TellsWarnings d warned = AreWarnings d.built warned
 
+-- one more component in a project
+abbrev pub with_part : ProjectMap → Component → ProjectMap
+with_part texts part = insert texts part.0 part.1
+
+-- the project of these components
+abbrev pub project_of : List Component → ProjectMap
+project_of parts = fold with_part empty parts
+
 -- the status of an answer that is written: 1 where a fault is told
 abbrev pub status_of : List FaultLine → ℕ
 status_of [] = 0
 status_of (f ∷ told) = 1
 
--- the input has these components, the run is whole, and the faults and warnings that it tells and the statuses that it
+-- the input has these components, the run is whole, they are what is built, and the faults and warnings that it tells and the statuses that it
 -- shows are written
 pub record IsAnswered (answers : Sequent → Attempt → Type 0) (sure : Sequent → Type 0) (bytes : List ℕ) (sink : Writing) (part : Part) : Type 0 where
   pub parts : List Component
@@ -74,6 +83,7 @@ pub record IsAnswered (answers : Sequent → Attempt → Type 0) (sure : Sequent
   pub shown : List (List ℕ × Status)
   pub whole : IsWhole answers sure parts told warned shown exchanges
   pub leads : Leads part exchanges
+  pub built : part.last.built ≡ project_of parts
   pub faults : TellsFaults part.last told
   pub warnings : TellsWarnings part.last warned
   pub clean : IsCleanRebuild part.last shown
