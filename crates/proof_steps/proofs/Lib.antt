@@ -1,2 +1,4 @@
 pub mod Changes
+pub mod Induction
 pub mod Rules
+pub mod Weakening

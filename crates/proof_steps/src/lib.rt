@@ -4,5 +4,5 @@
 mod laws;
 mod places;
 
-pub use laws::closed_trees_derive;
+pub use laws::{closed_trees_derive, larger_sequents_keep_trees};
 pub use places::{NoNode, prune};
