@@ -4,6 +4,7 @@ pub mod Contexts
 pub mod Declarations
 pub mod Events
 pub mod Machines
+pub mod Private
 pub mod Refinements
 pub mod Typed
 pub mod Visible

@@ -3,4 +3,4 @@
 
 mod abstraction;
 
-pub use abstraction::{event_named, is_initialisation, refined};
+pub use abstraction::{AbstractEvents, is_initialisation, refined};

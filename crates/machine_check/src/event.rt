@@ -9,7 +9,7 @@ ghost use Rattle.machine_check.specs.PrivateTyped.{HasExactly, AreTypedWitnesses
 use crate::assignments::texts_of;
 use crate::environment::{add_event_names, add_witness_names, inherited_params};
 use crate::parts::{event_names, with_actions, with_labelled, with_params, witnesses_of};
-use check_rules::refined;
+use check_rules::{AbstractEvents, refined};
 use context_check::copies::{count, names_of};
 use context_check::declarations::Texts;
 use context_check::typing::{TypedParts, first_never_typed, type_actions, type_all};
@@ -106,7 +106,7 @@ fn type_witnesses(
 fn type_in_place(
     alloc: Global,
     component: &Name,
-    events: &[CheckedEvent],
+    events: &AbstractEvents<'_>,
     variables: &Texts<'_>,
     env: &mut Env,
     event: &RawEvent,
@@ -142,7 +142,7 @@ fn type_in_place(
 fn type_event(
     alloc: Global,
     component: &Name,
-    events: &[CheckedEvent],
+    events: &AbstractEvents<'_>,
     variables: &Texts<'_>,
     env: &mut Env,
     event: &RawEvent,
@@ -161,7 +161,7 @@ fn type_event(
 pub fn type_events(
     alloc: Global,
     component: &Name,
-    events: &[CheckedEvent],
+    events: &AbstractEvents<'_>,
     variables: &[Name],
     env: &mut Env,
     written: &[RawEvent],

@@ -14,10 +14,10 @@ ghost use Rattle.machine_check.specs.PrivateNames.{step_mark, clash_of, clash_at
 use crate::assignments::{add_names_of, fault_if};
 use crate::environment::inherited_params;
 use crate::event::{actions_in, extended, guards_in};
-use check_rules::{event_named, refined};
+use check_rules::{AbstractEvents, refined};
 use context_check::declarations::{Mark, Texts, add_labels, add_refs, first_repeated, has, put};
 use formula_core::{Action, Label, Name, OutOfMemory, Ref, Ty};
-use model_core::{CheckedEvent, Fault, FaultKind, Labelled, RawEvent, RawStep, earlier};
+use model_core::{Fault, FaultKind, Labelled, RawEvent, RawStep, earlier};
 use std::alloc::Global;
 use std::collections::BTreeSet;
 
@@ -64,14 +64,14 @@ fn first_clash_of(
 fn clash_at(
     alloc: Global,
     component: &Name,
-    events: &[CheckedEvent],
+    events: &AbstractEvents<'_>,
     known: &Texts<'_>,
     reference: &Ref,
 ) -> Result<Option<Fault>, OutOfMemory>
     ensures { IfOk result (λ here. here ≡ first_by_place
         (clash_at component.now events.now (has known.now) reference.now)) }
 {
-    match event_named(events, reference.name.as_text()) {
+    match events.event_named(reference.name.as_text()) {
         Some(event) => first_clash_of(
             alloc,
             component,
@@ -87,7 +87,7 @@ fn clash_at(
 fn first_clash(
     alloc: Global,
     component: &Name,
-    events: &[CheckedEvent],
+    events: &AbstractEvents<'_>,
     known: &Texts<'_>,
     references: &[Ref],
 ) -> Result<Option<Fault>, OutOfMemory>
@@ -222,7 +222,7 @@ fn first_label_twice(
 fn first_declared(
     alloc: Global,
     component: &Name,
-    events: &[CheckedEvent],
+    events: &AbstractEvents<'_>,
     known: &Texts<'_>,
     event: &RawEvent,
 ) -> Result<Option<Fault>, OutOfMemory>
@@ -248,7 +248,7 @@ fn first_declared(
 pub fn first_declared_in_events(
     alloc: Global,
     component: &Name,
-    events: &[CheckedEvent],
+    events: &AbstractEvents<'_>,
     known: &Texts<'_>,
     written: &[RawEvent],
 ) -> Result<Option<Fault>, OutOfMemory>

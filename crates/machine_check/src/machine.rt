@@ -8,7 +8,7 @@ ghost use Rattle.model_core.specs.Faults.{first_by_place};
 ghost use Rattle.check_rules.specs.Assignments.{assignment_faults};
 ghost use Rattle.check_rules.specs.Components.{AreContextsOf, ChecksApart, is_context};
 ghost use Rattle.check_rules.specs.Contexts.{names_of};
-ghost use Rattle.check_rules.specs.Machines.{ChecksFormulasApart, ChecksMachineApart, abstract_view, all_variables};
+ghost use Rattle.check_rules.specs.Machines.{ChecksFormulasApart, ChecksMachineApart, abstract_events, abstract_view, all_variables};
 ghost use Rattle.machine_check.specs.PrivateEvents.{both_of};
 ghost use Rattle.machine_check.specs.PrivateMachine.{IsTypedMachineSoFar, written_of};
 ghost use Rattle.context_check.specs.Views.{visible};
@@ -18,6 +18,7 @@ use crate::event::type_events;
 use crate::machine_names::first_own_declaration;
 use crate::machine_parts::{add_lost_variables, machine_env, machine_of, new_variables};
 use crate::refined_machine::{abstract_events, abstract_variables, abstract_view, machine_at};
+use check_rules::AbstractEvents;
 use context_check::CheckFault;
 use context_check::context::contexts_in;
 use context_check::copies::names_of;
@@ -62,10 +63,12 @@ fn all_variables(
 fn type_machine(
     alloc: Global,
     abstraction: Option<&CheckedMachine>,
+    events: &AbstractEvents<'_>,
     written: &WrittenMachine<'_>,
     view: &View<'_>,
     variables: &[Name],
 ) -> Result<(CheckedMachine, Option<Fault>), OutOfMemory>
+    requires events { events.now ≡ abstract_events (option_copied abstraction) }
     requires all { variables.now ≡ all_variables (option_copied abstraction) (written_of written.now) }
     requires variables { (visible view.now).variables ≡ (abstract_view (option_copied abstraction)).variables }
     ensures { IfOk result (λ one. IsTypedMachineSoFar (option_copied abstraction.entry) (written_of written.now)
@@ -73,7 +76,6 @@ fn type_machine(
 {
     let component = &written.name.name;
     let kept = abstract_variables(abstraction);
-    let events = abstract_events(abstraction);
     let mut env = machine_env(alloc, kept, view)?;
     let wanted = new_variables(alloc, kept, written.variables)?;
     let invariants = type_all(alloc, component, &mut env, &wanted, written.invariants)?;
@@ -140,15 +142,17 @@ fn first_assignment(
 fn check_formulas(
     alloc: Global,
     abstraction: Option<&CheckedMachine>,
+    events: &AbstractEvents<'_>,
     written: &WrittenMachine<'_>,
     view: &View<'_>,
 ) -> Result<Result<(CheckedMachine, Option<Fault>), Fault>, OutOfMemory>
-    requires { (visible view.now).variables ≡ (abstract_view (option_copied abstraction)).variables }
+    requires events { events.now ≡ abstract_events (option_copied abstraction) }
+    requires variables { (visible view.now).variables ≡ (abstract_view (option_copied abstraction)).variables }
     ensures { IfOk result (λ answer. ChecksFormulasApart (option_copied abstraction.entry) (written_of written.now)
         (visible view.now) answer) }
 {
     let variables = all_variables(alloc, abstraction, written, view)?;
-    let (typed, first) = type_machine(alloc, abstraction, written, view, &variables)?;
+    let (typed, first) = type_machine(alloc, abstraction, events, written, view, &variables)?;
     match first {
         Some(fault) => Ok(Err(fault)),
         None => {
@@ -170,13 +174,14 @@ fn check_apart<'a>(
         (map (λ c. c.now) seen.now) answer) }
 {
     let component = &written.name.name;
+    let events = AbstractEvents::of(alloc, abstract_events(abstraction))?;
     let mut view = abstract_view(alloc, abstraction)?;
     let clash = add_referenced(alloc, component, &mut view, written.sees, seen)?;
-    let own = first_own_declaration(alloc, abstraction, written, &view)?;
+    let own = first_own_declaration(alloc, abstraction, &events, written, &view)?;
     match earlier(clash, own) {
         Some(fault) => Ok(Err(fault)),
         None => {
-            let answer = check_formulas(alloc, abstraction, written, &view)?;
+            let answer = check_formulas(alloc, abstraction, &events, written, &view)?;
             Ok(answer)
         }
     }

@@ -9,6 +9,7 @@ ghost use Rattle.model_core.specs.Faults.{first_by_place};
 ghost use Rattle.check_rules.specs.Contexts.{names_of};
 ghost use Rattle.check_rules.specs.Declarations.{declared_twice};
 ghost use Rattle.check_rules.specs.Events.{event_declarations};
+ghost use Rattle.check_rules.specs.Machines.{abstract_events};
 ghost use Rattle.check_rules.specs.Visible.{entries, identifiers, names};
 ghost use Rattle.context_check.specs.Texts.{has, mark_of, ref_mark};
 ghost use Rattle.machine_check.specs.PrivateMachine.{own_declarations, written_of};
@@ -17,12 +18,13 @@ ghost use Rattle.context_check.specs.Views.{placed, visible};
 use crate::assignments::texts_of;
 use crate::event_names::first_declared_in_events;
 use crate::machine::WrittenMachine;
-use crate::refined_machine::{abstract_events, abstract_variables};
+use crate::refined_machine::abstract_variables;
+use check_rules::AbstractEvents;
 use context_check::context::first_labelled_twice;
 use context_check::declarations::{Mark, Texts, add_refs, first_repeated, has, put};
 use context_check::visible::{Placed, View};
 use formula_core::{Name, OutOfMemory, Ref, Ty};
-use model_core::{CheckedEvent, CheckedMachine, Fault, FaultKind, RawEvent, earlier};
+use model_core::{CheckedMachine, Fault, FaultKind, RawEvent, earlier};
 use std::alloc::Global;
 use std::collections::BTreeSet;
 
@@ -164,7 +166,7 @@ fn all_names<'a>(
 fn first_in_events(
     alloc: Global,
     component: &Name,
-    events: &[CheckedEvent],
+    events: &AbstractEvents<'_>,
     view: &View<'_>,
     variables: &[Ref],
     written: &[RawEvent],
@@ -182,22 +184,23 @@ fn first_in_events(
 pub fn first_own_declaration(
     alloc: Global,
     abstraction: Option<&CheckedMachine>,
+    events: &AbstractEvents<'_>,
     written: &WrittenMachine<'_>,
     view: &View<'_>,
 ) -> Result<Option<Fault>, OutOfMemory>
+    requires { events.now ≡ abstract_events (option_copied abstraction) }
     ensures { IfOk result (λ first. first ≡ first_by_place
         (own_declarations (option_copied abstraction.entry) (written_of written.now) (visible view.now))) }
 {
     let component = &written.name.name;
     let kept = abstract_variables(abstraction);
-    let abstract_events = abstract_events(abstraction);
     let variable = first_variable_twice(alloc, component, kept, view, written.variables)?;
     let label = first_labelled_twice(alloc, component, written.invariants)?;
     let event = first_event_twice(alloc, component, written.events)?;
     let in_events = first_in_events(
         alloc,
         component,
-        abstract_events,
+        events,
         view,
         written.variables,
         written.events,

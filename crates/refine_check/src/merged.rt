@@ -12,23 +12,23 @@ ghost use Rattle.check_rules.specs.Refinements.{without_labels, first_actions, h
 ghost use Rattle.refine_check.specs.Private.{found_at, merged_differ_of};
 
 use crate::names::Names;
-use check_rules::event_named;
+use check_rules::AbstractEvents;
 use formula_core::{Name, OutOfMemory, Ref, Ty, same_labelled_actions};
 use model_core::{CheckedEvent, Fault, FaultKind, RawEvent, earlier, fault_at};
 use std::alloc::Global;
 
 /// A reference of an event with the abstract event of that name.
-type Found<'a> = (&'a Ref, &'a CheckedEvent);
+type Found<'r, 'e> = (&'r Ref, &'e CheckedEvent);
 
-fn add_found<'a>(
-    events: &'a [CheckedEvent],
-    references: &'a [Ref],
-    found: &mut Vec<Found<'a>>,
+fn add_found<'r, 'e>(
+    events: &AbstractEvents<'e>,
+    references: &'r [Ref],
+    found: &mut Vec<Found<'r, 'e>>,
 ) -> Result<(), OutOfMemory>
-    ensures { OnOk result (found_at found.new.items ≡ found_at found.old.items ++ filter_map (with_event events.entry.now) references.entry.now) }
+    ensures { OnOk result (found_at found.new.items ≡ found_at found.old.items ++ filter_map (with_event events.now) references.entry.now) }
 {
     for reference in references {
-        if let Some(event) = event_named(events, reference.name.as_text()) {
+        if let Some(event) = events.event_named(reference.name.as_text()) {
             found.push((reference, event))?;
         }
     }
@@ -36,7 +36,7 @@ fn add_found<'a>(
 }
 
 /// The first of the merged events.
-fn first_of<'a>(before: &[Found<'a>], event: &'a CheckedEvent) -> &'a CheckedEvent
+fn first_of<'e>(before: &[Found<'_, 'e>], event: &'e CheckedEvent) -> &'e CheckedEvent
     ensures { (reference : Reference) → first_actions (found_at before.now) (reference, event.now) ≡ without_labels result.now.actions }
 {
     match before.first() {
@@ -142,7 +142,7 @@ fn first_difference_of(
 pub(crate) fn first_difference(
     alloc: Global,
     component: &Name,
-    events: &[CheckedEvent],
+    events: &AbstractEvents<'_>,
     kept: &Names,
     event: &RawEvent,
 ) -> Result<Option<Fault>, OutOfMemory>

@@ -4,9 +4,9 @@ ghost use Rattle.model_core.specs.Faults.{first_by_place};
 ghost use Rattle.check_rules.specs.Events.{event_named};
 ghost use Rattle.check_rules.specs.Refinements.{is_paired, no_abstract_event_row, no_abstract_events};
 
-use check_rules::{event_named, is_initialisation};
+use check_rules::{AbstractEvents, is_initialisation};
 use formula_core::{Name, OutOfMemory, Ref};
-use model_core::{CheckedEvent, Fault, FaultKind, RawEvent, earlier, fault_at};
+use model_core::{Fault, FaultKind, RawEvent, earlier, fault_at};
 use std::alloc::Global;
 
 fn is_paired(event: &RawEvent, reference: &Ref) -> bool
@@ -20,16 +20,16 @@ fn is_paired(event: &RawEvent, reference: &Ref) -> bool
     }
 }
 
-fn is_abstract_event(events: &[CheckedEvent], event: &RawEvent, reference: &Ref) -> bool
+fn is_abstract_event(events: &AbstractEvents<'_>, event: &RawEvent, reference: &Ref) -> bool
     ensures { result ≡ (is_some (event_named events.now reference.now.name) && is_paired event.now reference.now) }
 {
-    event_named(events, reference.name.as_text()).is_some() && is_paired(event, reference)
+    events.event_named(reference.name.as_text()).is_some() && is_paired(event, reference)
 }
 
 fn no_abstract_event_at(
     alloc: Global,
     component: &Name,
-    events: &[CheckedEvent],
+    events: &AbstractEvents<'_>,
     event: &RawEvent,
     reference: &Ref,
 ) -> Result<Option<Fault>, OutOfMemory>
@@ -53,7 +53,7 @@ fn no_abstract_event_at(
 pub(crate) fn first_no_abstract_event(
     alloc: Global,
     component: &Name,
-    events: &[CheckedEvent],
+    events: &AbstractEvents<'_>,
     event: &RawEvent,
 ) -> Result<Option<Fault>, OutOfMemory>
     ensures { IfOk result (λ first. first ≡ first_by_place (no_abstract_events component.now events.now event.now)) }

@@ -17,7 +17,7 @@ use crate::merged::first_difference;
 use crate::names::Names;
 use crate::paired::first_no_abstract_event;
 use crate::witnesses::{first_bad_witness, param_names};
-use check_rules::refined;
+use check_rules::{AbstractEvents, refined};
 use formula_core::{Formula, Name, OutOfMemory, Ref};
 use model_core::{
     Checked, CheckedEvent, CheckedMachine, Fault, RawComponent, RawEvent, RawVariant, earlier,
@@ -59,7 +59,7 @@ fn lost_variables<'a>(
 #[derive(Drop)]
 struct Beside<'a, 'b, 'c> {
     component: &'a Name,
-    events: &'b [CheckedEvent],
+    events: &'c AbstractEvents<'b>,
     lost: &'c Names<'b>,
     has_variant: bool,
 }
@@ -154,10 +154,11 @@ pub fn check_refinement(
             ..
         } => {
             let refined = machine_of(abstraction);
+            let abstract_events = AbstractEvents::of(alloc, events_of(refined))?;
             let lost = lost_variables(alloc, refined, variables.items())?;
             let beside = Beside {
                 component: &name.name,
-                events: events_of(refined),
+                events: &abstract_events,
                 lost: &lost,
                 has_variant: variant.is_some(),
             };

@@ -9,9 +9,14 @@ use Rattle.context_check.specs.Views.{visible}
 use Rattle.machine_check.proofs.Machines.{begun, variables_kept}
 use Rattle.machine_check.proofs.machine.check_apart.Goals as goal
 
+pub first_own_declaration-requires : goal.first_own_declaration-requires
+first_own_declaration-requires c = c.in_ok-events.ensures ∙ c.abstract_events.ensures
+
 pub check_formulas-requires : goal.check_formulas-requires
-check_formulas-requires c =
-    ap (λ v. v.variables) c.in_ok-clash.ensures.seen ∙ variables_kept (visible c.in_ok-view.view) (map (λ p. p.now) c.args.seen.now) ∙ ap (λ v. v.variables) c.in_ok-view.ensures.seen
+check_formulas-requires c = record {
+  events = c.in_ok-events.ensures ∙ c.abstract_events.ensures;
+  variables = ap (λ v. v.variables) c.in_ok-clash.ensures.seen ∙ variables_kept (visible c.in_ok-view.view) (map (λ p. p.now) c.args.seen.now) ∙ ap (λ v. v.variables) c.in_ok-view.ensures.seen;
+}
 
 pub returns-in-Some : goal.returns-in-Some
 returns-in-Some c =

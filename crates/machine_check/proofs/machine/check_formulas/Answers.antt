@@ -10,7 +10,7 @@ use Rattle.machine_check.proofs.Machines.{formulas_apart}
 use Rattle.machine_check.proofs.machine.check_formulas.Goals as goal
 
 pub type_machine-requires : goal.type_machine-requires
-type_machine-requires c = record { all = c.deref.ensures.value ∙ c.in_ok-variables.ensures; variables = c.requires }
+type_machine-requires c = record { events = c.requires.events; all = c.deref.ensures.value ∙ c.in_ok-variables.ensures; variables = c.requires.variables }
 
 pub returns-in-Some : goal.returns-in-Some
 returns-in-Some c =

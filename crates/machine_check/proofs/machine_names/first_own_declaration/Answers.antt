@@ -23,6 +23,6 @@ returns c =
     ∙ (λ i. earlier (earlier (earlier
     ((c.in_ok-variable.ensures ∙ ap (λ ks. first_by_place (declared_twice w.name.name (filter (λ n. not (is_among ks n)) seen) w.variables)) c.abstract_variables-kept.ensures) i)
     (c.in_ok-label.ensures i)) (c.in_ok-event.ensures i))
-    ((c.in_ok-in_events.ensures ∙ ap (λ es. first_by_place (joined (map (event_declarations w.name.name es (seen ++ own_names w)) w.events))) c.abstract_events-abstract_events.ensures) i))
+    ((c.in_ok-in_events.ensures ∙ ap (λ es. first_by_place (joined (map (event_declarations w.name.name es (seen ++ own_names w)) w.events))) c.requires) i))
     ∙ four (declared_twice w.name.name (filter (λ n. not (is_among (abstract_variables m) n)) seen) w.variables) (labelled_twice w.name.name [] (labels_of w.invariants))
     (declared_twice w.name.name [] (map (λ e. e.name) w.events)) (joined (map (event_declarations w.name.name (abstract_events m) (seen ++ own_names w)) w.events))
