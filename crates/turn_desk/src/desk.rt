@@ -1,5 +1,5 @@
 //! The desk and its chairs.
-ghost use Rattle.std.specs.Prelude.{◌≡◌, ◌+◌, ◌<◌, ◌^◌, [], ◌∷◌, true, false, Some, None, IfOk, IfErr};
+ghost use Rattle.std.specs.Prelude.{◌≡◌, ◌+◌, ◌<◌, ◌%◌, ◌^◌, [], ◌∷◌, true, false, Some, None, IfOk, IfErr};
 ghost use Rattle.turn_desk.specs.Log.{Begins, Grows, HasSeen, JoinedStay, AllJoined, NoneFrom};
 
 use crate::kept::{Act, Kept};
@@ -13,7 +13,7 @@ use std::snapshot::Snapshot;
 use std::sync::Wait;
 use std::sync::atomic::{AtomicU64, Ordering};
 
-/// How often a waiting thread looks at the turn before it sleeps.
+/// How often a waiting thread finds the turn taken, at most, before it sleeps.
 const LOOKS: u32 = 100;
 
 type Place<V> = Seat<Option<V>, View<<V as Kept>::Entry, <V as Kept>::Base>>;
@@ -24,8 +24,8 @@ type Place<V> = Seat<Option<V>, View<<V as Kept>::Entry, <V as Kept>::Base>>;
 /// value has their entries in it.
 pub struct Desk<V: Kept> {
     table: Table<Option<V>, View<V::Entry, V::Base>, Snapshot<V>, Turns, Global>,
-    // How many threads sleep, or are about to, until a turn is given back.
-    sleepers: AtomicU64,
+    // 1 where a thread may sleep until a turn is given back, and else 0. Threads sleep on this word, not on the turn.
+    asleep: AtomicU64,
 }
 
 impl<V: Kept> Model for Desk<V> {
@@ -62,6 +62,13 @@ impl<V: Kept> Model for Chair<V> {
     ghost invariant = { λ c. (c.seat.me.0.number ≡ c.number) × (c.seat.me.0.made ≡ c.made) × (c.seat.me.1 ≡ []) × (c.seat.me.0.seated ≡ true) × (c.seat.me.0.acting ≡ false) };
 }
 
+// Whether the turn can be taken, by the turn word. Its last even value counts as taken.
+fn is_free(word: u64) -> bool
+    ensures { result ≡ true → (word % 2 ≡ 0) × (word + 2 < 2 ^ 64) }
+{
+    word % 2 == 0 && word < u64::MAX - 1
+}
+
 impl<V: Kept> Desk<V> {
     ghost use Rattle.turn_desk.specs.Chairs.{IsOf, IsAct, first_chair};
     ghost use Rattle.turn_desk.specs.Plays.{at_turn, after_turn};
@@ -89,8 +96,8 @@ impl<V: Kept> Desk<V> {
                     number: 0,
                     made: 1,
                 };
-                let sleepers = AtomicU64::new(0);
-                Ok((Desk { table, sleepers }, chair))
+                let asleep = AtomicU64::new(0);
+                Ok((Desk { table, asleep }, chair))
             }
             Err(Refused { mut slots }) => {
                 let value = slots.pop().unwrap().unwrap();
@@ -109,37 +116,42 @@ impl<V: Kept> Desk<V> {
         ensures base { seat.old.me.0.base ≡ Some (V.base result) }
     {
         let shared = &self.table.shared;
+        let mut looks = 0;
+        let mut has_slept = false;
         for _ in rt.forever() {
             let found = shared.peek(0);
-            if found % 2 == 0 && found < u64::MAX - 1 {
+            if is_free(found) {
+                if has_slept {
+                    // Others may sleep still, and the wake-up came to this thread alone.
+                    self.asleep.store(1, Ordering::SeqCst);
+                }
                 if shared.compare_exchange::<Take>(seat, 0, found, found + 1) == found {
                     return shared.exchange(seat, 0, None).unwrap();
                 }
+            } else if looks < LOOKS && self.asleep.load(Ordering::SeqCst) == 0 {
+                looks += 1;
+                spin_loop();
             } else {
-                self.wait_past(rt, found);
+                self.sleep(rt);
+                has_slept = true;
+                looks = 0;
             }
         }
         unreachable!()
     }
 
-    // Waits until the turn word may be another than was found: a short turn awake, a longer one asleep.
-    fn wait_past<R: Wait>(&self, rt: &R, found: u64) {
-        let shared = &self.table.shared;
-        for _ in 0..LOOKS {
-            if shared.peek(0) != found {
-                return;
-            }
-            spin_loop();
+    // Says that a thread sleeps, looks once more, and sleeps until a turn is given back.
+    fn sleep<R: Wait>(&self, rt: &R) {
+        self.asleep.store(1, Ordering::SeqCst);
+        if !is_free(self.table.shared.peek(0)) {
+            self.asleep.park(rt, 1);
         }
-        self.sleepers.fetch_add(1, Ordering::SeqCst);
-        shared.park(rt, 0, (found % (1 << 32)) as u32);
-        self.sleepers.fetch_sub(1, Ordering::SeqCst);
     }
 
-    // Wakes a thread that sleeps, if there is one. A thread counts itself before it looks at the turn for the last time.
+    // Wakes a thread, if one may sleep. The turn has been given back before.
     fn wake_sleeper(&self) {
-        if self.sleepers.load(Ordering::SeqCst) > 0 {
-            self.table.shared.wake_one(0);
+        if self.asleep.load(Ordering::SeqCst) == 1 && self.asleep.swap(0, Ordering::SeqCst) == 1 {
+            self.asleep.wake_one();
         }
     }
 
@@ -161,8 +173,9 @@ impl<V: Kept> Desk<V> {
 
     /// Waits for the turn, and does the action on the value as the chair's next act.
     ///
-    /// Waiting looks a hundred times and then sleeps. Nothing says when the turn comes, or which of several waiting chairs
-    /// has it first. A desk has 2^63 - 1 turns; after them the call waits for ever. The action must not act on the desk.
+    /// Waiting finds the turn taken a hundred times at most and then sleeps, or at once where another chair sleeps. A
+    /// wake-up begins it anew. Nothing says when the turn comes, or which of several waiting chairs has it first. A
+    /// desk has 2^63 - 1 turns; after them the call waits for ever. The action must not act on the desk.
     pub fn act<R: Wait, A: Act<V>>(&self, rt: &R, chair: &mut Chair<V>, action: A) -> A::Answer
         requires { IsOf self.now chair.old }
         ensures chair { chair.new ≡ record chair.old { acts = chair.old.acts + 1; seen = chair.new.seen } }
@@ -186,7 +199,7 @@ impl<V: Kept> Desk<V> {
         ensures joined { JoinedStay V.chair_of chair.joined (V.log result) }
         ensures unmade { NoneFrom V.chair_of chair.made (V.log result) }
     {
-        let Desk { table, sleepers: _ } = self;
+        let Desk { table, asleep: _ } = self;
         let Chair {
             seat,
             number: _,
