@@ -1,10 +1,11 @@
 -- What contracts see of a disk of two files.
-use Rattle.std.specs.Prelude.{◌≡◌, ℕ, Bool, true}
+use Rattle.std.specs.Prelude.{◌≡◌, ℕ, Bool, true, false}
 use Rattle.outside.specs.declared.side.Side.{Side}
 use Rattle.outside.specs.declared.side.Side.TheVariants.{Left, Right}
 
--- which of the files are there, and how often one failed
+-- whether a call has opened the files, which of them are there, and how often one failed
 pub record FilesOfDisk : Type 0 where
+  pub opened : Bool
   pub left : Bool
   pub right : Bool
   pub faults : ℕ
@@ -13,12 +14,18 @@ abbrev pub is_there : FilesOfDisk → Side → Bool
 is_there disk Left = disk.left
 is_there disk Right = disk.right
 
--- no file came and none went
-pub record SameFiles (old new : FilesOfDisk) : Type 0 where
-  pub left : new.left ≡ old.left
-  pub right : new.right ≡ old.right
+-- a call has opened the files, and this one isn't there
+abbrev pub IsAbsent : FilesOfDisk → Side → Type 0
+IsAbsent disk side = (disk.opened ≡ true) × (is_there disk side ≡ false)
 
--- no file went
+-- of files that were opened before none came and none went
+pub record SameFiles (old new : FilesOfDisk) : Type 0 where
+  pub opened : old.opened ≡ true → new.opened ≡ true
+  pub left : old.opened ≡ true → new.left ≡ old.left
+  pub right : old.opened ≡ true → new.right ≡ old.right
+
+-- of files that were opened before none went
 pub record KeepsFiles (old new : FilesOfDisk) : Type 0 where
-  pub left : old.left ≡ true → new.left ≡ true
-  pub right : old.right ≡ true → new.right ≡ true
+  pub opened : old.opened ≡ true → new.opened ≡ true
+  pub left : old.opened ≡ true → old.left ≡ true → new.left ≡ true
+  pub right : old.opened ≡ true → old.right ≡ true → new.right ≡ true

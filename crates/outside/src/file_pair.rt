@@ -1,13 +1,13 @@
 // Two files of the working directory as a disk.
-ghost use Rattle.std.specs.Prelude.{◌≡◌, ◌+◌, ◌<◌, ◌≤◌, ◌^◌, [], length, take, IfOk, IsOk, OnOk, Ok, is_some, true, false};
+ghost use Rattle.std.specs.Prelude.{◌≡◌, ◌+◌, ◌<◌, ◌≤◌, ◌^◌, [], length, take, IfOk, IsOk, IsErr, OnOk, Ok, is_some, true, false};
 ghost use Rattle.std.specs.Io.{ReadsAtMost};
 ghost use Rattle.outside.specs.Cause.{CountsFault, HasCause};
-ghost use Rattle.outside.specs.Files.{is_there, SameFiles, KeepsFiles};
+ghost use Rattle.outside.specs.Files.{is_there, IsAbsent, SameFiles, KeepsFiles};
 ghost use Rattle.outside.specs.Disk.{overwritten, Torn, TornCut, OnSide, Reads, Leaves, SameImages, Syncs, Elapses, ReadsAt};
 
 use crate::faults::Faults;
 use crate::{Disk, Failed, Side};
-use std::fs::{OpenFile, OpenOptions};
+use std::fs::{File, OpenOptions};
 use std::io::{self, Read, Seek, SeekFrom, Write};
 use std::marker::Model;
 use std::rt::Files;
@@ -16,37 +16,62 @@ use std::rt::Files;
 /// file is a fault.
 ///
 /// A file that isn't there has length 0 and is made by the first write; until then its `cut` and `sync` do nothing.
+/// Those that are there are opened at the first call that can fail. Where that can't be done the call fails, and the
+/// next one tries again.
+///
+/// A file is locked until the disk is dropped, and a write makes only a file that no one else has made meanwhile. So a
+/// second disk in the same directory fails, and writes nothing. What is opened is synced before it is read, with the
+/// directory, and a file that is made counts once the directory is synced. What a failed sync of an earlier program
+/// left in the system's cache stays there: std has no call that drops it.
 #[derive(Drop)]
-pub struct FilePair<'a, R: Files> {
+pub struct FilePair<'a, R: Files<File = File>> {
     rt: &'a R,
-    left: Option<R::File>,
-    right: Option<R::File>,
+    is_open: bool,
+    left: Option<File>,
+    right: Option<File>,
     faults: Faults,
 }
 
-impl<'a, R: Files> Model for FilePair<'a, R> {
+impl<'a, R: Files<File = File>> Model for FilePair<'a, R> {
     ghost use Rattle.std.specs.Prelude.{is_some};
     ghost use Rattle.outside.specs.Files.{FilesOfDisk};
 
     ghost Value = { FilesOfDisk };
 
-    ghost view = { λ d. record { left = is_some d.left; right = is_some d.right; faults = d.faults } };
+    ghost view = { λ d. record { opened = d.is_open; left = is_some d.left; right = is_some d.right; faults = d.faults } };
 }
 
-fn open<R: Files>(rt: &R, path: &str) -> io::Result<Option<R::File>> {
+// Makes the names of the files outlast a stop of the machine.
+fn sync_folder<R: Files<File = File>>(rt: &R) -> io::Result<()> {
+    File::open(rt, ".")?.sync_all()
+}
+
+// Opens a file that is there, locks it and syncs what another program may have left of it.
+fn open<R: Files<File = File>>(rt: &R, path: &str) -> io::Result<Option<File>> {
     match OpenOptions::new().read(true).write(true).open(rt, path) {
-        Ok(file) => Ok(Some(file)),
+        Ok(file) => {
+            file.try_lock()?;
+            file.sync_all()?;
+            Ok(Some(file))
+        }
         Err(error) if error.kind() == io::ErrorKind::NotFound => Ok(None),
         Err(error) => Err(error),
     }
 }
 
-fn make<R: Files>(rt: &R, path: &str) -> io::Result<R::File> {
-    OpenOptions::new()
-        .read(true)
-        .write(true)
-        .create(true)
-        .open(rt, path)
+fn open_both<R: Files<File = File>>(rt: &R) -> io::Result<(Option<File>, Option<File>)> {
+    let left = open(rt, path_of(Side::Left))?;
+    let right = open(rt, path_of(Side::Right))?;
+    sync_folder(rt)?;
+    Ok((left, right))
+}
+
+// Makes a file that isn't there, and locks it.
+fn make<R: Files<File = File>>(rt: &R, path: &str) -> io::Result<File> {
+    let file = File::create_new(rt, path)?;
+    file.try_lock()?;
+    sync_folder(rt)?;
+    Ok(file)
 }
 
 fn read_all<F: Read + Seek>(file: &mut F, at: u64, into: &mut [u8]) -> io::Result<usize>
@@ -76,22 +101,6 @@ fn path_of(side: Side) -> &'static str {
     }
 }
 
-impl<'a, R: Files> FilePair<'a, R> {
-    /// The two files, each opened for reading and writing where it is there.
-    pub fn new(rt: &'a R) -> io::Result<FilePair<'a, R>>
-        ensures { IfOk result (λ disk. disk.faults ≡ 0) }
-    {
-        let left = open(rt, "rodin.left")?;
-        let right = open(rt, "rodin.right")?;
-        Ok(FilePair {
-            rt,
-            left,
-            right,
-            faults: Faults::new(),
-        })
-    }
-}
-
 // The answer, with an error counted as a fault.
 fn counted<T>(faults: &mut Faults, answer: io::Result<T>) -> Result<T, Failed>
     ensures cause { HasCause faults.old faults.new result }
@@ -107,7 +116,40 @@ fn counted<T>(faults: &mut Faults, answer: io::Result<T>) -> Result<T, Failed>
     }
 }
 
-fn length_of<F: OpenFile>(file: &Option<F>) -> io::Result<u64>
+impl<'a, R: Files<File = File>> FilePair<'a, R> {
+    /// The two files, none of which is opened yet.
+    pub fn new(rt: &'a R) -> FilePair<'a, R>
+        ensures { (result.opened ≡ false) × (result.faults ≡ 0) }
+    {
+        FilePair {
+            rt,
+            is_open: false,
+            left: None,
+            right: None,
+            faults: Faults::new(),
+        }
+    }
+
+    // Opens the files, if no call has done so.
+    fn open(&mut self) -> Result<(), Failed>
+        ensures cause { HasCause self.old.faults self.new.faults result }
+        ensures counted { CountsFault self.old.faults self.new.faults result }
+        ensures opens { OnOk result (self.new.opened ≡ true) }
+        ensures fails { IsErr result → self.new.opened ≡ false }
+        ensures same { self.old.opened ≡ true → self.new ≡ self.old }
+    {
+        if self.is_open {
+            return Ok(());
+        }
+        let (left, right) = counted(&mut self.faults, open_both(self.rt))?;
+        self.left = left;
+        self.right = right;
+        self.is_open = true;
+        Ok(())
+    }
+}
+
+fn length_of(file: &Option<File>) -> io::Result<u64>
     ensures { is_some file.now ≡ false → result ≡ Ok 0 }
 {
     match file {
@@ -116,7 +158,7 @@ fn length_of<F: OpenFile>(file: &Option<F>) -> io::Result<u64>
     }
 }
 
-fn read_side<F: Read + Seek>(file: &mut Option<F>, at: u64, into: &mut [u8]) -> io::Result<usize>
+fn read_side(file: &mut Option<File>, at: u64, into: &mut [u8]) -> io::Result<usize>
     ensures bound { IfOk result (λ n. n ≤ length into.new) }
     ensures absent { is_some file.old ≡ false → result ≡ Ok 0 }
     ensures same { is_some file.new ≡ is_some file.old }
@@ -127,10 +169,10 @@ fn read_side<F: Read + Seek>(file: &mut Option<F>, at: u64, into: &mut [u8]) -> 
     }
 }
 
-fn write_side<R: Files>(
+fn write_side<R: Files<File = File>>(
     rt: &R,
     path: &str,
-    file: &mut Option<R::File>,
+    file: &mut Option<File>,
     at: u64,
     bytes: &[u8],
 ) -> io::Result<()>
@@ -146,7 +188,7 @@ fn write_side<R: Files>(
     }
 }
 
-fn cut_side<F: OpenFile>(file: &Option<F>, len: u64) -> io::Result<()>
+fn cut_side(file: &Option<File>, len: u64) -> io::Result<()>
     ensures { is_some file.now ≡ false → IsOk result }
 {
     match file {
@@ -155,7 +197,7 @@ fn cut_side<F: OpenFile>(file: &Option<F>, len: u64) -> io::Result<()>
     }
 }
 
-fn sync_side<F: OpenFile>(file: &Option<F>) -> io::Result<()>
+fn sync_side(file: &Option<File>) -> io::Result<()>
     ensures { is_some file.now ≡ false → IsOk result }
 {
     match file {
@@ -164,7 +206,7 @@ fn sync_side<F: OpenFile>(file: &Option<F>) -> io::Result<()>
     }
 }
 
-impl<'a, R: Files> Disk for FilePair<'a, R> {
+impl<'a, R: Files<File = File>> Disk for FilePair<'a, R> {
     // It reports nothing, so what the trait says of a content says nothing here.
     ghost told = { ⊥ };
 
@@ -194,9 +236,11 @@ impl<'a, R: Files> Disk for FilePair<'a, R> {
         ensures counted { CountsFault self.old.faults self.new.faults result }
 
         // A file that isn't there has length 0.
-        ensures absent { is_there self.old side ≡ false → result ≡ Ok 0 }
+        ensures absent { IsAbsent self.new side → result ≡ Ok 0 }
         ensures files { SameFiles self.old self.new }
+        ensures opens { OnOk result (self.new.opened ≡ true) }
     {
+        self.open()?;
         let answer = match side {
             Side::Left => length_of(&self.left),
             Side::Right => length_of(&self.right),
@@ -213,9 +257,11 @@ impl<'a, R: Files> Disk for FilePair<'a, R> {
         ensures counted { CountsFault self.old.faults self.new.faults result }
 
         // A file that isn't there has length 0.
-        ensures absent { is_there self.old side ≡ false → result ≡ Ok 0 }
+        ensures absent { IsAbsent self.new side → result ≡ Ok 0 }
         ensures files { SameFiles self.old self.new }
+        ensures opens { OnOk result (self.new.opened ≡ true) }
     {
+        self.open()?;
         match side {
             Side::Left => counted(&mut self.faults, read_side(&mut self.left, at, into)),
             Side::Right => counted(&mut self.faults, read_side(&mut self.right, at, into)),
@@ -233,7 +279,9 @@ impl<'a, R: Files> Disk for FilePair<'a, R> {
         // A write makes a file that isn't there.
         ensures made { OnOk result (is_there self.new side ≡ true) }
         ensures files { KeepsFiles self.old self.new }
+        ensures opens { OnOk result (self.new.opened ≡ true) }
     {
+        self.open()?;
         let answer = match side {
             Side::Left => write_side(self.rt, path_of(side), &mut self.left, at, bytes),
             Side::Right => write_side(self.rt, path_of(side), &mut self.right, at, bytes),
@@ -249,9 +297,11 @@ impl<'a, R: Files> Disk for FilePair<'a, R> {
         ensures counted { CountsFault self.old.faults self.new.faults result }
 
         // Without a file this does nothing.
-        ensures absent { is_there self.old side ≡ false → IsOk result }
+        ensures absent { IsAbsent self.new side → IsOk result }
         ensures files { SameFiles self.old self.new }
+        ensures opens { OnOk result (self.new.opened ≡ true) }
     {
+        self.open()?;
         let answer = match side {
             Side::Left => cut_side(&self.left, len),
             Side::Right => cut_side(&self.right, len),
@@ -266,9 +316,11 @@ impl<'a, R: Files> Disk for FilePair<'a, R> {
         ensures counted { CountsFault self.old.faults self.new.faults result }
 
         // Without a file this does nothing.
-        ensures absent { is_there self.old side ≡ false → IsOk result }
+        ensures absent { IsAbsent self.new side → IsOk result }
         ensures files { SameFiles self.old self.new }
+        ensures opens { OnOk result (self.new.opened ≡ true) }
     {
+        self.open()?;
         let answer = match side {
             Side::Left => sync_side(&self.left),
             Side::Right => sync_side(&self.right),

@@ -42,7 +42,7 @@ impl SureSide {
 /// A disk in memory whose count of faults is 0 for ever, so that it never fails. It tells no content.
 ///
 /// On each side it keeps the bytes below the length of the vector that it was made of; what was written past that length
-/// reads as zeros.
+/// reads as zeros. No clause says so: which bytes it gives is only tested (`outside_rows`).
 #[derive(Debug, Drop)]
 pub struct SureDisk {
     left: SureSide,

@@ -1,41 +1,46 @@
 //! Disks.
 
 use crate::sources::text;
-use outside::{Disk, FilePair, Gate, MemoryDisk, NullDisk, OpenGate, Side, SureDisk};
+use outside::{Disk, Gate, MemoryDisk, NullDisk, OpenGate, Side, SureDisk};
 use std::alloc::{AllocError, Global};
 use std::fmt::Debug;
-use std::rt::Files;
-use std::{fs, io};
+use std::io;
 
-fn tell<T: Debug + Drop>(rt: &impl Print, name: &str, what: &str, answer: T) -> io::Result<()> {
+pub fn tell<T: Debug + Drop>(rt: &impl Print, name: &str, what: &str, answer: T) -> io::Result<()> {
     println!(rt; "{name}: {what}\t{answer:?}")
 }
 
-fn length<D: Disk>(rt: &impl Print, name: &str, disk: &mut D, side: Side) -> io::Result<()> {
+pub fn length<D: Disk>(rt: &impl Print, name: &str, disk: &mut D, side: Side) -> io::Result<()> {
     let answer = disk.len(side);
     tell(rt, name, "length", answer)
 }
 
-fn sync<D: Disk>(rt: &impl Print, name: &str, disk: &mut D, side: Side) -> io::Result<()> {
+pub fn sync<D: Disk>(rt: &impl Print, name: &str, disk: &mut D, side: Side) -> io::Result<()> {
     let answer = disk.sync(side);
     tell(rt, name, "sync", answer)
 }
 
 // What stands on a side from a byte on, in at most 8 bytes.
-fn read<D: Disk>(rt: &impl Print, name: &str, disk: &mut D, side: Side, at: u64) -> io::Result<()> {
+pub fn read<D: Disk>(
+    rt: &impl Print,
+    name: &str,
+    disk: &mut D,
+    side: Side,
+    at: u64,
+) -> io::Result<()> {
     let mut into = [7; 8];
     let answer = disk.read_at(side, at, &mut into);
     println!(rt; "{name}: read\t{answer:?} {into:?}")
 }
 
 // A side is emptied.
-fn empty<D: Disk>(rt: &impl Print, name: &str, disk: &mut D, side: Side) -> io::Result<()> {
+pub fn empty<D: Disk>(rt: &impl Print, name: &str, disk: &mut D, side: Side) -> io::Result<()> {
     let answer = disk.cut(side, 0);
     tell(rt, name, "cut", answer)
 }
 
 // A write at the front of a side.
-fn write<D: Disk>(
+pub fn write<D: Disk>(
     rt: &impl Print,
     name: &str,
     disk: &mut D,
@@ -46,7 +51,7 @@ fn write<D: Disk>(
     tell(rt, name, "write", answer)
 }
 
-fn faults<D: Disk>(rt: &impl Print, name: &str, disk: &D) -> io::Result<()> {
+pub fn faults<D: Disk>(rt: &impl Print, name: &str, disk: &D) -> io::Result<()> {
     println!(rt; "{name}: faults\t{}", disk.faults())
 }
 
@@ -146,52 +151,4 @@ fn below_first_lengths(rt: &impl Print, disk: &mut SureDisk) -> io::Result<()> {
 pub fn sure(rt: &impl Print, alloc: Global) -> io::Result<()> {
     let mut disk = SureDisk::new(b"abc".to_vec(alloc)?, Vec::new(alloc));
     below_first_lengths(rt, &mut disk)
-}
-
-fn no_file<R: Print + Files>(rt: &R, disk: &mut FilePair<'_, R>, side: Side) -> io::Result<()> {
-    length(rt, "no file", disk, side)?;
-    read(rt, "no file", disk, side, 0)?;
-    empty(rt, "no file", disk, side)?;
-    sync(rt, "no file", disk, side)
-}
-
-fn write_file<R: Print + Files>(
-    rt: &R,
-    disk: &mut FilePair<'_, R>,
-    at: u32,
-    piece: &str,
-) -> io::Result<()> {
-    let answer = disk.write_at(Side::Left, u64::from(at), piece.as_bytes());
-    println!(rt; "files: write '{piece}' at {at}\t{answer:?}")
-}
-
-fn cut_file<R: Print + Files>(rt: &R, disk: &mut FilePair<'_, R>) -> io::Result<()> {
-    let answer = disk.cut(Side::Left, 5);
-    tell(rt, "files", "cut at 5", answer)
-}
-
-fn write_files<R: Print + Files>(rt: &R, disk: &mut FilePair<'_, R>) -> io::Result<()> {
-    write_file(rt, disk, 0, "abcdef")?;
-    write_file(rt, disk, 6, "g")?;
-    write_file(rt, disk, 1, "xy")?;
-    cut_file(rt, disk)?;
-    write(rt, "files, right", disk, Side::Right, "r")?;
-    sync(rt, "files", disk, Side::Left)?;
-    length(rt, "files", disk, Side::Left)?;
-    faults(rt, "files", disk)
-}
-
-/// Two files, which the first write makes.
-pub fn files<R: Print + Files + Alloc>(rt: &R) -> io::Result<()> {
-    let mut disk = FilePair::new(rt)?;
-    no_file(rt, &mut disk, Side::Left)?;
-    no_file(rt, &mut disk, Side::Right)?;
-    println!(rt;
-        "a file before the first write\t{}",
-        fs::read(rt, "rodin.left").is_ok()
-    )?;
-    write_files(rt, &mut disk)?;
-    let mut again = FilePair::new(rt)?;
-    read(rt, "files again", &mut again, Side::Left, 0)?;
-    read(rt, "files again", &mut again, Side::Right, 0)
 }

@@ -3,12 +3,20 @@
 #![tactic(auto)]
 
 mod disks;
+mod files;
 mod journals;
 mod sinks;
 mod sources;
 mod stops;
 
+use std::rt::Files;
 use std::{fs, io};
+
+fn no_files(rt: &impl Files) {
+    let _ = fs::remove_dir(rt, "rodin.left");
+    let _ = fs::remove_file(rt, "rodin.left");
+    let _ = fs::remove_file(rt, "rodin.right");
+}
 
 fn main(rt: HostRuntime) -> io::Result<()> {
     let alloc = rt.alloc();
@@ -22,11 +30,12 @@ fn main(rt: HostRuntime) -> io::Result<()> {
     disks::memory(&rt, alloc)?;
     disks::images(&rt, alloc)?;
     disks::sure(&rt, alloc)?;
-    let _ = fs::remove_file(&rt, "rodin.left");
-    let _ = fs::remove_file(&rt, "rodin.right");
-    disks::files(&rt)?;
-    let _ = fs::remove_file(&rt, "rodin.left");
-    let _ = fs::remove_file(&rt, "rodin.right");
+    no_files(&rt);
+    files::written(&rt)?;
+    no_files(&rt);
+    files::made_once(&rt)?;
+    no_files(&rt);
+    files::refused(&rt)?;
     journals::refused(&rt, alloc)?;
     journals::standing(&rt, alloc)?;
     journals::written(&rt, alloc)?;
