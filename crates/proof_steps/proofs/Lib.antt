@@ -1,4 +1,10 @@
 pub mod Changes
+pub mod Counts
+pub mod Descent
+pub mod DistinctEnds
 pub mod Induction
+pub mod Nodes
 pub mod Rules
+pub mod Tells
+pub mod Walks
 pub mod Weakening

@@ -6,7 +6,7 @@ use Rattle.rule_table.specs.declared.rule.Rule.{Rule}
 use Rattle.sequent_core.specs.declared.tree.Tree.{Tree}
 use Rattle.sequent_core.specs.declared.tree.Tree.TheVariants.{Leaf, Node}
 use Rattle.proof_steps.specs.Places.{rule_at}
-use Rattle.proof_steps.proofs.Changes.{node_of-Leaf, node_of-Node}
+use Rattle.proof_steps.proofs.Nodes.{node_of-Leaf, node_of-Node}
 
 pub rule_at-Leaf : (path : List ℕ) → rule_at path Leaf ≡ None
 rule_at-Leaf [] = ap (option_map {T = Rule × List Tree} (λ n. n.0)) node_of-Leaf

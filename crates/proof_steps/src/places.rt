@@ -1,11 +1,12 @@
-// A part of a tree gives way to another one.
+// Places in trees: a child, and a part that gives way to another one.
 ghost use Rattle.std.specs.Prelude.{◌≡◌, ◌↔◌, IsTrue, OnOk, OnErr, IsErr, IsSome, None};
+ghost use Rattle.std.specs.Option.{option_map};
 ghost use Rattle.sequent_core.specs.declared.sequent.Sequent.{Sequent};
 ghost use Rattle.sequent_core.specs.Trees.{Applies};
-ghost use Rattle.proof_steps.specs.Places.{change_at, put, rule_at};
+ghost use Rattle.proof_steps.specs.Places.{change_at, child_after, child_of, put, rule_at};
 
 use formula_core::List;
-use sequent_core::{Path, Tree};
+use sequent_core::{Antecedent, Path, Tree};
 use std::mem;
 
 /// No rule stands at the path.
@@ -22,7 +23,7 @@ pub fn prune(tree: &mut Tree, path: &Path) -> Result<(), NoNode>
     if !has_rule(&*tree, path.items()) {
         return Err(NoNode);
     }
-    cut(tree, path.items());
+    put(tree, path.items(), Tree::Leaf);
     Ok(())
 }
 
@@ -42,32 +43,56 @@ fn has_rule(tree: &Tree, path: &[u32]) -> bool
     }
 }
 
-/// Puts a leaf at the path; where there is no such place, the tree stays.
-#[cycle(cut)]
-fn cut(tree: &mut Tree, path: &[u32])
-    ensures { tree.new ≡ put path.now Tree.Leaf tree.old }
+/// Puts a part at the path; where there is no such place, the tree stays.
+#[cycle(put)]
+pub(crate) fn put(tree: &mut Tree, path: &[u32], part: Tree)
+    ensures { tree.new ≡ put path.now part tree.old }
 {
     let [at, rest @ ..] = path else {
-        *tree = Tree::Leaf;
+        *tree = part;
         return;
     };
     match mem::replace(tree, Tree::Leaf) {
         Tree::Leaf => {}
         Tree::Node(rule, children) => {
-            *tree = Tree::Node(rule, cut_below(children, *at as usize, rest));
+            *tree = Tree::Node(rule, put_below(children, *at as usize, rest, part));
         }
     }
 }
 
-/// The trees with a leaf at the path below the one at a place.
-#[cycle(cut)]
-fn cut_below(trees: List<Tree>, at: usize, path: &[u32]) -> List<Tree>
-    ensures { result ≡ change_at at (put path.now Tree.Leaf) trees }
+/// The trees with a part at the path below the one at a place.
+#[cycle(put)]
+fn put_below(trees: List<Tree>, at: usize, path: &[u32], part: Tree) -> List<Tree>
+    ensures { result ≡ change_at at (put path.now part) trees }
 {
     let mut trees = trees.into_vec();
     if at >= trees.len() {
         return List::of(trees);
     }
-    cut(&mut trees[at], path);
+    put(&mut trees[at], path, part);
     List::of(trees)
+}
+
+/// A child of the root, after its antecedent.
+pub(crate) fn child_at(tree: &Tree, at: u32) -> Option<(&Antecedent, &Tree)>
+    ensures { option_map (λ x. (x.0.now, x.1.now)) result ≡ child_of at tree.now }
+{
+    match tree {
+        Tree::Leaf => None,
+        Tree::Node(rule, children) => {
+            child_after(rule.antecedents.items(), children.items(), at as usize)
+        }
+    }
+}
+
+fn child_after<'a>(
+    antecedents: &'a [Antecedent],
+    children: &'a [Tree],
+    at: usize,
+) -> Option<(&'a Antecedent, &'a Tree)>
+    ensures { option_map (λ x. (x.0.now, x.1.now)) result ≡ child_after antecedents.now children.now at }
+{
+    let antecedent = antecedents.get(at)?;
+    let child = children.get(at)?;
+    Some((antecedent, child))
 }

@@ -1,0 +1,71 @@
+// The sequent at a leaf.
+ghost use Rattle.std.specs.Prelude.{◌≡◌, None, IfOk};
+ghost use Rattle.sequent_core.specs.Trees.{Applies};
+ghost use Rattle.proof_tree.specs.Ways.{antecedents_of, at_end, AreFresh};
+ghost use Rattle.proof_steps.specs.Places.{if_leaf, leaf_at};
+ghost use Rattle.proof_steps.specs.Private.{AreDistinct};
+
+use crate::ends::sequent_at;
+use crate::places::child_at;
+use formula_core::OutOfMemory;
+use proof_tree::{Way, applies_to};
+use sequent_core::{Path, Sequent, Tree};
+use std::alloc::Global;
+
+/// The sequent at the leaf of the path; none where the tree doesn't apply, or where no leaf stands there.
+pub fn leaf(
+    tree: &Tree,
+    alloc: Global,
+    sequent: &Sequent,
+    path: &Path,
+) -> Result<Option<Sequent>, OutOfMemory>
+    ensures there { Applies tree.now sequent.now → IfOk result (λ leaf. leaf ≡ leaf_at path.now tree.now sequent.now) }
+    ensures none { (Applies tree.now sequent.now → ⊥) → IfOk result (λ leaf. leaf ≡ None) }
+{
+    if !applies_to(tree, alloc, sequent)? {
+        return Ok(None);
+    }
+    leaf_below(tree, alloc, path.items(), &Way::Root, sequent)
+}
+
+/// The sequent at the leaf of the path below the end of the way.
+fn leaf_below(
+    tree: &Tree,
+    alloc: Global,
+    path: &[u32],
+    way: &Way<'_>,
+    sequent: &Sequent,
+) -> Result<Option<Sequent>, OutOfMemory>
+    requires fresh { AreFresh (antecedents_of way.now) sequent.now }
+    requires distinct { AreDistinct (antecedents_of way.now) }
+    requires applies { Applies tree.now (at_end (antecedents_of way.now) sequent.now) }
+    ensures { IfOk result (λ leaf. leaf ≡ leaf_at path.now tree.now (at_end (antecedents_of way.now) sequent.now)) }
+{
+    let [at, rest @ ..] = path else {
+        return leaf_here(tree, alloc, &*way, sequent);
+    };
+    match child_at(tree, *at) {
+        Some((antecedent, child)) => {
+            let below = Way::Below(antecedent, &*way);
+            leaf_below(child, alloc, rest, &below, sequent)
+        }
+        None => Ok(None),
+    }
+}
+
+/// The sequent at the end of the way, if the tree there is a leaf.
+fn leaf_here(
+    tree: &Tree,
+    alloc: Global,
+    way: &Way<'_>,
+    sequent: &Sequent,
+) -> Result<Option<Sequent>, OutOfMemory>
+    requires fresh { AreFresh (antecedents_of way.now) sequent.now }
+    requires distinct { AreDistinct (antecedents_of way.now) }
+    ensures { IfOk result (λ leaf. leaf ≡ if_leaf tree.now (at_end (antecedents_of way.now) sequent.now)) }
+{
+    if !tree.is_leaf() {
+        return Ok(None);
+    }
+    Ok(Some(sequent_at(&*way, alloc, sequent)?))
+}
