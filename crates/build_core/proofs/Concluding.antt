@@ -18,7 +18,7 @@ use Rattle.static_check.specs.declared.settled.Order.{Order}
 use Rattle.static_check.specs.Settling as ordering
 use Rattle.static_check.specs.Settling.{own_name, references, has, IfPresent, IsSettled, ReferencesFirst, IsComponentOrder}
 use Rattle.build_core.specs.Projects.{Project, Reading, has_text, wanting, wanted_references, references_in, IsPart, ConcludesFrom, ChecksBy, IsSettledBy, IsCyclic, Checks, settled, cyclic}
-use Rattle.build_core.specs.Private.{Outcomes, found, Sets, AreRead, outcomes_at, AreSet, ConcludesIn, IsToldCyclic, AreConcluded, HaveComponents}
+use Rattle.build_core.specs.Private.{Outcomes, found, Sets, AreRead, outcomes_at, AreSet, ConcludesIn, IsToldCyclic, AreConcluded, HaveComponents, AreVerdicts}
 use Rattle.build_core.proofs.Found.{set_there, set_keeps, set_cases, its_value, is_found, not_found, among_last, among_first, among_here, or_second, named_one, its_text}
 use Rattle.build_core.proofs.Rounds.{unequal, same_component, not_both, is_there, read_one}
 
@@ -81,10 +81,6 @@ abbrev pub FromTold : List RawComponent → List (List ℕ) → Outcomes → Out
 FromTold components names before behind = (n : List ℕ) (o : Outcome) → found behind n ≡ Some o →
     (found before n ≡ Some o)
     ⊎ ((c : RawComponent) × (is_among names n ≡ true) × Contains components c × (own_name c ≡ n) × (o ≡ Err (fault_at (own_name c) kind.Cyclic (heading c).place [])))
-
-pub record AreVerdicts (project : Project) (outcomes : Outcomes) : Type 0 where
-  pub sound : (n : List ℕ) (o : Outcome) → found outcomes n ≡ Some o → Checks project n o
-  pub whole : (n text : List ℕ) → Contains project (n, text) → IsSome (found outcomes n)
 
 module _ (project : Project) (distinct : IsDistinct bytes_eq (keys_of project)) (components : List RawComponent) (start : Outcomes) (all_read : AreRead project components start) where
   -- the component of a name is one
@@ -242,6 +238,15 @@ module _ (project : Project) (distinct : IsDistinct bytes_eq (keys_of project)) 
   nothing_sound n o e =
       let f = all_read.faulted n o e in
       (f.0, Err f.1, f.2, f.3, f.4)
+
+  -- what is concluded of these names is by rounds
+  pub sound_now : (names : List (List ℕ)) (now : Outcomes) → ReferencesFirst components [] names → AreSet ConcludesIn components names start now → (m : ℕ) × Sound project m now
+  sound_now names now first set =
+      let all = all_checked [] names start now first set (suc zero) nothing_sound (λ n e. absurd (never e)) (λ n there. there) in
+      (all.0, all.1)
+    where
+      never : false ≡ true → ⊥
+      never e = cc
 
   -- The outcomes that are concluded are the verdicts.
   pub concluded_verdicts : (behind : Outcomes) → AreConcluded components start behind → AreVerdicts project behind

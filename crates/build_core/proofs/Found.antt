@@ -17,10 +17,10 @@ use Rattle.build_core.specs.Private.{found, Sets}
 
 -- NAMES
 
-tied : (x y : List ℕ) → is_at (slice_cmp nat_cmp x) y ≡ bytes_eq x y
+pub tied : (x y : List ℕ) → is_at (slice_cmp nat_cmp x) y ≡ bytes_eq x y
 tied x y = sym (texts_ties x y)
 
-same : (x y : List ℕ) → bytes_eq x y ≡ true → x ≡ y
+pub same : (x y : List ℕ) → bytes_eq x y ≡ true → x ≡ y
 same x y e = (bytes_eq-Decides x y).0 e
 
 pub itself : (x : List ℕ) → bytes_eq x x ≡ true
@@ -117,7 +117,7 @@ among_here names x = or_first (bytes_eq x x) _ (itself x)
 
 -- COMPONENTS AND TEXTS
 
-later : {A : Type 0} (xs : List A) (y x : A) → Contains xs x → Contains (y ∷ xs) x
+pub later : {A : Type 0} (xs : List A) (y x : A) → Contains xs x → Contains (y ∷ xs) x
 later xs y x h = (suc h.0, omega (arith, h.1), h.2)
 
 -- a component has its name

@@ -25,7 +25,7 @@ one_at_most g o = by (nat_lt table_limit g.nodes)
     by true = omega arith
     by false = omega arith
 
-table_cons : (o : Obligation) (os : List Obligation) → table_nodes (o ∷ os) ≡ nodes_of o + table_nodes os
+pub table_cons : (o : Obligation) (os : List Obligation) → table_nodes (o ∷ os) ≡ nodes_of o + table_nodes os
 table_cons o os = sum_by-cons (λ x. x) (nodes_of o) (map nodes_of os)
 
 -- never more than there are

@@ -52,7 +52,7 @@ both_empty (x ∷ xs) ys e = absurd (never e)
     never : x ∷ (xs ++ ys) ≡ [] → ⊥
     never h = cc
 
-not_empty : {A X : Type 0} (x : X) (xs : List X) → x ∷ xs ≡ [] → A
+pub not_empty : {A X : Type 0} (x : X) (xs : List X) → x ∷ xs ≡ [] → A
 not_empty x xs e = absurd (never e)
   where
     never : x ∷ xs ≡ [] → ⊥

@@ -30,7 +30,7 @@ concludes_one c parts one two a b =
     one_of (first_by_place (reference_faults (heading c).name (wanted_references c) parts)) (ChecksBeside c (filter_map checked_in parts) one) (ChecksBeside c (filter_map checked_in parts) two) one two
     (beside_one c (filter_map checked_in parts) one two) a b
 
-same_some : {A : Type 0} (x y : A) → Some x ≡ Some y → x ≡ y
+pub same_some : {A : Type 0} (x y : A) → Some x ≡ Some y → x ≡ y
 same_some x y e = cc
 
 pub unequal : {A : Type 0} (b : Bool) → b ≡ true → b ≡ false → A
@@ -57,7 +57,7 @@ not_both c fault e = absurd (never e)
     never h = cc
 
 module _ (project : Project) (distinct : IsDistinct bytes_eq (keys_of project)) where
-  looked_up : (name text : List ℕ) → Contains project (name, text) → lookup (bytes_eq name) project ≡ Some text
+  pub looked_up : (name text : List ℕ) → Contains project (name, text) → lookup (bytes_eq name) project ≡ Some text
   looked_up name text h = lookup-from_Contains (lists_equiv nat_eq_equiv) name text project distinct h
 
   same_text : (name one two : List ℕ) → Contains project (name, one) → Contains project (name, two) → one ≡ two
@@ -117,7 +117,7 @@ module _ (project : Project) (distinct : IsDistinct bytes_eq (keys_of project)) 
   settled_from k (Err fault) outcome h a = tt
   settled_from k (Ok c) outcome h a = settled_parts k (wanted_references c) a.0 h a.1
 
-  by_settled : (k : ℕ) (name : List ℕ) (outcome : Outcome) → ChecksBy project k name outcome → IsSettledBy project k name
+  pub by_settled : (k : ℕ) (name : List ℕ) (outcome : Outcome) → ChecksBy project k name outcome → IsSettledBy project k name
   by_settled zero name outcome a = absurd a
   by_settled (suc k) name outcome a = (a.0, a.1, a.2, a.3, settled_from k a.1 outcome (by_settled k) a.4)
 

@@ -21,11 +21,10 @@ use Rattle.po_rules.specs.Tables.{obligations_of}
 use Rattle.build_core.specs.Projects.{Project, has_text, wanted_references, wanting, reference_row, reference_faults, checked_in, IsPart, ConcludesFrom, ChecksBy, Checks, settled, cyclic}
 use Rattle.build_core.specs.Tables.{refined_in, IsAbstraction, Gives, AreObligations, IsTable, faults_in, warnings_in, AreGiven}
 use Rattle.build_core.specs.Laws.{HasOneTable, HasOneListOfFaults, HasOneListOfWarnings}
-use Rattle.build_core.specs.Private.{Outcomes, found, AreRead, machine_in, abstraction_in, OwnFrom, IsOwn, AreOwn, given_at, given_in}
+use Rattle.build_core.specs.Private.{Outcomes, found, AreComponentsIn, machine_in, abstraction_in, OwnFrom, IsOwn, AreOwn, given_at, given_in, AreVerdicts}
 use Rattle.build_core.proofs.Found.{its_value, its_text}
 use Rattle.build_core.proofs.Rounds.{read_one, verdict_one, is_there, same_component}
 use Rattle.build_core.proofs.Referred.{none_first, both_empty, machine_there}
-use Rattle.build_core.proofs.Concluding.{AreVerdicts}
 
 abbrev checked_ok : Checked → Outcome
 checked_ok c = Ok c
@@ -90,7 +89,7 @@ module _ (project : Project) (distinct : IsDistinct bytes_eq (keys_of project)) 
           let none = no_faults d h.0 (first_by_place (reference_faults (heading d).name (wanted_references d) h.0)) refl h.2 in
           subst (λ (t : Ref). (m : CheckedMachine) × Checks project t.name (Ok (Machine m))) (same_ref s r e) (at_first n.name s (wanting true sees) h.0 h.1 none)
 
-  has_verdict : (name : List ℕ) (outcome : Outcome) → Checks project name outcome → has_text project name ≡ true
+  pub has_verdict : (name : List ℕ) (outcome : Outcome) → Checks project name outcome → has_text project name ≡ true
   has_verdict name outcome (settled zero h) = absurd h
   has_verdict name outcome (settled (suc k) h) = is_there project distinct name h.0 h.2
   has_verdict name outcome (cyclic fault h e) = is_there project distinct name h.0 h.2
@@ -102,7 +101,7 @@ module _ (project : Project) (distinct : IsDistinct bytes_eq (keys_of project)) 
   abstraction_one (Some r) a b h g =
       h.2 ∙ ap (λ m. Some m) (same_machine h.0 g.0 (verdict_one project distinct r.name (Ok (Machine h.0)) (Ok (Machine g.0)) h.1 g.1)) ∙ sym g.2
 
-  gives_one : (name : List ℕ) (s t : List Obligation) → Gives project name s → Gives project name t → s ≡ t
+  pub gives_one : (name : List ℕ) (s t : List Obligation) → Gives project name s → Gives project name t → s ≡ t
   gives_one name s t (inl a) (inl b) = a.2 ∙ sym b.2
   gives_one name s t (inl a) (inr b) = ok_err b.2 a.0 (verdict_one project distinct name (Ok b.2) (Err a.0) b.6 a.1)
   gives_one name s t (inr a) (inl b) = ok_err a.2 b.0 (verdict_one project distinct name (Ok a.2) (Err b.0) a.6 b.1)
@@ -128,8 +127,8 @@ module _ (project : Project) (distinct : IsDistinct bytes_eq (keys_of project)) 
 
   -- WHAT THE OUTCOMES GIVE
 
-  module _ (components : List RawComponent) (start outcomes : Outcomes) (all_read : AreRead project components start) (verdicts : AreVerdicts project outcomes) where
-    abstraction_is : (name text : List ℕ) (c : RawComponent) (checked : Checked) → Contains project (name, text) → IsRead name text (Ok c) → Checks project name (Ok checked) →
+  module _ (outcomes : Outcomes) (verdicts : AreVerdicts project outcomes) where
+    pub abstraction_is : (name text : List ℕ) (c : RawComponent) (checked : Checked) → Contains project (name, text) → IsRead name text (Ok c) → Checks project name (Ok checked) →
         (refines : Option Ref) → refined_in c ≡ refines → IsAbstraction project refines (abstraction_in outcomes refines)
     abstraction_is name text c checked there is h None e = refl
     abstraction_is name text c checked there is h (Some r) e =
@@ -139,7 +138,8 @@ module _ (project : Project) (distinct : IsDistinct bytes_eq (keys_of project)) 
         let same = verdict_one project distinct r.name o.0 (Ok (Machine m.0)) (verdicts.sound r.name o.0 o.1) m.1 in
         (m.0, m.1, ap machine_in (o.1 ∙ ap (λ x. Some x) same))
 
-    own_gives : (name text : List ℕ) (own : List Obligation) → Contains project (name, text) → IsOwn components outcomes name own → Gives project name own
+  module _ (components : List RawComponent) (outcomes : Outcomes) (all_read : AreComponentsIn project components) (verdicts : AreVerdicts project outcomes) where
+    pub own_gives : (name text : List ℕ) (own : List Obligation) → Contains project (name, text) → IsOwn components outcomes name own → Gives project name own
     own_gives name text own there is =
         let o = its_value (found outcomes name) (verdicts.whole name text there) in
         by o.0 (verdicts.sound name o.0 o.1) (subst (λ x. OwnFrom components outcomes name x own) o.1 is)
@@ -148,10 +148,10 @@ module _ (project : Project) (distinct : IsDistinct bytes_eq (keys_of project)) 
         by (Err fault) h e = inl (fault, h, e)
         by (Ok checked) h e =
             let c = e.0 in
-            let a = all_read.read c e.1 in
+            let a = all_read c e.1 in
             let stands = subst (λ n. Contains project (n, a.0)) e.2 a.1 in
             let reads = subst (λ n. IsRead n a.0 (Ok c)) e.2 a.2 in
-            inr (a.0, c, checked, abstraction_in outcomes (refined_in c), stands, reads, h, abstraction_is name a.0 c checked stands reads h (refined_in c) refl, e.3)
+            inr (a.0, c, checked, abstraction_in outcomes (refined_in c), stands, reads, h, abstraction_is outcomes verdicts name a.0 c checked stands reads h (refined_in c) refl, e.3)
 
     own_obligations : (before entries : Project) (table : List Obligation) → before ++ entries ≡ project → AreOwn components outcomes entries table → AreObligations project entries table
     own_obligations before [] table all own = own

@@ -1,5 +1,5 @@
 -- Laws on the definitions: a project gives one verdict on each of its components, and has one table.
-use Rattle.std.specs.Prelude.{◌≡◌, ℕ, List, bytes_eq}
+use Rattle.std.specs.Prelude.{◌≡◌, ◌≤◌, ℕ, List, length, bytes_eq}
 use Rattle.std.specs.List.{IsDistinct}
 use Rattle.std.specs.Map.{keys_of}
 use Rattle.build_core.specs.declared.fault_line.FaultLine.{FaultLine}
@@ -34,3 +34,7 @@ abbrev pub HasDistinctObligations : Type 0
 HasDistinctObligations =
     (project : Project) → IsDistinct bytes_eq (keys_of project) → (table : List Obligation) →
     IsTable project table → HaveDistinctNames table
+
+-- a component has at most one fault
+abbrev pub HasFewFaults : Type 0
+HasFewFaults = (project : Project) → (faults : List FaultLine) → AreFaults project faults → length faults ≤ length project

@@ -1,4 +1,6 @@
 pub mod Laws
+pub mod Moved
 pub mod Private
+pub mod PrivateBuilders
 pub mod Projects
 pub mod Tables

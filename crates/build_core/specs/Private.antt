@@ -1,18 +1,21 @@
 -- What only private contracts cite.
-use Rattle.std.specs.Prelude.{◌≡◌, ◌⊎◌, ℕ, ◌≤◌, ◌<◌, Bool, true, List, [], ◌∷◌, ◌++◌, map, length, if◌then◌else◌, Option, Some, None, IsSome, Ok, Err}
-use Rattle.std.specs.List.{Contains, HoldsAt, filter_map}
-use Rattle.std.specs.Map.{lookup}
+use Rattle.std.specs.Prelude.{◌≡◌, ◌≢◌, ◌⊎◌, ℕ, ◌≤◌, ◌<◌, ◌+◌, Bool, true, false, ◌&&◌, List, [], ◌∷◌, ◌++◌, map, length, if◌then◌else◌, Option, Some, None, IsSome, Ok, Err, bytes_eq}
+use Rattle.std.specs.Arc.{arc_value}
+use Rattle.std.specs.List.{Contains, HoldsAt, IsDistinct, filter_map, list_all}
+use Rattle.std.specs.Map.{lookup, keys_of}
+use Rattle.std.specs.Option.{option_to_list}
 use Rattle.std.specs.BTreeMap.{is_at}
 use Rattle.std.specs.Ordering.{nat_cmp}
 use Rattle.std.specs.Cmp.Lexicographic.{slice_cmp}
 use Rattle.formula_core.specs.declared.raw.Ref.{Ref}
 use Rattle.model_core.specs.Components.{heading}
 use Rattle.model_core.specs.Each.{for_each, is_among}
-use Rattle.model_core.specs.Faults.{fault_at}
+use Rattle.model_core.specs.Faults.{fault_at, first_by_place}
 use Rattle.model_core.specs.declared.fault.Fault.{Fault}
 use Rattle.model_core.specs.declared.fault.FaultKind.{FaultKind}
 use Rattle.model_core.specs.declared.fault.FaultKind.TheVariants as kind
 use Rattle.model_core.specs.declared.component.RawComponent.{RawComponent}
+use Rattle.model_core.specs.declared.component.RawComponent.TheVariants as raw
 use Rattle.model_core.specs.declared.checked.Checked.{Checked}
 use Rattle.model_core.specs.declared.checked.Checked.TheVariants.{Machine}
 use Rattle.model_core.specs.declared.checked.CheckedMachine.{CheckedMachine}
@@ -21,10 +24,12 @@ use Rattle.check_rules.specs.Contexts.{Outcome}
 use Rattle.static_check.specs.declared.settled.Order.{Order}
 use Rattle.static_check.specs.Settling.{own_name, has, IsComponentOrder}
 use Rattle.sequent_core.specs.declared.sequent.Obligation.{Obligation}
-use Rattle.po_rules.specs.Gathering.{Gathered}
+use Rattle.po_rules.specs.Gathering.{gathered, table_nodes, table_limit}
 use Rattle.po_rules.specs.Tables.{obligations_of}
-use Rattle.build_core.specs.Projects.{Project, Reading, wanted_references, is_wanted, reference_row, checked_in, Concludes}
-use Rattle.build_core.specs.Tables.{refined_in}
+use Rattle.po_generate.specs.Laws as gathering
+use Rattle.build_core.specs.Projects.{Project, Reading, wanted_references, is_wanted, reference_row, checked_in, Concludes, Checks, has_text}
+use Rattle.build_core.specs.declared.owns.Own.{Own}
+use Rattle.build_core.specs.Tables.{refined_in, IsPlaceOf, Gives}
 
 -- what the map of these entries has at a name
 abbrev pub found : {X : Type 0} → List (List ℕ × X) → List ℕ → Option X
@@ -151,5 +156,108 @@ AreOwn components outcomes (entry ∷ entries) table =
 abbrev pub HaveComponents : List RawComponent → Outcomes → Type 0
 HaveComponents components outcomes = (name : List ℕ) (checked : Checked) → found outcomes name ≡ Some (Ok checked) → has components name ≡ true
 
-abbrev pub nothing_gathered : Gathered
-nothing_gathered = record { obligations = []; nodes = 0 }
+-- BUILDERS
+
+-- the verdict on each component
+pub record AreVerdicts (project : Project) (outcomes : Outcomes) : Type 0 where
+  pub sound : (n : List ℕ) (o : Outcome) → found outcomes n ≡ Some o → Checks project n o
+  pub whole : (n text : List ℕ) → Contains project (n, text) → IsSome (found outcomes n)
+
+-- the map has the place of each name
+abbrev pub HasPlaces : List Obligation → List (List ℕ × ℕ) → Type 0
+HasPlaces table places = (name : List ℕ) → IsPlaceOf table name (found places name)
+
+abbrev pub is_true : Option Bool → Bool
+is_true (Some b) = b
+is_true None = false
+
+-- whether a name's outcome is known to be that of the build before
+abbrev pub is_kept : List (List ℕ × Bool) → List ℕ → Bool
+is_kept kept name = is_true (found kept name)
+
+-- whether there are two texts, and they are the same
+abbrev pub are_same : Option (List ℕ) → Option (List ℕ) → Bool
+are_same (Some one) (Some other) = bytes_eq one other
+are_same _ _ = false
+
+-- whether each reference is kept
+abbrev pub all_kept : List (List ℕ × Bool) → RawComponent → Bool
+all_kept kept (raw.Context name extends sets constants axioms) = list_all (λ r. is_kept kept r.name) extends
+all_kept kept (raw.Machine name refines sees variables invariants variant events) =
+    list_all (λ r. is_kept kept r.name) (option_to_list refines) && list_all (λ r. is_kept kept r.name) sees
+
+-- A name that is kept has its outcome of before. A component without fault that isn't kept has another one.
+pub record AreSteady (was now : Outcomes) (kept : List (List ℕ × Bool)) : Type 0 where
+  pub same : (name : List ℕ) → is_kept kept name ≡ true → found was name ≡ found now name
+  pub other : (name : List ℕ) (checked : Checked) → found now name ≡ Some (Ok checked) → is_kept kept name ≡ false → found was name ≢ found now name
+
+-- an outcome beside that of before: `kept` where it is the same, and only there if it is a component without fault
+pub record IsSteady (before : Option Outcome) (outcome : Outcome) (kept : Bool) : Type 0 where
+  pub same : kept ≡ true → before ≡ Some outcome
+  pub other : (checked : Checked) → outcome ≡ Ok checked → kept ≡ false → before ≢ Some outcome
+
+-- No step, or one where something is new to a component whose references have no fault.
+abbrev pub IsStepFor : Project → Project → Outcomes → List (List ℕ × Bool) → RawComponent → ℕ → ℕ → Type 0
+IsStepFor old new now kept c before behind =
+    (behind ≤ before)
+    ⊎ ((behind ≤ before + 1) × (None ≡ first_by_place (faults_at now (own_name c) (wanted_references c)))
+    × ((are_same (found old (own_name c)) (found new (own_name c)) && all_kept kept c) ≡ false))
+
+-- a project with its verdicts
+pub record IsJudged (project : Project) (outcomes : Outcomes) : Type 0 where
+  pub once : IsDistinct bytes_eq (keys_of project)
+  pub verdicts : AreVerdicts project outcomes
+
+-- each is a component of the project
+abbrev pub AreComponentsIn : Project → List RawComponent → Type 0
+AreComponentsIn project components = (c : RawComponent) → Contains components c → IsComponentIn project c
+
+-- the components of a project, with the verdicts on all its texts
+pub record AreJudged (project : Project) (components : List RawComponent) (outcomes : Outcomes) : Type 0 where
+  pub judged : IsJudged project outcomes
+  pub read : AreComponentsIn project components
+  pub whole : HaveComponents components outcomes
+
+-- the components of a project, and what is known of them before they are checked
+pub record IsBegun (project : Project) (components : List RawComponent) (start : Outcomes) : Type 0 where
+  pub once : IsDistinct bytes_eq (keys_of project)
+  pub read : AreRead project components start
+
+-- OBLIGATIONS OF ONE COMPONENT
+
+-- obligations that are shared
+abbrev pub own_list : Own → List Obligation
+own_list own = map arc_value own.obligations.items
+
+-- with the number of their nodes
+abbrev pub IsCounted : Own → Type 0
+IsCounted own = own.nodes ≡ table_nodes (own_list own)
+
+-- those of a component without fault
+abbrev pub AreMade : Checked → Option CheckedMachine → Own → Type 0
+AreMade checked abstraction own = (own_list own ≡ obligations_of checked abstraction) × IsCounted own
+
+-- those of a component
+abbrev pub IsGiven : Project → List ℕ → Own → Type 0
+IsGiven project name own = Gives project name (own_list own) × IsCounted own
+
+-- the obligations of each component
+abbrev pub AreOwnsOf : Project → List (List ℕ × Own) → Type 0
+AreOwnsOf project owns = (name : List ℕ) (own : Own) → found owns name ≡ Some own → IsGiven project name own
+
+-- those of a component of this name
+abbrev pub OwnsOf : List RawComponent → Outcomes → List ℕ → Own → Type 0
+OwnsOf components outcomes name own = IsOwn components outcomes name (own_list own) × IsCounted own
+
+-- each is of a component of the project
+abbrev pub HaveOwns : List RawComponent → Outcomes → Project → List (List ℕ × Own) → Type 0
+HaveOwns components outcomes project owns = (name : List ℕ) (own : Own) → found owns name ≡ Some own → (has_text project name ≡ true) × OwnsOf components outcomes name own
+
+-- whether text, outcome and abstraction are those of before
+abbrev pub keeps_obligations : Project → Project → List (List ℕ × Bool) → RawComponent → Bool
+keeps_obligations old new kept c =
+    (are_same (found old (own_name c)) (found new (own_name c)) && is_kept kept (own_name c)) && list_all (λ r. is_kept kept r.name) (option_to_list (refined_in c))
+
+-- n nodes are counted where these obligations, behind so many nodes of others, pass the limit
+abbrev pub PassesAt : List Obligation → ℕ → ℕ → Type 0
+PassesAt list before n = (table_limit < n) × (n ≡ (gathered (gathering.behind before) list).nodes)

@@ -1,6 +1,6 @@
 -- The table of a project, its faults and its warnings.
-use Rattle.std.specs.Prelude.{◌≡◌, ◌⊎◌, ℕ, List, [], ◌∷◌, ◌++◌, map, Option, Some, None, Ok, Err}
-use Rattle.std.specs.List.{Contains}
+use Rattle.std.specs.Prelude.{◌≡◌, ◌≢◌, ◌⊎◌, ◌<◌, ℕ, List, [], ◌∷◌, ◌++◌, map, length, take, Option, Some, None, Ok, Err}
+use Rattle.std.specs.List.{Contains, AllByRecursion, HoldsAt}
 use Rattle.formula_core.specs.declared.raw.Ref.{Ref}
 use Rattle.model_core.specs.declared.fault.Fault.{Fault}
 use Rattle.model_core.specs.declared.component.RawComponent.{RawComponent}
@@ -13,6 +13,7 @@ use Rattle.component_tokens.specs.Positions.{position_of}
 use Rattle.build_core.specs.declared.fault_line.FaultLine.{FaultLine}
 use Rattle.sequent_core.specs.declared.sequent.Obligation.{Obligation}
 use Rattle.check_rules.specs.Contexts.{Outcome}
+use Rattle.po_rules.specs.Gathering.{gathered, table_limit}
 use Rattle.po_rules.specs.Tables.{obligations_of}
 use Rattle.build_core.specs.Projects.{Project, Checks}
 
@@ -69,3 +70,21 @@ AreFaults project faults = AreGiven faults_in project project faults
 
 abbrev pub AreWarnings : Project → List (List ℕ × List ℕ) → Type 0
 AreWarnings project warnings = AreGiven warnings_in project project warnings
+
+-- The formula nodes that are counted of a table in its order, until they pass the limit.
+abbrev pub counted_nodes : List Obligation → ℕ
+counted_nodes table = (gathered (record { obligations = []; nodes = 0 }) table).nodes
+
+-- n formula nodes of the table of a project are counted, and these are more than a table may have
+abbrev pub IsTooLarge : Project → ℕ → Type 0
+IsTooLarge project n = (table : List Obligation) × IsTable project table × (table_limit < n) × (n ≡ counted_nodes table)
+
+-- the obligation of a name in a table
+abbrev pub IsOfName : List Obligation → List ℕ → Option Obligation → Type 0
+IsOfName table name None = AllByRecursion (λ o. o.name ≢ name) table
+IsOfName table name (Some o) = Contains table o × (o.name ≡ name)
+
+-- the place of the first obligation of a name in a table
+abbrev pub IsPlaceOf : List Obligation → List ℕ → Option ℕ → Type 0
+IsPlaceOf table name None = AllByRecursion (λ o. o.name ≢ name) table
+IsPlaceOf table name (Some at) = (at < length table) × AllByRecursion (λ o. o.name ≢ name) (take at table) × HoldsAt (λ o. o.name ≡ name) table at

@@ -1,20 +1,20 @@
-//! Builds a project.
+//! Builds a project from nothing.
 
-ghost use Rattle.std.specs.Prelude.{◌≡◌, ◌≤◌, ◌<◌, ◌+◌, ℕ, List, length, IfOk, IsErrOf};
+ghost use Rattle.std.specs.Prelude.{◌≡◌, ◌<◌, ◌≤◌, ◌+◌, ℕ, List, length, map, IfOk, IsErrOf};
+ghost use Rattle.std.specs.Arc.{arc_value};
 ghost use Rattle.sequent_core.specs.declared.sequent.Obligation.{Obligation};
 ghost use Rattle.po_rules.specs.Gathering.{table_limit, table_nodes};
 ghost use Rattle.build_core.specs.Projects.{IsSmall};
 ghost use Rattle.build_core.specs.Tables.{AreFaults, AreWarnings, IsTable};
 
 use crate::built::{BuildFault, Built};
-use crate::checking::conclude_all;
-use crate::gathering::{faults_in, gather, warnings_in};
-use crate::index::index_of;
-use crate::reading::{Readings, read_all};
-use formula_core::{Name, Steps, Text};
-use po_machine::{Gathered, TABLE_LIMIT};
+use crate::fault_line::FaultLine;
+use crate::incremental::Builder;
+use formula_core::{Name, OutOfMemory, Steps, Text};
+use sequent_core::Obligation;
 use std::alloc::Global;
 use std::collections::BTreeMap;
+use std::sync::Arc;
 use std::sync::ledger::Ledger;
 
 /// Builds the texts of a project: each is read once, and each component is checked at most once, which is a step of the
@@ -33,21 +33,43 @@ pub fn build<L: Ledger>(
         (table : List Obligation) × IsTable texts.now.entries table × (table_limit < n) × (n ≤ table_nodes table) }
     ensures steps { steps.new ≤ steps.old + length texts.now.entries }
 {
-    let Readings {
-        components,
-        mut outcomes,
-    } = read_all(alloc, texts)?;
-    let index = index_of(alloc, &components)?;
-    conclude_all(alloc, &components, &index, &mut outcomes, steps)?;
-    let Gathered { obligations, nodes } = gather(alloc, texts, &components, &index, &outcomes)?;
-    if nodes > TABLE_LIMIT {
-        return Err(BuildFault::TableFull(nodes));
-    }
-    let faults = faults_in(alloc, texts, &outcomes)?;
-    let warnings = warnings_in(alloc, texts, &outcomes)?;
+    let builder = Builder::new(alloc, texts, steps)?;
+    let obligations = copy_table(alloc, builder.table())?;
+    let faults = copy_faults(alloc, builder.faults())?;
+    let warnings = copy_warnings(alloc, builder.warnings())?;
     Ok(Built {
         obligations,
         faults,
         warnings,
     })
+}
+
+fn copy_table(alloc: Global, table: &[Arc<Obligation>]) -> Result<Vec<Obligation>, OutOfMemory>
+    ensures { IfOk result (λ copies. copies.items ≡ map arc_value table.now) }
+{
+    let mut copies = Vec::new(alloc);
+    for obligation in table {
+        copies.push(obligation.copy(alloc)?)?;
+    }
+    Ok(copies)
+}
+
+fn copy_faults(alloc: Global, faults: &[FaultLine]) -> Result<Vec<FaultLine>, OutOfMemory>
+    ensures { IfOk result (λ copies. copies.items ≡ faults.now) }
+{
+    let mut copies = Vec::new(alloc);
+    for fault in faults {
+        copies.push(fault.copy(alloc)?)?;
+    }
+    Ok(copies)
+}
+
+fn copy_warnings(alloc: Global, warnings: &[(Name, Name)]) -> Result<Vec<(Name, Name)>, OutOfMemory>
+    ensures { IfOk result (λ copies. copies.items ≡ warnings.now) }
+{
+    let mut copies = Vec::new(alloc);
+    for (machine, event) in warnings {
+        copies.push((machine.copy(alloc)?, event.copy(alloc)?))?;
+    }
+    Ok(copies)
 }

@@ -2,20 +2,29 @@
 //! obligations, faults and warnings.
 #![tactic(auto)]
 
+mod before;
 mod builder;
 mod built;
 mod checking;
+mod copies;
 mod fault_line;
 mod gathering;
+mod incremental;
 mod index;
 mod laws;
+mod outcomes;
+mod owns;
 mod parts;
+mod places;
 mod reading;
 mod references;
+mod same;
 
 pub use builder::build;
 pub use built::{BuildFault, Built};
 pub use fault_line::FaultLine;
+pub use incremental::Builder;
 pub use laws::{
-    distinct_obligations, one_list_of_faults, one_list_of_warnings, one_table, one_verdict,
+    distinct_obligations, few_faults, one_list_of_faults, one_list_of_warnings, one_table,
+    one_verdict,
 };

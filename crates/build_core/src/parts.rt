@@ -6,10 +6,10 @@ ghost use Rattle.std.specs.Option.{option_copied, option_to_list};
 ghost use Rattle.build_core.specs.Projects.{checked_in, wanted_references, wanting};
 ghost use Rattle.build_core.specs.Private.{parts_at};
 
+use crate::outcomes::Outcomes;
 use formula_core::{Name, OutOfMemory, Ref};
 use model_core::{Checked, Fault, RawComponent};
 use std::alloc::Global;
-use std::collections::BTreeMap;
 
 fn add_part<'a>(
     parts: &mut Vec<&'a Checked>,
@@ -30,10 +30,10 @@ fn add_part<'a>(
 fn add_parts<'a>(
     parts: &mut Vec<&'a Checked>,
     references: &[Ref],
-    outcomes: &'a BTreeMap<Name, Result<Checked, Fault>>,
+    outcomes: &'a Outcomes,
 ) -> Result<(), OutOfMemory>
     ensures { OnOk result (map (λ p. p.now) parts.new.items
-        ≡ map (λ p. p.now) parts.old.items ++ parts_at outcomes.now.entries (wanting true references.now)) }
+        ≡ map (λ p. p.now) parts.old.items ++ parts_at outcomes.now (wanting true references.now)) }
 {
     for reference in references {
         add_part(parts, outcomes.get(&reference.name))?;
@@ -44,11 +44,11 @@ fn add_parts<'a>(
 fn add_refined<'a>(
     parts: &mut Vec<&'a Checked>,
     refines: &Option<Ref>,
-    outcomes: &'a BTreeMap<Name, Result<Checked, Fault>>,
+    outcomes: &'a Outcomes,
 ) -> Result<(), OutOfMemory>
     ensures { OnOk result (map (λ p. p.now) parts.new.items
         ≡ map (λ p. p.now) parts.old.items
-        ++ parts_at outcomes.now.entries (wanting false (option_to_list refines.now))) }
+        ++ parts_at outcomes.now (wanting false (option_to_list refines.now))) }
 {
     match refines {
         None => Ok(()),
@@ -63,10 +63,10 @@ fn add_refined<'a>(
 pub fn parts_of<'a>(
     alloc: Global,
     raw: &RawComponent,
-    outcomes: &'a BTreeMap<Name, Result<Checked, Fault>>,
+    outcomes: &'a Outcomes,
 ) -> Result<Vec<&'a Checked>, OutOfMemory>
     ensures { IfOk result (λ parts. map (λ p. p.now) parts.items
-        ≡ parts_at outcomes.now.entries (wanted_references raw.now)) }
+        ≡ parts_at outcomes.now (wanted_references raw.now)) }
 {
     let mut parts = Vec::new(alloc);
     match raw {

@@ -1,15 +1,16 @@
 //! Reading the texts of a project.
 
-ghost use Rattle.std.specs.Prelude.{◌≡◌, ◌≤◌, length, bytes_eq, IfOk, OnOk};
+ghost use Rattle.std.specs.Prelude.{◌≤◌, length, bytes_eq, IfOk, OnOk};
 ghost use Rattle.std.specs.List.{AllByRecursion, IsDistinct};
 ghost use Rattle.std.specs.Map.{keys_of};
 ghost use Rattle.component_text.specs.Spelled.{IsRead};
 ghost use Rattle.build_core.specs.Projects.{Reading};
 ghost use Rattle.build_core.specs.Private.{Adds, AreRead};
 
+use crate::outcomes::Outcomes;
 use component_text::{ReadFault, read};
 use formula_core::{Name, OutOfMemory, Text};
-use model_core::{Checked, Fault, RawComponent};
+use model_core::{Fault, RawComponent};
 use std::alloc::Global;
 use std::collections::BTreeMap;
 
@@ -18,7 +19,7 @@ use std::collections::BTreeMap;
 pub struct Readings {
     pub components: Vec<RawComponent>,
     /// By the name of the component. Each is a fault, until the components are checked.
-    pub outcomes: BTreeMap<Name, Result<Checked, Fault>>,
+    pub outcomes: Outcomes,
 }
 
 /// What the text of a component is read as.
@@ -43,8 +44,8 @@ fn add_reading(
     name: &Name,
     reading: Result<RawComponent, Fault>,
 ) -> Result<(), OutOfMemory>
-    ensures { OnOk result (Adds name.now reading readings.old.components.items readings.old.outcomes.entries
-        readings.new.components.items readings.new.outcomes.entries) }
+    ensures { OnOk result (Adds name.now reading readings.old.components.items readings.old.outcomes
+        readings.new.components.items readings.new.outcomes) }
 {
     match reading {
         Ok(component) => {
@@ -52,7 +53,8 @@ fn add_reading(
             Ok(())
         }
         Err(fault) => {
-            readings.outcomes.insert(name.copy(alloc)?, Err(fault))?;
+            let name = name.copy(alloc)?;
+            readings.outcomes.add(alloc, name, Err(fault))?;
             Ok(())
         }
     }
@@ -62,11 +64,11 @@ fn add_reading(
 pub fn read_all(alloc: Global, texts: &BTreeMap<Name, Text>) -> Result<Readings, OutOfMemory>
     requires { AllByRecursion (λ entry. length entry.1 ≤ 65536) texts.now.entries }
     ensures names { IfOk result (λ _. IsDistinct bytes_eq (keys_of texts.now.entries)) }
-    ensures read { IfOk result (λ read. AreRead texts.now.entries read.components.items read.outcomes.entries) }
+    ensures read { IfOk result (λ read. AreRead texts.now.entries read.components.items read.outcomes) }
 {
     let mut readings = Readings {
         components: Vec::new(alloc),
-        outcomes: BTreeMap::new(alloc),
+        outcomes: Outcomes::new(alloc),
     };
     for (name, text) in texts {
         let reading = read_text(alloc, name, text)?;

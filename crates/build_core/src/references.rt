@@ -7,10 +7,10 @@ ghost use Rattle.model_core.specs.Faults.{first_by_place};
 ghost use Rattle.build_core.specs.Projects.{is_wanted, reference_row, wanted_references, wanting};
 ghost use Rattle.build_core.specs.Private.{faults_at, found, wrong_kind};
 
+use crate::outcomes::Outcomes;
 use formula_core::{Name, OutOfMemory, Ref};
 use model_core::{Checked, Fault, FaultKind, RawComponent, earlier, fault_at};
 use std::alloc::Global;
-use std::collections::BTreeMap;
 
 fn is_wanted(context: bool, part: &Checked) -> bool
     ensures { result ≡ is_wanted context part.now }
@@ -43,10 +43,10 @@ fn reference_fault(
     component: &Name,
     reference: &Ref,
     context: bool,
-    outcomes: &BTreeMap<Name, Result<Checked, Fault>>,
+    outcomes: &Outcomes,
 ) -> Result<Option<Fault>, OutOfMemory>
     ensures { IfOk result (λ fault. option_to_list fault
-        ≡ reference_row component.now (reference.now, context) (found outcomes.now.entries reference.now.name)) }
+        ≡ reference_row component.now (reference.now, context) (found outcomes.now reference.now.name)) }
 {
     let kind = wrong_kind(context, outcomes.get(&reference.name));
     match kind {
@@ -65,10 +65,10 @@ fn first_in_references(
     component: &Name,
     references: &[Ref],
     context: bool,
-    outcomes: &BTreeMap<Name, Result<Checked, Fault>>,
+    outcomes: &Outcomes,
 ) -> Result<Option<Fault>, OutOfMemory>
     ensures { IfOk result (λ first. first
-        ≡ first_by_place (faults_at outcomes.now.entries component.now (wanting context references.now))) }
+        ≡ first_by_place (faults_at outcomes.now component.now (wanting context references.now))) }
 {
     let mut first = None;
     for reference in references {
@@ -82,11 +82,11 @@ fn first_of_refined(
     alloc: Global,
     component: &Name,
     refines: &Option<Ref>,
-    outcomes: &BTreeMap<Name, Result<Checked, Fault>>,
+    outcomes: &Outcomes,
 ) -> Result<Option<Fault>, OutOfMemory>
     ensures { IfOk result (λ first. first
         ≡ first_by_place
-        (faults_at outcomes.now.entries component.now (wanting false (option_to_list refines.now)))) }
+        (faults_at outcomes.now component.now (wanting false (option_to_list refines.now)))) }
 {
     match refines {
         None => Ok(None),
@@ -101,10 +101,10 @@ fn first_of_refined(
 pub fn first_reference_fault(
     alloc: Global,
     raw: &RawComponent,
-    outcomes: &BTreeMap<Name, Result<Checked, Fault>>,
+    outcomes: &Outcomes,
 ) -> Result<Option<Fault>, OutOfMemory>
     ensures { IfOk result (λ first. first
-        ≡ first_by_place (faults_at outcomes.now.entries (heading raw.now).name (wanted_references raw.now))) }
+        ≡ first_by_place (faults_at outcomes.now (heading raw.now).name (wanted_references raw.now))) }
 {
     let component = &raw.heading().name;
     match raw {

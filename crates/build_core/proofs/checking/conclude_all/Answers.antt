@@ -1,20 +1,21 @@
-use Rattle.std.proofs.Common.{sym, ap, subst, length, arith}
+use Rattle.std.proofs.Common.{sym, subst, [], bytes_eq, arith}
+use Rattle.std.specs.List.{IsDistinct}
+use Rattle.static_check.specs.Settling.{ReferencesFirst}
 use Rattle.build_core.specs.Private.{HaveNames}
-use Rattle.build_core.proofs.Setting.{sorted_names, few_sorted}
+use Rattle.build_core.proofs.Moving.{no_steps}
+use Rattle.build_core.proofs.Setting.{sorted_names}
 use Rattle.build_core.proofs.checking.conclude_all.Goals as goal
 
 pub conclude_sorted-requires-clause-names : goal.conclude_sorted-requires-clause-names
 conclude_sorted-requires-clause-names g c =
-    subst (λ ns. HaveNames c.args.components.now ns) (sym c.items.ensures) (sorted_names c.args.components.now c.in_ok-order.order c.in_ok-order.ensures)
+    subst (HaveNames c.args.components.now) (sym c.items-sorted.ensures) (sorted_names c.args.components.now c.in_ok-order.order c.in_ok-order.ensures)
 
-pub returns-in_err-conclude_sorted-clause-steps : goal.returns-in_err-conclude_sorted-clause-steps
-returns-in_err-conclude_sorted-clause-steps g c =
-    omega (arith, c.in_err-conclude_sorted.ensures.steps, ap length c.items.ensures, few_sorted c.args.components.now c.in_ok-order.order c.in_ok-order.ensures)
+pub conclude_sorted-requires-clause-order : goal.conclude_sorted-requires-clause-order
+conclude_sorted-requires-clause-order g c =
+    subst (ReferencesFirst c.args.components.now []) (sym c.items-sorted.ensures) c.in_ok-order.ensures.references_first
 
-pub returns-in_err-tell_cyclic-clause-steps : goal.returns-in_err-tell_cyclic-clause-steps
-returns-in_err-tell_cyclic-clause-steps g c =
-    omega (arith, c.in_ok-conclude_sorted.ensures.steps, ap length c.items.ensures, few_sorted c.args.components.now c.in_ok-order.order c.in_ok-order.ensures)
+pub conclude_sorted-requires-clause-once : goal.conclude_sorted-requires-clause-once
+conclude_sorted-requires-clause-once g c = subst (IsDistinct bytes_eq) (sym c.items-sorted.ensures) c.in_ok-order.ensures.once
 
-pub returns-clause-steps : goal.returns-clause-steps
-returns-clause-steps g c =
-    omega (arith, c.in_ok-conclude_sorted.ensures.steps, ap length c.items.ensures, few_sorted c.args.components.now c.in_ok-order.order c.in_ok-order.ensures)
+pub returns-in_err-order-clause-steps : goal.returns-in_err-order-clause-steps
+returns-in_err-order-clause-steps g c = no_steps c.args.before.now.texts.now.entries c.args.texts.now.entries c.args.steps.now c.args.steps.now (omega arith)

@@ -1,10 +1,12 @@
-use Rattle.std.proofs.Common.{◌≤◌, ◌+◌, take}
-use Rattle.build_core.specs.Private.{AreSet, ConcludesIn}
+use Rattle.std.proofs.Common.{take}
+use Rattle.build_core.specs.Private.{AreSet, AreSteady, ConcludesIn}
+use Rattle.build_core.proofs.Moving.{FewSteps}
 use Rattle.build_core.proofs.checking.conclude_sorted.Given as goal
 
 abbrev pub invariant-loop-name : goal.invariant-loop-name
 invariant-loop-name g l =
     record {
-      set : AreSet ConcludesIn l.components (take l.name-index l.sorted) l.initial.outcomes.entries l.outcomes.entries;
-      steps : l.steps ≤ l.initial.steps + l.name-index;
+      set : AreSet ConcludesIn l.components (take l.name-index l.sorted) l.initial.progress.outcomes l.progress.outcomes;
+      steady : AreSteady l.before.outcomes.now l.progress.outcomes l.progress.kept.entries;
+      few : FewSteps l.before.texts.now.entries l.texts.entries (take l.name-index l.sorted) l.initial.steps l.steps;
     }

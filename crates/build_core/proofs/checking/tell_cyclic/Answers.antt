@@ -3,7 +3,9 @@ use Rattle.build_core.proofs.Setting.{set_taken}
 use Rattle.build_core.proofs.checking.tell_cyclic.Goals as goal
 
 pub loop-name-preserved : goal.loop-name-preserved
-loop-name-preserved c =
-    set_taken IsToldCyclic c.args.components.now c.args.cyclic.now c.loop-name.name-index c.name-item.result c.args.outcomes.now.entries c.loop-name.outcomes.entries
-    c.add_cyclic.new.outcomes.entries c.component_of-raw.result.now c.loop-name-test.true c.name-item.is c.loop-name.invariant
-    c.component_of-raw.ensures.there c.component_of-raw.ensures.named c.in_ok-add_cyclic.ensures
+loop-name-preserved c = record {
+  set = set_taken IsToldCyclic c.args.components.now c.args.cyclic.now c.loop-name.name-index c.name-item.result c.args.progress.now.outcomes c.loop-name.progress.outcomes
+      c.add_cyclic.new.progress.outcomes c.component_of-raw.result.now c.loop-name-test.true c.name-item.is c.loop-name.invariant.set
+      c.component_of-raw.ensures.there c.component_of-raw.ensures.named c.in_ok-add_cyclic.ensures.outcomes;
+  steady = c.in_ok-add_cyclic.ensures.steady;
+}

@@ -16,5 +16,5 @@ loop-name-preserved c =
     let e : List ℕ × List ℕ = (c.in-Some.name.now, c.in-Some.text.now) in (
       done ++ e ∷ [],
       append_assoc done (e ∷ []) c.next.new.self ∙ ap (λ rest. done ++ rest) (sym c.in-Some.ensures.steps) ∙ c.loop-name.invariant.1,
-      given_more faults_in c.args.outcomes.now.entries done e _ c.loop-name.faults.items c.add_fault.new.faults.items c.get.ensures.value c.loop-name.invariant.2 c.in_ok-add_fault.ensures,
+      given_more faults_in c.args.outcomes.now done e _ c.loop-name.faults.items c.add_fault.new.faults.items c.get.ensures c.loop-name.invariant.2 c.in_ok-add_fault.ensures,
     )

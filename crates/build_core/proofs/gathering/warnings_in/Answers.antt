@@ -9,5 +9,5 @@ loop-name-preserved c =
     let e : List ℕ × List ℕ = (c.in-Some.name.now, c.in-Some.field-0-1.now) in (
       done ++ e ∷ [],
       append_assoc done (e ∷ []) c.next.new.self ∙ ap (λ rest. done ++ rest) (sym c.in-Some.ensures.steps) ∙ c.loop-name.invariant.1,
-      given_more warnings_in c.args.outcomes.now.entries done e _ c.loop-name.warnings.items c.add_warnings.new.warnings.items c.get.ensures.value c.loop-name.invariant.2 (c.in_ok-add_warnings.ensures c.in-Some.field-0-1.now),
+      given_more warnings_in c.args.outcomes.now done e _ c.loop-name.warnings.items c.add_warnings.new.warnings.items c.get.ensures c.loop-name.invariant.2 (c.in_ok-add_warnings.ensures c.in-Some.field-0-1.now),
     )

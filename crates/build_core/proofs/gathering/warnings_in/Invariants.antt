@@ -5,4 +5,4 @@ use Rattle.build_core.proofs.gathering.warnings_in.Given as goal
 
 abbrev pub invariant-loop-name : goal.invariant-loop-name
 invariant-loop-name l =
-    (done : List (List ℕ × List ℕ)) × (done ++ l.name-iterator ≡ l.texts.entries) × (l.warnings.items ≡ given_in warnings_in l.outcomes.entries done)
+    (done : List (List ℕ × List ℕ)) × (done ++ l.name-iterator ≡ l.texts.entries) × (l.warnings.items ≡ given_in warnings_in l.outcomes done)

@@ -16,8 +16,8 @@ loop-name-preserved c =
     let all = ap (λ rest. done ++ rest) (sym c.in-Some.ensures.steps) ∙ c.loop-name.invariant.1 in (
       done ++ e ∷ [],
       append_assoc done (e ∷ []) c.next.new.self ∙ all,
-      one_read done c.in-Some.name.now c.in-Some.text.now c.loop-name.readings.components.items c.loop-name.readings.outcomes.entries c.in_ok-reading.reading
-          c.add_reading.new.readings.components.items c.add_reading.new.readings.outcomes.entries c.loop-name.invariant.2 c.in_ok-reading.ensures c.in_ok-add_reading.ensures,
+      one_read done c.in-Some.name.now c.in-Some.text.now c.loop-name.readings.components.items c.loop-name.readings.outcomes c.in_ok-reading.reading
+          c.add_reading.new.readings.components.items c.add_reading.new.readings.outcomes c.loop-name.invariant.2 c.in_ok-reading.ensures c.in_ok-add_reading.ensures,
     )
 
 pub returns-clause-names : goal.returns-clause-names

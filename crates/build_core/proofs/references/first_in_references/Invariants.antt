@@ -6,4 +6,4 @@ use Rattle.build_core.proofs.references.first_in_references.Given as goal
 
 abbrev pub invariant-loop-reference : goal.invariant-loop-reference
 invariant-loop-reference l =
-    l.first ≡ first_by_place (faults_at l.outcomes.entries l.component (wanting l.context (take l.reference-index l.references)))
+    l.first ≡ first_by_place (faults_at l.outcomes l.component (wanting l.context (take l.reference-index l.references)))

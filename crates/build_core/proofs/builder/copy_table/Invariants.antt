@@ -1,0 +1,6 @@
+use Rattle.std.proofs.Common.{◌≡◌, map, take}
+use Rattle.std.specs.Arc.{arc_value}
+use Rattle.build_core.proofs.builder.copy_table.Given as goal
+
+abbrev pub invariant-loop-obligation : goal.invariant-loop-obligation
+invariant-loop-obligation l = l.copies.items ≡ map arc_value (take l.obligation-index l.table)
