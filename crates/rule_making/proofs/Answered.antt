@@ -1,0 +1,112 @@
+-- What is answered, from what was found.
+use Rattle.std.proofs.Common.{◌≡◌, ◌∙◌, ◌⊎◌, inl, inr, sym, ap, subst, ℕ, ℤ, List, [], Option, Some, None, Result, Ok, Err, is_none, IsTrue, if◌then◌else◌}
+use Rattle.std.specs.Prelude.{IfOk}
+use Rattle.std.specs.Option.{option_map, option_and_then, option_or}
+use Rattle.formula_core.specs.declared.formula.Formula.{Formula}
+use Rattle.rule_table.specs.declared.rule.Rule.{Rule}
+use Rattle.rule_table.specs.declared.rule.Body.{Body}
+use Rattle.rule_table.specs.declared.rule.Main.{Main}
+use Rattle.rule_table.specs.declared.kind.RuleKind.{RuleKind}
+use Rattle.rule_table.specs.Rules.{width}
+use Rattle.sequent_core.specs.declared.hint.Hint.{Hint}
+use Rattle.sequent_core.specs.declared.sequent.Sequent.{Sequent}
+use Rattle.rule_making.specs.declared.fault.RuleFault.{RuleFault}
+use Rattle.rule_making.specs.declared.fault.RuleFault.TheVariants as fault
+use Rattle.rule_making.specs.Make.{Answers, AreTerms, FitsAt, IsNamed, WithTerms, Makes, body_for, first_taken, has_places, instance_for, kind_of, main_for, replaced_types, rule_of, unfit, width_for}
+use Rattle.rule_making.specs.Private.{AnswersOver, FindsRule, GivesBody, TestsBody}
+
+-- the first reason, of the three
+abbrev reason : Option (List ℕ) → Option (ℤ × ℤ) → Option Body → Option RuleFault
+reason taken wide body =
+    option_or (option_map fault.NotFresh taken)
+    (option_or (option_map (λ x. fault.TooWide x.0 x.1) wide) (if is_none body then Some fault.NoForm else None))
+
+abbrev by_width : Main → Option RuleKind → Option (ℤ × ℤ)
+by_width m o = option_and_then (λ k. width k m) o
+
+abbrev by_body : Main → Option RuleKind → Option Body
+by_body m o = option_and_then (λ k. instance_for k m) o
+
+module _ (n : ℕ) (h : Hint) (terms : List Formula) (s : Sequent) where
+  reason_is : unfit n h terms s
+      ≡ reason (first_taken s.env [] h.names) (by_width (main_for n h terms s) (kind_of n h terms)) (by_body (main_for n h terms s) (kind_of n h terms))
+  unfolding unfit
+  reason_is = refl
+
+  pub taken : (x : List ℕ) → first_taken s.env [] h.names ≡ Some x → AnswersOver n h terms s (Err (fault.NotFresh x))
+  taken x e = reason_is
+      ∙ ap (λ o. reason o (by_width (main_for n h terms s) (kind_of n h terms)) (by_body (main_for n h terms s) (kind_of n h terms))) e
+
+  pub no_kind : first_taken s.env [] h.names ≡ None → kind_of n h terms ≡ None → AnswersOver n h terms s (Err fault.NoForm)
+  no_kind e k = inl (reason_is ∙ (λ i. reason (e i) (by_width (main_for n h terms s) (k i)) (by_body (main_for n h terms s) (k i))))
+
+  module _ (k : RuleKind) (fresh : first_taken s.env [] h.names ≡ None) (kind : kind_of n h terms ≡ Some k) where
+    reason_of : (w : Option (ℤ × ℤ)) (b : Option Body) → width k (main_for n h terms s) ≡ w → instance_for k (main_for n h terms s) ≡ b
+        → unfit n h terms s ≡ reason None w b
+    reason_of w b e f = reason_is
+        ∙ (λ i. reason (fresh i) (by_width (main_for n h terms s) (kind i)) (by_body (main_for n h terms s) (kind i)))
+        ∙ (λ i. reason None (e i) (f i))
+
+    named : (b : Body) → GivesBody k (main_for n h terms s) (Ok b) → IsNamed n h terms s k b
+    named b g = record {
+      fit = reason_of None (Some b) g.0 g.1;
+      kind = kind;
+      body = ap (by_body (main_for n h terms s)) kind ∙ g.1;
+    }
+
+    refused : (f : RuleFault) → GivesBody k (main_for n h terms s) (Err f) → AnswersOver n h terms s (Err f)
+    refused fault.NoPlace g = absurd g
+    refused fault.BadTerm g = absurd g
+    refused (fault.NotFresh x) g = absurd g
+    refused fault.NoForm g = inl (reason_of None None g.0 g.1)
+    refused (fault.TooWide x y) g = reason_of (Some (x, y)) (instance_for k (main_for n h terms s)) g refl
+    refused fault.TooLarge g = absurd g
+    refused fault.OutOfMemory g = tt
+
+    made : (b : Body) (r : Result Rule RuleFault) → GivesBody k (main_for n h terms s) (Ok b) → TestsBody s k b r → AnswersOver n h terms s r
+    made b (Ok r) g t = (k, b, named b g, t.0, t.1)
+    made b (Err fault.NoPlace) g t = absurd t
+    made b (Err fault.BadTerm) g t = absurd t
+    made b (Err (fault.NotFresh x)) g t = absurd t
+    made b (Err fault.NoForm) g t = inr (k, b, named b g, t.0, t.1)
+    made b (Err (fault.TooWide x y)) g t = absurd t
+    made b (Err fault.TooLarge) g t = (k, b, named b g, t)
+    made b (Err fault.OutOfMemory) g t = tt
+
+    pub finds_over : (r : Result Rule RuleFault) → FindsRule s k (main_for n h terms s) r → AnswersOver n h terms s r
+    finds_over r is = elim is [
+      | inl w ↦ subst (AnswersOver n h terms s) (sym w.2) (refused w.0 w.1)
+      | inr w ↦ made w.0 r w.1 w.2
+    ]
+
+  pub no_memory_over : (f : RuleFault) → f ≡ fault.OutOfMemory → AnswersOver n h terms s (Err f)
+  no_memory_over f e = subst (λ f. AnswersOver n h terms s (Err f)) (sym e) tt
+
+  pub answers_over : (r : Result Rule RuleFault) → IsTrue (has_places n h s) → AreTerms s.env (replaced_types n h s) h.terms terms
+      → AnswersOver n h terms s r → Answers n h s r
+  answers_over (Ok r) p t a = (p, terms, t, a)
+  answers_over (Err fault.NoPlace) p t a = absurd a
+  answers_over (Err fault.BadTerm) p t a = absurd a
+  answers_over (Err (fault.NotFresh x)) p t a = (p, terms, t, a)
+  answers_over (Err fault.NoForm) p t a = (p, terms, t, a)
+  answers_over (Err (fault.TooWide x y)) p t a = (p, terms, t, a)
+  answers_over (Err fault.TooLarge) p t a = (p, terms, t, a)
+  answers_over (Err fault.OutOfMemory) p t a = tt
+
+module _ (n : ℕ) (h : Hint) (s : Sequent) where
+  pub no_memory : (f : RuleFault) → f ≡ fault.OutOfMemory → Answers n h s (Err f)
+  no_memory f e = subst (λ f. Answers n h s (Err f)) (sym e) tt
+
+  rule_fits : (r : Rule) → WithTerms n h s (Makes n h s r) → FitsAt r s
+  rule_fits r w = w.2.4
+
+  pub answer_fits : (r : Result Rule RuleFault) → Answers n h s r → IfOk r (λ x. FitsAt x s)
+  answer_fits (Ok r) a = rule_fits r a
+  answer_fits (Err f) a = tt
+
+module _ (s : Sequent) (k : RuleKind) (m : Main) where
+  pub refused_finds : (f : RuleFault) → GivesBody k m (Err f) → FindsRule s k m (Err f)
+  refused_finds f g = inl (f, g, refl)
+
+  pub tests_find : (b : Body) (r : Result Rule RuleFault) → GivesBody k m (Ok b) → TestsBody s k b r → FindsRule s k m r
+  tests_find b r g t = inr (b, g, t)

@@ -1,0 +1,3 @@
+pub mod Laws
+pub mod Make
+pub mod Private
