@@ -12,7 +12,7 @@ use Rattle.sequent_core.specs.declared.hint.Hint.{Hint}
 use Rattle.sequent_core.specs.declared.sequent.Sequent.{Sequent}
 use Rattle.rule_making.specs.declared.fault.RuleFault.{RuleFault}
 use Rattle.rule_making.specs.declared.fault.RuleFault.TheVariants as fault
-use Rattle.rule_making.specs.Make.{Answers, AreTerms, FitsAt, IsNamed, WithTerms, Makes, body_for, first_taken, has_places, instance_for, kind_of, main_for, replaced_types, rule_of, unfit, width_for}
+use Rattle.rule_making.specs.Make.{Answers, AreTerms, FitsAt, IsNamed, body_for, first_taken, has_places, instance_for, kind_of, main_for, replaced_types, rule_of, unfit, width_for}
 use Rattle.rule_making.specs.Private.{AnswersOver, FindsRule, GivesBody, TestsBody}
 
 -- the first reason, of the three
@@ -97,12 +97,9 @@ module _ (n : ℕ) (h : Hint) (s : Sequent) where
   pub no_memory : (f : RuleFault) → f ≡ fault.OutOfMemory → Answers n h s (Err f)
   no_memory f e = subst (λ f. Answers n h s (Err f)) (sym e) tt
 
-  rule_fits : (r : Rule) → WithTerms n h s (Makes n h s r) → FitsAt r s
-  rule_fits r w = w.2.4
-
-  pub answer_fits : (r : Result Rule RuleFault) → Answers n h s r → IfOk r (λ x. FitsAt x s)
-  answer_fits (Ok r) a = rule_fits r a
-  answer_fits (Err f) a = tt
+  pub over_fits : (terms : List Formula) (r : Result Rule RuleFault) → AnswersOver n h terms s r → IfOk r (λ x. FitsAt x s)
+  over_fits terms (Ok r) a = a.4
+  over_fits terms (Err f) a = tt
 
 module _ (s : Sequent) (k : RuleKind) (m : Main) where
   pub refused_finds : (f : RuleFault) → GivesBody k m (Err f) → FindsRule s k m (Err f)

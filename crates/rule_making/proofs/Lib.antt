@@ -6,3 +6,4 @@ pub mod OneRule
 pub mod Reread
 pub mod SmallParts
 pub mod TermPlaces
+pub mod Tested

@@ -64,3 +64,9 @@ AnswersOver n h terms s (Err f) = StandsAgainst n h s f terms
 pub record IsMetBy (s : Sequent) (r : Rule) : Type 0 where
   pub meets : Meets r s
   pub fresh : AllByRecursion (IsFresh s) r.antecedents
+
+-- the rule itself where this holds, and no form where it doesn't
+abbrev pub KeepsWhere : Type 0 → Rule → Result Rule RuleFault → Type 0
+KeepsWhere P r (Ok q) = P × (q ≡ r)
+KeepsWhere P r (Err fault.NoForm) = P → ⊥
+KeepsWhere P r (Err _) = ⊥

@@ -4,10 +4,10 @@ ghost use Rattle.std.specs.List.{AllByRecursion};
 ghost use Rattle.formula_core.specs.Env.{type_in};
 ghost use Rattle.formula_core.specs.Same.{same_formula, same_list};
 ghost use Rattle.rule_table.specs.Rows.{IsInstance};
-ghost use Rattle.rule_table.specs.Rules.{width};
+ghost use Rattle.rule_table.specs.Rules.{body_of, used_of, width};
 ghost use Rattle.sequent_core.specs.Trees.{IsFresh};
-ghost use Rattle.rule_making.specs.Make.{Answers, FitsAt, needing, instance_for, same_goal};
-ghost use Rattle.rule_making.specs.Private.{AnswersOver, FindsRule, GivesBody, IsMetBy, TestsBody};
+ghost use Rattle.rule_making.specs.Make.{Answers, FitsAt, needing, instance_for, rule_of, same_goal};
+ghost use Rattle.rule_making.specs.Private.{AnswersOver, FindsRule, GivesBody, IsMetBy, KeepsWhere, TestsBody};
 
 use crate::fault::RuleFault;
 use crate::hint::{first_taken, has_places, replaced_types};
@@ -68,7 +68,7 @@ fn make_from(
     ensures { FindsRule sequent.now kind main.now result }
 {
     let body = body_for(alloc, &kind, main)?;
-    tested(alloc, kind, body, sequent)
+    tested(alloc, without_names(alloc, kind, body), sequent)
 }
 
 /// What a rule of a kind for main formulas needs and leaves.
@@ -162,25 +162,53 @@ fn same_hyps(xs: &[Formula], ys: &[Formula]) -> bool
     true
 }
 
-/// The rule of a kind with what it needs and leaves, where it is one and applies to the sequent.
-fn tested(alloc: Global, kind: RuleKind, body: Body, sequent: &Sequent) -> Result<Rule, RuleFault>
-    requires { IsInstance kind body }
-    ensures { TestsBody sequent.now kind body result }
+/// A rule of a kind with what it needs and leaves, without names.
+fn without_names(alloc: Global, kind: RuleKind, body: Body) -> Rule
+    ensures kind { result.kind ≡ kind }
+    ensures body { body_of result ≡ body }
 {
-    let mut rule = Rule {
+    Rule {
         kind,
         needed_goal: body.goal,
         needed_hyps: body.hyps,
         used: List::of(Vec::new(alloc)),
         antecedents: body.antecedents,
-    };
+    }
+}
+
+/// The rule, where with the names that it asks for it is one of the table and applies to the sequent.
+#[tactic(auto, using(crate::proofs::Tested::laws))]
+fn tested(alloc: Global, rule: Rule, sequent: &Sequent) -> Result<Rule, RuleFault>
+    requires { IsInstance rule.kind (body_of rule) }
+    ensures { TestsBody sequent.now rule.kind (body_of rule) result }
+{
     if !is_small(&rule) {
         return Err(RuleFault::TooLarge);
     }
-    let Some(used) = used_if_sound(alloc, &rule)? else {
-        return Err(RuleFault::NoForm);
-    };
-    rule.used = used;
+    match used_if_sound(alloc, &rule)? {
+        Some(used) => if_applies(with_names(rule, used), sequent),
+        None => Err(RuleFault::NoForm),
+    }
+}
+
+/// The rule with the names that it asks for.
+fn with_names(rule: Rule, used: List<(Name, Ty)>) -> Rule
+    requires { used ≡ used_of rule.kind (body_of rule) }
+    ensures { result ≡ rule_of rule.kind (body_of rule) }
+{
+    Rule {
+        kind: rule.kind,
+        needed_goal: rule.needed_goal,
+        needed_hyps: rule.needed_hyps,
+        used,
+        antecedents: rule.antecedents,
+    }
+}
+
+/// The rule, where it applies to the sequent.
+fn if_applies(rule: Rule, sequent: &Sequent) -> Result<Rule, RuleFault>
+    ensures { KeepsWhere (IsMetBy sequent.now rule) rule result }
+{
     if applies(&rule, sequent) {
         Ok(rule)
     } else {
