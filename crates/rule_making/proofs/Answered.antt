@@ -1,8 +1,11 @@
 -- What is answered, from what was found.
-use Rattle.std.proofs.Common.{◌≡◌, ◌∙◌, ◌⊎◌, inl, inr, sym, ap, subst, ℕ, ℤ, List, [], Option, Some, None, Result, Ok, Err, is_none, IsTrue, if◌then◌else◌}
-use Rattle.std.specs.Prelude.{IfOk}
+use Rattle.std.proofs.Common.{◌≡◌, ◌∙◌, ◌⊎◌, inl, inr, sym, ap, refl, subst, ℕ, ℤ, Bool, true, false, List, [], Option, Some, None, Result, Ok, Err, is_none, IsTrue, if◌then◌else◌}
+use Rattle.std.specs.Prelude.{IfOk, IsErrAnd, MatchOption}
+use Rattle.std.proofs.lemmas.Result.{err_from_is_err_and}
 use Rattle.std.specs.Option.{option_map, option_and_then, option_or}
 use Rattle.formula_core.specs.declared.formula.Formula.{Formula}
+use Rattle.formula_core.specs.declared.raw.Raw.{Raw}
+use Rattle.formula_core.specs.declared.ty.Ty.{Ty}
 use Rattle.rule_table.specs.declared.rule.Rule.{Rule}
 use Rattle.rule_table.specs.declared.rule.Body.{Body}
 use Rattle.rule_table.specs.declared.rule.Main.{Main}
@@ -14,6 +17,10 @@ use Rattle.rule_making.specs.declared.fault.RuleFault.{RuleFault}
 use Rattle.rule_making.specs.declared.fault.RuleFault.TheVariants as fault
 use Rattle.rule_making.specs.Make.{Answers, AreTerms, FitsAt, IsNamed, body_for, first_taken, has_places, instance_for, kind_of, main_for, replaced_types, rule_of, unfit, width_for}
 use Rattle.rule_making.specs.Private.{AnswersOver, FindsRule, GivesBody, TestsBody}
+
+-- the exit of a `?`
+pub exit_with : {X : Type 0} (P : Result X RuleFault → Type 0) (r : Result X RuleFault) (e : RuleFault) → IsErrAnd r (λ d. d ≡ e) → P (Err e) → P r
+exit_with P r e h p = let w = err_from_is_err_and r h in subst P (sym w.1) (subst (λ d. P (Err d)) (sym w.2) p)
 
 -- the first reason, of the three
 abbrev reason : Option (List ℕ) → Option (ℤ × ℤ) → Option Body → Option RuleFault
@@ -79,8 +86,9 @@ module _ (n : ℕ) (h : Hint) (terms : List Formula) (s : Sequent) where
       | inr w ↦ made w.0 r w.1 w.2
     ]
 
-  pub no_memory_over : (f : RuleFault) → f ≡ fault.OutOfMemory → AnswersOver n h terms s (Err f)
-  no_memory_over f e = subst (λ f. AnswersOver n h terms s (Err f)) (sym e) tt
+  pub finds_main : (o : Option RuleKind) (k : RuleKind) (m : Main) (r : Result Rule RuleFault) → first_taken s.env [] h.names ≡ None → o ≡ kind_of n h terms → o ≡ Some k
+      → m ≡ main_for n h terms s → FindsRule s k m r → AnswersOver n h terms s r
+  finds_main o k m r fresh e f g is = finds_over k fresh (sym e ∙ f) r (subst (λ x. FindsRule s k x r) g is)
 
   pub answers_over : (r : Result Rule RuleFault) → IsTrue (has_places n h s) → AreTerms s.env (replaced_types n h s) h.terms terms
       → AnswersOver n h terms s r → Answers n h s r
@@ -93,9 +101,34 @@ module _ (n : ℕ) (h : Hint) (terms : List Formula) (s : Sequent) where
   answers_over (Err fault.TooLarge) p t a = (p, terms, t, a)
   answers_over (Err fault.OutOfMemory) p t a = tt
 
+at_some : {X : Type 0} (o : Option X) (x : X) (A : Type 0) (B : X → Type 0) → o ≡ Some x → MatchOption o A B → B x
+at_some None x A B e m = absurd (cc)
+at_some (Some y) x A B e m = subst B (some_is y x e) m where
+  some_is : {X : Type 0} (a b : X) → Some a ≡ Some b → a ≡ b
+  some_is a b e = cc
+
+at_none : {X : Type 0} (o : Option X) (A : Type 0) (B : X → Type 0) → o ≡ None → MatchOption o A B → A
+at_none None A B e m = m
+at_none (Some x) A B e m = absurd (cc)
+
 module _ (n : ℕ) (h : Hint) (s : Sequent) where
-  pub no_memory : (f : RuleFault) → f ≡ fault.OutOfMemory → Answers n h s (Err f)
-  no_memory f e = subst (λ f. Answers n h s (Err f)) (sym e) tt
+  -- what is typed, with the types that are replaced
+  abbrev TypedTerms : List Ty → List Raw → Option (List Formula) → Type 0
+  TypedTerms types raws o = MatchOption o ((terms : List Formula) → AreTerms s.env types raws terms → ⊥) (λ terms. AreTerms s.env types raws terms)
+
+  at_hint : (types : List Ty) (raws : List Raw) (o : Option (List Formula)) → types ≡ replaced_types n h s → raws ≡ h.terms → TypedTerms types raws o
+      → TypedTerms (replaced_types n h s) h.terms o
+  at_hint types raws o f g m = subst (λ x. TypedTerms x h.terms o) f (subst (λ x. TypedTerms types x o) g m)
+
+  pub bad_term : (b : Bool) (types : List Ty) (raws : List Raw) (o : Option (List Formula)) → b ≡ has_places n h s → b ≡ true → types ≡ replaced_types n h s
+      → raws ≡ h.terms → o ≡ None → TypedTerms types raws o → Answers n h s (Err fault.BadTerm)
+  bad_term b types raws o e t f g is m = (subst IsTrue e t, at_none o _ _ is (at_hint types raws o f g m))
+
+  pub with_terms : (b : Bool) (types : List Ty) (raws : List Raw) (o : Option (List Formula)) (terms parts : List Formula) (r : Result Rule RuleFault)
+      → b ≡ has_places n h s → b ≡ true → types ≡ replaced_types n h s → raws ≡ h.terms → o ≡ Some terms → parts ≡ terms → TypedTerms types raws o
+      → AnswersOver n h parts s r → Answers n h s r
+  with_terms b types raws o terms parts r e t f g is same m a =
+      answers_over n h terms s r (subst IsTrue e t) (at_some o terms _ _ is (at_hint types raws o f g m)) (subst (λ x. AnswersOver n h x s r) same a)
 
   pub over_fits : (terms : List Formula) (r : Result Rule RuleFault) → AnswersOver n h terms s r → IfOk r (λ x. FitsAt x s)
   over_fits terms (Ok r) a = a.4

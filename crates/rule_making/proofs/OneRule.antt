@@ -1,5 +1,5 @@
 -- Two answers are the same, where there is memory.
-use Rattle.std.proofs.Common.{◌≡◌, ◌∙◌, ◌⊎◌, inl, inr, sym, ap, subst, ℕ, List, [], ◌∷◌, Bool, true, false, Option, Some, None, Result, Ok, Err, IsTrue}
+use Rattle.std.proofs.Common.{◌≡◌, ◌∙◌, ◌⊎◌, inl, inr, sym, ap, refl, subst, ℕ, List, [], ◌∷◌, Bool, true, false, Option, Some, None, Result, Ok, Err, IsTrue}
 use Rattle.formula_core.specs.declared.formula.Formula.{Formula}
 use Rattle.formula_core.specs.declared.raw.Raw.{Raw}
 use Rattle.formula_core.specs.declared.ty.Ty.{Ty}
@@ -130,7 +130,7 @@ module _ (n : ℕ) (h : Hint) (s : Sequent) where
 
   no_places : (b : Bool) → b ≡ false → IsTrue b → ⊥
   no_places true e t = absurd (cc)
-  no_places false e t = t
+  no_places false e t = absurd (cc)
 
   one_of_parts : (x y : Result Rule RuleFault) → Parts x → Parts y → x ≡ y
   one_of_parts x y p q = elim p [

@@ -47,7 +47,8 @@ fn make_with(
     ensures { AnswersOver number hint.now terms.now sequent.now result }
 {
     if let Some(name) = first_taken(&sequent.env, hint.names.items()) {
-        return Err(RuleFault::NotFresh(name.copy(alloc)?));
+        let name = name.copy(alloc)?;
+        return Err(RuleFault::NotFresh(name));
     }
     match kind_of(alloc, number, hint, terms)? {
         Some(kind) => {
@@ -177,7 +178,6 @@ fn without_names(alloc: Global, kind: RuleKind, body: Body) -> Rule
 }
 
 /// The rule, where with the names that it asks for it is one of the table and applies to the sequent.
-#[tactic(auto, using(crate::proofs::Tested::laws))]
 fn tested(alloc: Global, rule: Rule, sequent: &Sequent) -> Result<Rule, RuleFault>
     requires { IsInstance rule.kind (body_of rule) }
     ensures { TestsBody sequent.now rule.kind (body_of rule) result }
