@@ -7,9 +7,6 @@ use Rattle.rule_making.proofs.making.body_for.Goals as goal
 pub returns-in_err-m : goal.returns-in_err-m
 returns-in_err-m c = exit_with (GivesBody c.args.kind.now c.args.main.now) c.from_residual.result fault.OutOfMemory c.from_residual.ensures.1 tt
 
-pub returns-in-Some : goal.returns-in-Some
-returns-in-Some c = sym c.in_ok-m.ensures ∙ c.in-Some.is
-
 pub returns-in_err-body : goal.returns-in_err-body
 returns-in_err-body c = exit_with (GivesBody c.args.kind.now c.args.main.now) c.from_residual-in_err-body.result fault.OutOfMemory c.from_residual-in_err-body.ensures.1 tt
 

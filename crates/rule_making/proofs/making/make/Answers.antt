@@ -18,13 +18,13 @@ returns-in_err-terms-clause-fits c =
 
 pub returns-in-Some-clause-answer : goal.returns-in-Some-clause-answer
 returns-in-Some-clause-answer c =
-    with_terms c.args.kind c.args.hint.now c.args.sequent.now c.has_places.result c.replaced_types.result.now c.items.result.now c.in_ok-terms.field-0 c.in-Some.terms c.items-2.result.now c.make_with.result
-    c.has_places.ensures c.if-not-has_places.false c.replaced_types.ensures c.items.ensures c.in-Some.is c.items-2.ensures c.in_ok-terms.ensures c.make_with.ensures
+    with_terms c.args.kind c.args.hint.now c.args.sequent.now c.has_places.result c.replaced_types-types.result.now c.items.result.now c.in_ok-terms.field-0 c.in-Some.terms c.items-in-Some.result.now c.make_with.result
+    c.has_places.ensures c.if-not-has_places.false c.replaced_types-types.ensures c.items.ensures c.in-Some.is c.items-in-Some.ensures c.in_ok-terms.ensures c.make_with.ensures
 
 pub returns-in-Some-clause-fits : goal.returns-in-Some-clause-fits
-returns-in-Some-clause-fits c = over_fits c.args.kind c.args.hint.now c.args.sequent.now c.items-2.result.now c.make_with.result c.make_with.ensures
+returns-in-Some-clause-fits c = over_fits c.args.kind c.args.hint.now c.args.sequent.now c.items-in-Some.result.now c.make_with.result c.make_with.ensures
 
 pub returns-in-None-clause-answer : goal.returns-in-None-clause-answer
 returns-in-None-clause-answer c =
-    bad_term c.args.kind c.args.hint.now c.args.sequent.now c.has_places.result c.replaced_types.result.now c.items.result.now c.in_ok-terms.field-0
-    c.has_places.ensures c.if-not-has_places.false c.replaced_types.ensures c.items.ensures c.in-None.is c.in_ok-terms.ensures
+    bad_term c.args.kind c.args.hint.now c.args.sequent.now c.has_places.result c.replaced_types-types.result.now c.items.result.now c.in_ok-terms.field-0
+    c.has_places.ensures c.if-not-has_places.false c.replaced_types-types.ensures c.items.ensures c.in-None.is c.in_ok-terms.ensures

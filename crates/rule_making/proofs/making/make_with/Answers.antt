@@ -25,8 +25,8 @@ returns-in_err-main-in-Some-2 c =
 
 pub returns-in_ok-main-in-Some-2 : goal.returns-in_ok-main-in-Some-2
 returns-in_ok-main-in-Some-2 c =
-    finds_main c.args.number c.args.hint.now c.args.terms.now c.args.sequent.now c.in_ok-kind.field-0 c.in-Some-2.kind c.in_ok-main.main c.make_from.result
-    (sym (c.first_taken.ensures ∙ ap (first_taken c.args.sequent.now.env []) c.items.ensures) ∙ ap option_copied c.in_default.is) c.in_ok-kind.ensures c.in-Some-2.is c.in_ok-main.ensures c.make_from.ensures
+    finds_main c.args.number c.args.hint.now c.args.terms.now c.args.sequent.now c.in_ok-kind.field-0 c.in-Some-2.kind c.in_ok-main-in-Some-2.main c.make_from.result
+    (sym (c.first_taken.ensures ∙ ap (first_taken c.args.sequent.now.env []) c.items.ensures) ∙ ap option_copied c.in_default.is) c.in_ok-kind.ensures c.in-Some-2.is c.in_ok-main-in-Some-2.ensures c.make_from.ensures
 
 pub returns-in-None : goal.returns-in-None
 returns-in-None c =
