@@ -7,7 +7,6 @@ use Rattle.std.proofs.lemmas.List.{append-nil}
 use Rattle.sequent_core.specs.declared.sequent.Obligation.{Obligation}
 use Rattle.model_core.specs.declared.component.RawComponent.{RawComponent}
 use Rattle.model_core.specs.declared.checked.Checked.{Checked}
-use Rattle.model_core.specs.declared.checked.CheckedMachine.{CheckedMachine}
 use Rattle.check_rules.specs.Contexts.{Outcome}
 use Rattle.static_check.specs.Settling.{own_name}
 use Rattle.po_rules.specs.Gathering.{Gathered, nodes_of, with_one, gathered, table_nodes, table_limit}
@@ -16,7 +15,7 @@ use Rattle.po_rules.specs.Tables.{obligations_of}
 use Rattle.build_core.specs.declared.owns.Own.{Own}
 use Rattle.build_core.specs.Projects.{Project, has_text}
 use Rattle.build_core.specs.Tables.{refined_in, counted_nodes}
-use Rattle.build_core.specs.Private.{Outcomes, found, Sets, abstraction_in, own_list, AreMade, IsOwn, OwnFrom, AreOwn, OwnsOf, HaveOwns, HaveComponents, PassesAt}
+use Rattle.build_core.specs.Private.{Outcomes, found, Sets, abstraction_in, IsOwn, OwnFrom, AreOwn, OwnsOf, HaveOwns, HaveComponents, PassesAt}
 use Rattle.build_core.proofs.Found.{set_cases, named_one}
 use Rattle.build_core.proofs.Limits.{table_cons, all_fit}
 
@@ -92,11 +91,6 @@ pub gathered_made : (n : ℕ) (list : List Obligation) (g : Gathered) → n ≤ 
 gathered_made n list g few is fits =
     let all = all_fit (gathering.behind n) list few (subst (λ (h : Gathered). h.nodes ≤ table_limit) is fits) in
     (ap (λ (h : Gathered). h.obligations) is ∙ all.0, ap (λ (h : Gathered). h.nodes) is ∙ all.1)
-
--- the same obligations, shared
-pub shared_made : (checked : Checked) (abstraction : Option CheckedMachine) (one other : Own) → AreMade checked abstraction one → own_list other ≡ own_list one → other.nodes ≡ one.nodes →
-    AreMade checked abstraction other
-shared_made checked abstraction one other made list nodes = (list ∙ made.0, nodes ∙ made.1 ∙ ap table_nodes (sym list))
 
 -- what is found
 pub if_found : {X : Type 0} (P : X → Type 0) (o : Option X) → ((x : X) → o ≡ Some x → P x) → IfSome o P

@@ -6,10 +6,6 @@ use Rattle.std.proofs.lemmas.Bool.Decides.{Decides-ltb}
 use Rattle.sequent_core.specs.declared.sequent.Obligation.{Obligation}
 use Rattle.po_rules.specs.Gathering.{Gathered, nodes_of, table_nodes, table_limit, with_one, gathered}
 
-pub gathered_more : (g : Gathered) (xs ys : List Obligation) → gathered (gathered g xs) ys ≡ gathered g (xs ++ ys)
-gathered_more g [] ys = refl
-gathered_more g (x ∷ xs) ys = gathered_more (with_one g x) xs ys
-
 -- with the comparisons laid out
 abbrev one_by : Bool → Bool → Gathered → Obligation → Gathered
 one_by a b g o =

@@ -1,6 +1,5 @@
 -- How many steps are taken.
 use Rattle.std.proofs.Common.{◌≡◌, ◌∙◌, inl, inr, sym, ap, subst, refl, ℕ, zero, suc, ◌<◌, ◌≤◌, ◌+◌, Bool, true, false, List, [], ◌∷◌, ◌++◌, bytes_eq, arith, length, take, get_or}
-use Rattle.std.specs.Prelude.{Ok, Err}
 use Rattle.std.specs.List.{Contains, AllByRecursion, IsDistinct}
 use Rattle.std.specs.Map.{keys_of}
 use Rattle.std.proofs.lemmas.List.{length-map}
@@ -9,12 +8,10 @@ use Rattle.std.proofs.lemmas.Cmp.{nat_list_eq_equiv}
 use Rattle.model_core.proofs.Firsts.{taken_more}
 use Rattle.model_core.specs.Each.{is_among}
 use Rattle.model_core.specs.declared.component.RawComponent.{RawComponent}
-use Rattle.model_core.specs.declared.checked.Checked.{Checked}
-use Rattle.model_core.specs.declared.fault.Fault.{Fault}
 use Rattle.static_check.specs.Settling.{own_name, ReferencesFirst}
 use Rattle.build_core.specs.Moved.{IsMoved, HasFewSteps}
 use Rattle.build_core.specs.Projects.{Project}
-use Rattle.build_core.specs.Private.{Outcomes, AreRead, AreSet, ConcludesIn, IsJudged, IsBegun, AreSteady, IsStepFor}
+use Rattle.build_core.specs.Private.{Outcomes, AreSet, ConcludesIn, IsJudged, IsBegun, AreSteady, IsStepFor}
 use Rattle.build_core.proofs.Found.{same, itself, or_first, or_second, among_first, among_before, among_here}
 use Rattle.build_core.proofs.Rounds.{unequal}
 use Rattle.build_core.proofs.Concluding.{Sound, sound_now}
@@ -140,15 +137,3 @@ few_components new before behind few =
       | inl here ↦ subst (λ m. is_among (keys_of new) m ≡ true) here (among_keys new n all.0.0 all.0.1)
       | inr more ↦ there q moved all.1 more
     ]
-
--- before the first component
-pub steady_at_first : (was start : Outcomes) (project : Project) (components : List RawComponent) → AreRead project components start → AreSteady was start []
-steady_at_first was start project components read = record {
-  same = λ name e. absurd (untrue e);
-  other = λ name checked e f. let g = read.faulted name (Ok checked) e in absurd (never checked g.1 g.4);
-} where
-  untrue : false ≡ true → ⊥
-  untrue e = cc
-
-  never : (checked : Checked) (fault : Fault) → Ok checked ≡ Err fault → ⊥
-  never checked fault e = cc

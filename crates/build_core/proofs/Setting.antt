@@ -1,10 +1,7 @@
 -- Outcomes that are set one after another.
-use Rattle.std.proofs.Common.{◌≡◌, ◌∙◌, sym, ap, subst, refl, ℕ, zero, suc, ◌<◌, ◌≤◌, ◌+◌, true, ◌||◌, List, [], ◌∷◌, ◌++◌, Some, None, map, length, take, get_or, bytes_eq, arith}
+use Rattle.std.proofs.Common.{◌≡◌, ◌∙◌, sym, ap, subst, refl, ℕ, zero, suc, ◌<◌, ◌+◌, true, List, [], ◌∷◌, ◌++◌, Some, None, length, take, get_or, bytes_eq, arith}
 use Rattle.std.specs.Prelude.{Err, MatchOption}
 use Rattle.std.specs.List.{Contains}
-use Rattle.std.proofs.lemmas.List.{length-map}
-use Rattle.std.proofs.lemmas.Map.Made.{length-le_from_is_member}
-use Rattle.std.proofs.lemmas.Cmp.{nat_list_eq_equiv}
 use Rattle.model_core.proofs.Firsts.{taken_more}
 use Rattle.model_core.specs.Components.{heading}
 use Rattle.model_core.specs.Each.{is_among}
@@ -76,15 +73,3 @@ module _ (components : List RawComponent) (order : Order) (is_order : IsComponen
       by : IsSettled components name → has components name ≡ true
       by (zero, h) = absurd h
       by (suc k, h) = subst (λ n. has components n ≡ true) h.2 (has_own components h.0 h.1)
-
-  pub cyclic_names : HaveNames components order.cyclic
-  cyclic_names name among = ((is_order.cyclic name).0 among).0
-
-  any_map : (name : List ℕ) (cs : List RawComponent) → has cs name ≡ is_among (map own_name cs) name
-  any_map name [] = refl
-  any_map name (c ∷ cs) = ap (λ b. bytes_eq name (own_name c) || b) (any_map name cs)
-
-  pub few_sorted : length order.sorted ≤ length components
-  few_sorted =
-      let within = length-le_from_is_member nat_list_eq_equiv order.sorted (map own_name components) is_order.once (λ q e. sym (any_map q components) ∙ sorted_names q e) in
-      omega (arith, within, length-map components own_name)

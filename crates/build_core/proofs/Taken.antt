@@ -372,10 +372,3 @@ module _ (old : Project) (was : Outcomes) (judged : IsJudged old was) (new : Pro
   stands_still now steady none outcome e =
       taken_over old was judged c now kept steady before_there.0 before_there.1 before_there.2
       (and_second (are_same (found old (own_name c)) (found new (own_name c))) (all_kept kept c) stands) none outcome e
-
--- the same outcome, kept
-pub kept_steady : (before : Option Outcome) (outcome : Outcome) (kept : Bool) → before ≡ Some outcome → kept ≡ true → IsSteady before outcome kept
-kept_steady before outcome kept e t = record { same = λ f. e; other = λ checked f g. absurd (never (sym t ∙ g)) }
-  where
-    never : true ≡ false → ⊥
-    never h = cc

@@ -84,7 +84,8 @@ pub fn stands(
     kept: &BTreeMap<Name, bool>,
     raw: &RawComponent,
 ) -> bool
-    ensures { result ≡ (are_same (found before.now.entries (own_name raw.now)) (found texts.now.entries (own_name raw.now))
+    ensures { result ≡
+        (are_same (found before.now.entries (own_name raw.now)) (found texts.now.entries (own_name raw.now))
         && all_kept kept.now.entries raw.now) }
 {
     has_same_text(before, texts, &raw.heading().name) && all_kept(kept, raw)

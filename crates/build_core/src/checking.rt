@@ -350,7 +350,8 @@ pub fn judge<L: Ledger>(
 ) -> Result<Judged, OutOfMemory>
     requires small { AllByRecursion (λ entry. length entry.1 ≤ 65536) texts.now.entries }
     requires before { IsJudged before.now.texts.now.entries before.now.outcomes.now }
-    ensures judged { IfOk result (λ judged. AreJudged texts.now.entries judged.components.items judged.progress.outcomes) }
+    ensures judged { IfOk result (λ judged.
+        AreJudged texts.now.entries judged.components.items judged.progress.outcomes) }
     ensures index { IfOk result (λ judged. IsIndex judged.components.items judged.index.entries) }
     ensures steady { IfOk result (λ judged.
         AreSteady before.now.outcomes.now judged.progress.outcomes judged.progress.kept.entries) }

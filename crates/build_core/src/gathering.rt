@@ -122,7 +122,8 @@ fn make_own(
     })
 }
 
-/// The obligations of a component without fault: those of before where they stand and are within the limit, or new ones.
+/// The obligations of a component without fault: those of before where they stand and are within the limit, or new
+/// ones.
 fn take_or_make(
     alloc: Global,
     kept: Option<&Own>,
