@@ -1,18 +1,16 @@
 //! Projects, cut into components and built.
-ghost use Rattle.std.specs.Prelude.{◌≡◌, IfSome};
+ghost use Rattle.std.specs.Prelude.{◌≡◌, ◌<◌, IfSome};
+ghost use Rattle.build_core.specs.Projects.{IsBuildable};
 
+use crate::rebuilt::add_rebuilt;
 use crate::sequents::add_sequent;
-use check_input::{InputError, parts_of};
-use formula_core::{Name, Text};
-use status_core::{Core, Durable};
+use crate::texts::{are_buildable, texts_of};
+use build_core::Builder;
+use formula_core::{Name, Steps, Text};
 use std::alloc::Global;
 use std::collections::BTreeMap;
-
-/// The most bytes of a project here.
-const MOST: usize = 65_536;
-
-/// The most obligations of a project that are shown.
-const SHOWN: u32 = 1_000;
+use std::marker::Brand;
+use std::sync::ledger::{Blank, Ledger};
 
 /// Adds the title of a project and what it is built to. None where memory ran out.
 pub fn answer(alloc: Global, title: &str, text: &str, out: &mut String) -> Option<()> {
@@ -20,50 +18,43 @@ pub fn answer(alloc: Global, title: &str, text: &str, out: &mut String) -> Optio
         return Some(());
     }
     writeln!(out, "{title}").ok()?;
-    if text.len() > MOST {
-        return out.push_str("too long\n").ok();
+    if let Some((before, behind)) = text.split_once("## then\n") {
+        return add_rebuilt(alloc, title.ends_with(" often"), before, behind, out);
     }
-    match parts_of(alloc, text.as_bytes()) {
-        Ok(parts) => add_parts(alloc, title.ends_with(" names"), parts, out),
-        Err(InputError::Fault(_)) => out.push_str("no project\n").ok(),
-        Err(InputError::OutOfMemory) => None,
-    }
-}
-
-fn add_parts(
-    alloc: Global,
-    names_alone: bool,
-    parts: Vec<(Name, Text)>,
-    out: &mut String,
-) -> Option<()> {
-    let mut texts = BTreeMap::new(alloc);
-    for (name, text) in parts {
-        texts.insert(name, text).ok()?;
-    }
-    let core = built(alloc, &texts)?;
-    add_told(&core, out)?;
-    if names_alone {
-        add_names(&core, out)
-    } else {
-        add_obligations(alloc, core, out)
+    match texts_of(alloc, text)? {
+        Some(texts) if are_buildable(&texts) => {
+            let builder = built::<Brand>(alloc, &texts, Blank::new(1))?;
+            add_built(alloc, title.ends_with(" names"), &builder, out)
+        }
+        _ => out.push_str("no project\n").ok(),
     }
 }
 
-fn built(alloc: Global, texts: &BTreeMap<Name, Text>) -> Option<Core>
-    ensures { IfSome result (λ core. core.next ≡ 1) }
+// Builds from nothing, with a counter of steps that nobody reads.
+fn built<L: Ledger>(alloc: Global, texts: &BTreeMap<Name, Text>, blank: Blank) -> Option<Builder>
+    requires small { IsBuildable texts.now.entries }
+    requires name { blank.name ≡ L.name }
+    requires parts { blank.parts ≡ L.parts }
+    requires some { 0 < blank.parts }
 {
-    let mut core = Core::start(alloc, Durable::empty(alloc)).ok()?;
-    for (name, text) in texts {
-        core.edit(name, text).ok()?;
+    let mut steps = Steps::<L>::open(blank);
+    Builder::new(alloc, texts, &mut steps).ok()
+}
+
+fn add_built(alloc: Global, names_alone: bool, builder: &Builder, out: &mut String) -> Option<()> {
+    add_told(builder, out)?;
+    for obligation in builder.table() {
+        writeln!(out, "{}", obligation.name.as_text()).ok()?;
+        if !names_alone {
+            add_sequent(alloc, &obligation.sequent, out).ok()?;
+        }
     }
-    core.build().ok()?;
-    Some(core)
+    Some(())
 }
 
 // Adds faults and warnings.
-fn add_told(core: &Core, out: &mut String) -> Option<()> {
-    let (faults, warnings) = core.faults().ok()?;
-    for told in faults.items() {
+fn add_told(builder: &Builder, out: &mut String) -> Option<()> {
+    for told in builder.faults() {
         let component = told.fault.component.as_text();
         let kind = told.fault.kind.number();
         writeln!(
@@ -73,7 +64,7 @@ fn add_told(core: &Core, out: &mut String) -> Option<()> {
         )
         .ok()?;
     }
-    for (machine, event) in warnings.items() {
+    for (machine, event) in builder.warnings() {
         let machine = machine.as_text();
         writeln!(
             out,
@@ -83,26 +74,4 @@ fn add_told(core: &Core, out: &mut String) -> Option<()> {
         .ok()?;
     }
     Some(())
-}
-
-fn add_names(core: &Core, out: &mut String) -> Option<()> {
-    for (name, _) in core.statuses().ok()?.items() {
-        writeln!(out, "{}", name.as_text()).ok()?;
-    }
-    Some(())
-}
-
-// Adds each obligation with its sequent: all are open, and are taken in the table's order.
-fn add_obligations(alloc: Global, core: Core, out: &mut String) -> Option<()>
-    requires { core.next ≡ 1 }
-{
-    let mut core = core;
-    for number in 0..SHOWN {
-        let Some(ticket) = core.take().ok()? else {
-            return Some(());
-        };
-        writeln!(out, "{}", ticket.name.as_text()).ok()?;
-        add_sequent(alloc, &ticket.sequent, out).ok()?;
-    }
-    out.push_str("..\n").ok()
 }
