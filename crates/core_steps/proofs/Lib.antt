@@ -1,0 +1,15 @@
+pub mod Alls
+mod Counted
+mod Decided
+mod Known
+mod Growing
+mod Late
+pub mod Lists
+pub mod NameMaps
+pub mod OneWay
+pub mod Projects
+mod Rebuilt
+mod Restoring
+mod Sorted
+pub mod SortedMaps
+mod Sorts

@@ -1,0 +1,13 @@
+pub mod Durable
+pub mod Editing
+pub mod Faults
+pub mod Laws
+pub mod Outcomes
+pub mod Private
+pub mod Proving
+pub mod Run
+pub mod State
+pub mod Status
+pub mod Step
+pub mod Table
+pub mod Tickets

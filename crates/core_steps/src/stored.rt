@@ -1,0 +1,154 @@
+// Stored proofs, with what they ask of a sequent.
+ghost use Rattle.std.specs.Prelude.{◌≡◌, ◌↔◌, IsTrue, IfOk, Some};
+ghost use Rattle.sequent_core.specs.declared.Tree.{Tree};
+ghost use Rattle.sequent_core.specs.Sequents.{IsSequent};
+ghost use Rattle.sequent_core.specs.Trees.{Applies};
+ghost use Rattle.core_steps.specs.Status.{IsTreeStatus, IsStatus, IsUnsettled, origin_of};
+ghost use Rattle.core_steps.specs.Private.{AreFactsOf, IsSettledAs};
+
+use crate::events::Status;
+use formula_core::OutOfMemory;
+use proof_deps::{Deps, fits, of};
+use proof_entries::{Origin, Proof};
+use sequent_core::{Sequent, Tree};
+use std::alloc::Global;
+use std::marker::Model;
+
+/// What is known of a tree: what it asks of a sequent, if it applies to any, and its status where it applies.
+#[derive(Drop)]
+pub struct Facts {
+    pub deps: Option<Deps>,
+    pub settled: Status,
+}
+
+/// A stored proof, with what is known of its tree. Contracts see the proof alone.
+#[derive(Drop)]
+pub struct StoredProof {
+    proof: Proof,
+    facts: Facts,
+}
+
+impl Model for StoredProof {
+    ghost use Rattle.proof_entries.specs.declared.Proof.{Proof};
+    ghost use Rattle.proof_entries.specs.contracts.proof.Proof as kept;
+
+    ghost Value = { Proof };
+
+    ghost coded = { kept.the_row.coded };
+
+    ghost use Rattle.core_steps.specs.Private.{AreFactsOf};
+
+    ghost view = { λ s. s.proof };
+
+    ghost invariant = { λ s. AreFactsOf s.proof.tree s.facts };
+}
+
+// The status of the tree wherever it applies.
+fn settled(tree: &Tree) -> Status
+    ensures { IsSettledAs tree.now result }
+{
+    if tree.is_leaf() {
+        return Status::Unattempted;
+    }
+    if !tree.is_closed() {
+        return Status::Pending;
+    }
+    if tree.is_reviewed() {
+        return Status::Reviewed;
+    }
+    Status::Discharged
+}
+
+/// What is known of the tree.
+pub fn facts_of(alloc: Global, tree: &Tree) -> Result<Facts, OutOfMemory>
+    ensures { IfOk result (λ facts. AreFactsOf tree.now facts) }
+{
+    let deps = of(alloc, tree)?;
+    Ok(Facts {
+        deps,
+        settled: settled(tree),
+    })
+}
+
+/// Whether the tree applies to the sequent.
+pub fn applies(facts: &Facts, sequent: &Sequent) -> bool
+    requires { IsSequent sequent.now }
+    ensures { (tree : Tree) → AreFactsOf tree facts.now → IsTrue result ↔ Applies tree sequent.now }
+{
+    match &facts.deps {
+        Some(deps) => fits(deps, sequent),
+        None => false,
+    }
+}
+
+/// The status of the tree for the sequent.
+pub fn status_by(facts: &Facts, sequent: &Sequent) -> Status
+    requires { IsSequent sequent.now }
+    ensures { (tree : Tree) → AreFactsOf tree facts.now → IsTreeStatus tree sequent.now result }
+{
+    if facts.settled == Status::Unattempted {
+        return Status::Unattempted;
+    }
+    if applies(facts, sequent) {
+        return facts.settled;
+    }
+    Status::Broken
+}
+
+impl StoredProof {
+    /// The proof with what is known of it.
+    pub fn of(alloc: Global, proof: Proof) -> Result<StoredProof, OutOfMemory>
+        ensures { IfOk result (λ stored. stored ≡ proof) }
+    {
+        let facts = facts_of(alloc, &proof.tree)?;
+        Ok(StoredProof { proof, facts })
+    }
+
+    /// The proof with these facts of its tree. It takes no memory.
+    pub fn with(proof: Proof, facts: Facts) -> StoredProof
+        requires { AreFactsOf proof.tree facts }
+        ensures { result ≡ proof }
+    {
+        StoredProof { proof, facts }
+    }
+
+    /// The proof.
+    pub fn proof(&self) -> &Proof
+        ensures { result.now ≡ self.now }
+    {
+        &self.proof
+    }
+
+    /// Whether the tree applies to the sequent.
+    pub fn applies(&self, sequent: &Sequent) -> bool
+        requires { IsSequent sequent.now }
+        ensures { IsTrue result ↔ Applies self.now.tree sequent.now }
+    {
+        applies(&self.facts, sequent)
+    }
+
+    /// The status of the proof for the sequent.
+    pub fn status(&self, sequent: &Sequent) -> Status
+        requires { IsSequent sequent.now }
+        ensures { IsTreeStatus self.now.tree sequent.now result }
+    {
+        status_by(&self.facts, sequent)
+    }
+
+    /// Who made the proof, unless its tree is a bare leaf.
+    pub fn origin(&self) -> Option<Origin>
+        ensures { result ≡ origin_of (Some self.now) }
+    {
+        match &self.proof.tree {
+            Tree::Leaf => None,
+            Tree::Node(_, _) => Some(self.proof.origin),
+        }
+    }
+}
+
+/// Whether a prover may be asked.
+pub fn is_unsettled(status: Status) -> bool
+    ensures { IsTrue result ↔ IsUnsettled status }
+{
+    matches!(status, Status::Unattempted | Status::Broken)
+}

@@ -1,0 +1,103 @@
+// Texts of components.
+ghost use Rattle.std.specs.Prelude.{◌≡◌, ◌<◌, IfOk, OnOk, OnErr, false};
+ghost use Rattle.std.specs.Option.{option_copied};
+ghost use Rattle.std.specs.FinMap as map;
+
+use crate::entries::{drop_from, place_of, put, put_in};
+use crate::room::Room;
+use formula_core::{Name, OutOfMemory, Text};
+use std::alloc::Global;
+use std::marker::Model;
+
+/// A map from components, in byte order.
+#[derive(Drop)]
+pub struct Texts {
+    entries: Vec<(Name, Text)>,
+}
+
+impl Model for Texts {
+    ghost use Rattle.std.specs.Prelude.{T, ℕ, List};
+    ghost use Rattle.std.specs.FinMap as map;
+    ghost use Rattle.std.specs.Coded.{coded_ℕ, coded_list};
+    ghost use Rattle.core_steps.specs.Durable.{text_cmp};
+
+    ghost Value = { map.FinMap text_cmp (List ℕ) };
+
+    ghost coded = { map.code (coded_list coded_ℕ) (coded_list coded_ℕ) };
+
+    ghost view = { λ m. map.from_sorted m.entries.items };
+
+    ghost invariant = { λ m. T (map.is_sorted text_cmp m.entries.items) };
+}
+
+impl Texts {
+    /// The empty map.
+    pub fn new(alloc: Global) -> Texts
+        ensures { result ≡ map.empty }
+    {
+        Texts {
+            entries: Vec::new(alloc),
+        }
+    }
+
+    /// How many names it has.
+    pub fn len(&self) -> usize
+        ensures { result ≡ map.len self.now }
+    {
+        self.entries.len()
+    }
+
+    /// The names with their values, in byte order.
+    pub fn entries(&self) -> &[(Name, Text)]
+        ensures { result.now ≡ map.entries self.now }
+    {
+        self.entries.as_slice()
+    }
+
+    /// The value at the name, if there is one.
+    pub fn get(&self, name: &Name) -> Option<&Text>
+        ensures { option_copied result ≡ map.get self.now name.now }
+    {
+        let place = place_of(&self.entries, name);
+        if place.is_there {
+            Some(&self.entries[place.at].1)
+        } else {
+            None
+        }
+    }
+}
+
+impl Texts {
+    /// Sets the value at the name. The map is unchanged after a refusal.
+    pub fn put(&mut self, name: Name, value: Text) -> Result<(), OutOfMemory>
+        ensures ok { OnOk result (self.new ≡ map.insert self.old name value) }
+        ensures err { OnErr result (self.new ≡ self.old) }
+    {
+        put(&mut self.entries, name, value)
+    }
+
+    /// Sets the value at the name, in room that was taken before. It takes no memory.
+    pub fn put_in(&mut self, room: Room<(Name, Text)>, name: Name, value: Text)
+        requires { map.contains_key self.old name ≡ false → map.len self.old < room }
+        ensures { self.new ≡ map.insert self.old name value }
+    {
+        put_in(&mut self.entries, room, name, value);
+    }
+
+    /// Removes the value at the name, if there is one. It takes no memory.
+    pub fn remove(&mut self, name: &Name)
+        ensures { self.new ≡ map.remove self.old name.now }
+    {
+        drop_from(&mut self.entries, name);
+    }
+
+    /// Room for a value at the name, where there is none.
+    pub fn room_for(&self, alloc: Global, name: &Name) -> Result<Room<(Name, Text)>, OutOfMemory>
+        ensures { IfOk result (λ room. map.contains_key self.now name.now ≡ false → map.len self.now < room) }
+    {
+        if self.get(name).is_some() {
+            return Ok(Room::none(alloc));
+        }
+        Room::above(alloc, self.len())
+    }
+}
