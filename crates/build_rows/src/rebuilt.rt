@@ -38,10 +38,35 @@ pub fn add_rebuilt(
         return out.push_str("no project\n").ok();
     }
     if often {
-        rebuild_often::<Brand>(alloc, &one, &other, Blank::new(1), out)
+        add_often(alloc, &one, &other, out)
     } else {
-        rebuild::<Brand>(alloc, &one, &other, Blank::new(1), out)
+        add_once(alloc, &one, &other, out)
     }
+}
+
+// Each with a counter of steps that nobody reads.
+fn add_often(
+    alloc: Global,
+    before: &BTreeMap<Name, Text>,
+    behind: &BTreeMap<Name, Text>,
+    out: &mut String,
+) -> Option<()>
+    requires before { IsBuildable before.now.entries }
+    requires behind { IsBuildable behind.now.entries }
+{
+    rebuild_often::<Brand>(alloc, before, behind, Blank::new(1), out)
+}
+
+fn add_once(
+    alloc: Global,
+    before: &BTreeMap<Name, Text>,
+    behind: &BTreeMap<Name, Text>,
+    out: &mut String,
+) -> Option<()>
+    requires before { IsBuildable before.now.entries }
+    requires behind { IsBuildable behind.now.entries }
+{
+    rebuild::<Brand>(alloc, before, behind, Blank::new(1), out)
 }
 
 fn rebuild<L: Ledger>(
