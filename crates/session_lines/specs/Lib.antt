@@ -1,0 +1,4 @@
+pub mod Commands
+pub mod Private
+pub mod Reading
+pub mod Words
