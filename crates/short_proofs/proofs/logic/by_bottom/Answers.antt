@@ -1,0 +1,19 @@
+use Rattle.std.proofs.Common.{◌≡◌, ◌∙◌, sym, ap, subst, refl, [], ◌∷◌}
+use Rattle.rule_table.specs.declared.kind.RuleKind.TheVariants as kind
+use Rattle.rule_table.specs.Rows.{adds, backward, both, forward, proves}
+use Rattle.rule_table.specs.Rules.{IsSound}
+use Rattle.rule_table.specs.Shapes.{bottom}
+use Rattle.well_defined.specs.Predicates.{top}
+use Rattle.short_proofs.proofs.Built.{short_as, sound_as}
+use Rattle.short_proofs.proofs.Forms.{bottom_sound, bottom_proof}
+use Rattle.short_proofs.proofs.logic.by_bottom.Goals as goal
+
+pub rule_of-requires : goal.rule_of-requires
+rule_of-requires c =
+    let body = (let hyps = c.in_ok-hyps.ensures.list ∙ ap (λ f. f ∷ []) c.bottom.ensures in c.forward-body.ensures.body ∙ (λ i. forward (hyps i) (c.none_left.ensures.left i))) in
+    record { sound = sound_as kind.Bot (forward (bottom ∷ []) []) c.forward-body.result (bottom_sound c.args.sequent.now c.requires.sequent c.requires.small) body }
+
+pub returns : goal.returns
+returns c =
+    let body = (let hyps = c.in_ok-hyps.ensures.list ∙ ap (λ f. f ∷ []) c.bottom.ensures in c.forward-body.ensures.body ∙ (λ i. forward (hyps i) (c.none_left.ensures.left i))) in
+    record { short = short_as c.args.sequent.now kind.Bot (forward (bottom ∷ []) []) c.forward-body.result c.in_ok-rule.rule c.alone.result (bottom_proof c.args.sequent.now c.requires.sequent c.requires.small c.requires.form) body c.in_ok-rule.ensures.rule c.alone.ensures.tree }
