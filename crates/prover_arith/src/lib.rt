@@ -1,0 +1,6 @@
+//! A prover by arithmetic.
+#![tactic(auto)]
+
+mod prover;
+
+pub use prover::ArithProver;

@@ -1,0 +1,6 @@
+//! A prover by logic.
+#![tactic(auto)]
+
+mod prover;
+
+pub use prover::PropProver;
