@@ -1,0 +1,6 @@
+//! The automatic prover.
+#![tactic(auto)]
+
+mod auto;
+
+pub use auto::AutoProver;
