@@ -1,0 +1,6 @@
+use Rattle.proof_codec.specs.Forms.{IsReadAs}
+use Rattle.proof_codec.specs.Parts.{AreItems, items_bytes}
+use Rattle.proof_codec.proofs.coded.items.Given as goal
+
+abbrev pub invariant-loop : goal.invariant-loop
+invariant-loop g l = IsReadAs (AreItems g.T.Coded.IsGood l.counter) (items_bytes g.T.Coded.bytes_of) l.fn.from l.items.items l.from

@@ -1,0 +1,10 @@
+pub mod Forms
+pub mod Numbers
+pub mod Parts
+pub mod Names
+pub mod Types
+pub mod Formulas
+pub mod Rules
+pub mod ProofTrees
+pub mod Entries
+pub mod Private
