@@ -3,7 +3,9 @@ pub mod Converging
 pub mod Faults
 pub mod Inheriting
 pub mod Merging
+pub mod OtherTypes
 pub mod Parts
+pub mod Placing
 pub mod Refining
 pub mod Sets
 pub mod Wanted

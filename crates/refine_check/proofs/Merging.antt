@@ -2,9 +2,9 @@
 use Rattle.std.proofs.Common.{◌≡◌, ◌∙◌, ◌+◌, ◌<◌, ap, refl, sym, ℕ, Bool, not, ◌||◌, List, [], ◌∷◌, map, take, length, get_or}
 use Rattle.std.specs.Prelude.{Option}
 use Rattle.std.specs.Borrow.{Bor}
+use Rattle.std.specs.BTreeMap.{BTreeMap}
 use Rattle.std.specs.List.{list_all, list_any}
 use Rattle.formula_core.specs.declared.raw.Ref.{Ref}
-use Rattle.formula_core.specs.declared.ty.Ty.{Ty}
 use Rattle.formula_core.specs.Formulas.{joined}
 use Rattle.formula_core.specs.Same.{same_actions}
 use Rattle.model_core.specs.declared.fault.Fault.{Fault}
@@ -12,35 +12,30 @@ use Rattle.model_core.specs.declared.checked.CheckedEvent.{CheckedEvent}
 use Rattle.model_core.specs.Each.{at_each, is_among}
 use Rattle.model_core.specs.Faults.{earlier, first_by_place}
 use Rattle.model_core.proofs.Firsts.{each_more, taken_more}
-use Rattle.model_core.proofs.Lists.{any_append}
 use Rattle.check_rules.specs.Visible.{names}
 use Rattle.check_rules.specs.Typed.{Entries}
 use Rattle.check_rules.specs.Refinements.{without_labels, first_actions, has_other_type, differs, merged_differ_row}
-use Rattle.refine_check.specs.Private.{found_at}
+use Rattle.refine_check.specs.declared.param_types.Known.{Known}
+use Rattle.refine_check.specs.Private.{found_at, is_other_there, HasTypesOf}
 use Rattle.refine_check.proofs.Converging.{all_map}
 use Rattle.refine_check.proofs.Faults.{both, map-append}
 
 abbrev Found : Type 0
 Found = List (Bor Ref × Bor CheckedEvent)
 
-any_before : (before : Found) (p : List ℕ × Ty) → list_any (λ b. has_other_type b.1.now.params p) before ≡ has_other_type (joined (map (λ b. b.1.params) (found_at before))) p
-any_before [] p = refl
-any_before (b ∷ before) p =
-    ap (λ r. has_other_type b.1.now.params p || r) (any_before before p)
-    ∙ sym (any_append _ b.1.now.params (joined (map (λ x. x.1.params) (found_at before))))
-
 any_same : {X : Type 0} (t u : X → Bool) → ((x : X) → t x ≡ u x) → (xs : List X) → list_any t xs ≡ list_any u xs
 any_same t u h [] = refl
 any_same t u h (x ∷ xs) = λ i. h x i || any_same t u h xs i
 
-pub differs_is : (kept : List (List ℕ)) (before : Found) (reference : Ref) (event : CheckedEvent) (params : Entries) (same all other : Bool) → params ≡ event.params →
+pub differs_is : (kept : List (List ℕ)) (before : Found) (types : BTreeMap (Bor (List ℕ)) Known) (reference : Ref) (event : CheckedEvent) (params : Entries) (same all other : Bool) →
+    HasTypesOf types (found_at before) → params ≡ event.params →
     same ≡ same_actions (first_actions (found_at before) (reference, event)) (without_labels event.actions) → all ≡ list_all (λ p. is_among kept p.0) params →
-    other ≡ list_any (λ p. list_any (λ b. has_other_type b.1.now.params p) before) params →
+    other ≡ list_any (is_other_there types) params →
     (not same || not all || other) ≡ differs kept (found_at before) (reference, event)
-differs_is kept before reference event params same all other p s a o =
+differs_is kept before types reference event params same all other h p s a o =
     let all_is : all ≡ list_all (is_among kept) (names event.params) = a ∙ sym (all_map (is_among kept) (λ x. x.0) params) ∙ ap (λ ps. list_all (is_among kept) (names ps)) p in
     let other_is : other ≡ list_any (has_other_type (joined (map (λ b. b.1.params) (found_at before)))) event.params =
-    o ∙ any_same _ _ (any_before before) params ∙ ap (list_any (has_other_type (joined (map (λ b. b.1.params) (found_at before))))) p in
+    o ∙ any_same _ _ h params ∙ ap (list_any (has_other_type (joined (map (λ b. b.1.params) (found_at before))))) p in
     λ i. not (s i) || not (all_is i) || other_is i
 
 -- one more of the merged events

@@ -1,12 +1,15 @@
 -- What only private contracts cite.
-use Rattle.std.specs.Prelude.{ℕ, Bool, not, ◌&&◌, ◌==◌, nat_le, if◌then◌else◌, List, [], ◌∷◌, ◌++◌, map, length, slice_get}
+use Rattle.std.specs.Prelude.{◌≡◌, ℕ, suc, min, Bool, true, false, not, Option, Some, None, ◌&&◌, ◌==◌, nat_le, if◌then◌else◌, List, [], ◌∷◌, ◌++◌, map, length, slice_get}
 use Rattle.std.specs.Borrow.{Bor}
-use Rattle.std.specs.BTreeSet.{BTreeSet, contains_by}
+use Rattle.std.specs.BTreeMap.{BTreeMap}
+use Rattle.std.specs.BTreeMap as tree
 use Rattle.std.specs.Cmp.Lexicographic.{slice_cmp}
 use Rattle.std.specs.List.{filter}
-use Rattle.std.specs.Option.{option_map_or}
+use Rattle.std.specs.Option.{option_and_then, option_map, option_map_or}
 use Rattle.std.specs.Ordering.{nat_cmp}
 use Rattle.formula_core.specs.declared.raw.Ref.{Ref}
+use Rattle.formula_core.specs.declared.ty.Ty.{Ty}
+use Rattle.formula_core.specs.Types.{same_type}
 use Rattle.formula_core.specs.Formulas.{joined}
 use Rattle.type_action.specs.CoreActions.{primed}
 use Rattle.model_core.specs.declared.fault.Fault.{Fault}
@@ -16,15 +19,32 @@ use Rattle.model_core.specs.declared.checked.CheckedEvent.{CheckedEvent}
 use Rattle.model_core.specs.declared.checked.CheckedMachine.{CheckedMachine}
 use Rattle.model_core.specs.Each.{at_each, is_among}
 use Rattle.model_core.specs.Faults.{fault_at}
+use Rattle.refine_check.specs.declared.param_types.Known.{Known}
+use Rattle.refine_check.specs.declared.param_types.Known.TheVariants.{One, Several}
 use Rattle.check_rules.specs.Visible.{names, entries, of_machine}
 use Rattle.check_rules.specs.Contexts.{names_of}
 use Rattle.check_rules.specs.Events.{RefinedAt, refined_at, params_inherited}
 use Rattle.check_rules.specs.Assignments.{BothEvents}
-use Rattle.check_rules.specs.Refinements.{no_abstract_events, merged_differ_row, without_labels, all_chosen, missing_witnesses, superfluous_witnesses, lost_in_own, lost_in_inherited, converges_badly}
+use Rattle.check_rules.specs.Refinements.{no_abstract_events, has_other_type, merged_differ_row, without_labels, all_chosen, missing_witnesses, superfluous_witnesses, lost_in_own, lost_in_inherited, converges_badly}
 
--- whether the set has the text
-abbrev pub has : BTreeSet (Bor (List ℕ)) → List ℕ → Bool
-has set text = contains_by (λ k. slice_cmp nat_cmp text k.now) set
+-- the first place whose element passes
+abbrev pub first_place : {X : Type 0} → (X → Bool) → List X → Option ℕ
+first_place test [] = None
+first_place test (x ∷ xs) = if test x then Some 0 else option_map suc (first_place test xs)
+
+-- the lower of two places
+abbrev pub lower : Option ℕ → Option ℕ → Option ℕ
+lower None other = other
+lower (Some one) None = Some one
+lower (Some one) (Some other) = Some (min one other)
+
+-- the place that a text has in a map
+abbrev pub place_in : BTreeMap (Bor (List ℕ)) ℕ → List ℕ → Option ℕ
+place_in places text = tree.get_by (λ k. slice_cmp nat_cmp text k.now) places
+
+-- the text at a place, if there is one
+abbrev pub text_at : List (List ℕ) → Option ℕ → Option (List ℕ)
+text_at names place = option_and_then (slice_get names) place
 
 -- the texts behind references
 abbrev pub texts : List (Bor (List ℕ)) → List (List ℕ)
@@ -61,6 +81,20 @@ needed_of abstract kept lost e = needed_params_of abstract kept e ++ map primed 
 abbrev pub found_at : List (Bor Ref × Bor CheckedEvent) → List RefinedAt
 found_at found = map (λ x. (x.0.now, x.1.now)) found
 
+-- whether a parameter of these types has another one
+abbrev pub is_other : Option Known → Ty → Bool
+is_other None t = false
+is_other (Some (One u)) t = not (same_type u.now t)
+is_other (Some Several) t = true
+
+-- whether a parameter has another type there
+abbrev pub is_other_there : BTreeMap (Bor (List ℕ)) Known → List ℕ × Ty → Bool
+is_other_there types p = is_other (tree.get_by (λ k. slice_cmp nat_cmp p.0 k.now) types) p.1
+
+-- the types are those of these events' parameters
+abbrev pub HasTypesOf : BTreeMap (Bor (List ℕ)) Known → List RefinedAt → Type 0
+HasTypesOf types before = (p : List ℕ × Ty) → is_other_there types p ≡ has_other_type (joined (map (λ b. b.1.params) before)) p
+
 abbrev pub merged_differ_of : List ℕ → List CheckedEvent → List (List ℕ) → RawEvent → List Fault
 merged_differ_of component m kept e = if nat_le 2 (length e.refines) then at_each (merged_differ_row component kept) [] (refined_at m e) else []
 
@@ -80,7 +114,3 @@ row_of component m abstract lost has_variant e =
     ++ lost_in_own component lost e.0
     ++ lost_in_inherited component lost e
     ++ bad_convergence_of component abstract has_variant e.0
-
--- the faults that a lost variable gives where these names are inherited
-abbrev pub inherited_row : List ℕ → ℕ → List (List ℕ) → List ℕ → List Fault
-inherited_row component place inherited name = map (fault_at component kind.Lost place) (filter (is_among inherited) (name ∷ []))

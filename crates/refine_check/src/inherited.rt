@@ -1,15 +1,16 @@
 //! Lost variables in what an event inherits.
 ghost use Rattle.std.specs.Prelude.{◌≡◌, ◌++◌, map, take, IfOk, OnOk};
 ghost use Rattle.formula_core.specs.Formulas.{joined};
-ghost use Rattle.model_core.specs.Faults.{first_by_place};
+ghost use Rattle.std.specs.Option.{option_map};
+ghost use Rattle.model_core.specs.declared.fault.FaultKind.TheVariants as kind;
+ghost use Rattle.model_core.specs.Faults.{first_by_place, fault_at};
 ghost use Rattle.check_rules.specs.Visible.{names};
 ghost use Rattle.check_rules.specs.Assignments.{assigned, all_assigned, free_names_of, names_on_right};
 ghost use Rattle.check_rules.specs.Refinements.{inherited_names, lost_in_inherited};
-ghost use Rattle.refine_check.specs.Private.{inherited_row};
 
 use crate::names::{Names, texts_of};
 use formula_core::{Action, Formula, Label, Name, OutOfMemory, Ty};
-use model_core::{CheckedEvent, Fault, FaultKind, Labelled, RawEvent, earlier, fault_at};
+use model_core::{CheckedEvent, Fault, FaultKind, Labelled, RawEvent, fault_at};
 use std::alloc::Global;
 
 fn inherited_guards(event: &CheckedEvent) -> &[Labelled]
@@ -152,37 +153,21 @@ fn inherited_names(alloc: Global, event: &CheckedEvent) -> Result<Vec<Name>, Out
     Ok(found)
 }
 
-fn lost_at(
+fn told_lost(
     alloc: Global,
     component: &Name,
     place: u32,
-    inherited: &Names,
-    name: &str,
+    name: Option<&str>,
 ) -> Result<Option<Fault>, OutOfMemory>
-    ensures { IfOk result (λ first. first ≡ first_by_place (inherited_row component.now place inherited.now name.now)) }
+    ensures { IfOk result (λ first. first ≡ option_map (λ n. fault_at component.now kind.Lost place n.now) name.entry) }
 {
-    if !inherited.has(name) {
-        return Ok(None);
+    match name {
+        None => Ok(None),
+        Some(name) => {
+            let here = fault_at(alloc, component, FaultKind::Lost, place, name)?;
+            Ok(Some(here))
+        }
     }
-    let here = fault_at(alloc, component, FaultKind::Lost, place, name)?;
-    Ok(Some(here))
-}
-
-fn first_lost_among(
-    alloc: Global,
-    component: &Name,
-    place: u32,
-    inherited: &Names,
-    lost: &[&str],
-) -> Result<Option<Fault>, OutOfMemory>
-    ensures { IfOk result (λ first. first ≡ first_by_place (joined (map (λ n. inherited_row component.now place inherited.now n.now) lost.now))) }
-{
-    let mut first = None;
-    for name in lost {
-        let here = lost_at(alloc, component, place, inherited, name)?;
-        first = earlier(first, here);
-    }
-    Ok(first)
 }
 
 /// The first lost variable in the inherited guards and actions of an event.
@@ -196,6 +181,7 @@ pub(crate) fn first_lost_in_inherited(
     ensures { IfOk result (λ first. first ≡ first_by_place (lost_in_inherited component.now lost.now (event.now, typed.now))) }
 {
     let names = inherited_names(alloc, typed)?;
-    let inherited = Names::of(alloc, texts_of(alloc, &names)?)?;
-    first_lost_among(alloc, component, event.name.place, &inherited, lost.list())
+    let inherited = texts_of(alloc, &names)?;
+    let first = lost.first_among(&inherited);
+    told_lost(alloc, component, event.name.place, first)
 }

@@ -7,6 +7,7 @@ mod lost;
 mod merged;
 mod names;
 mod paired;
+mod param_types;
 mod refinement;
 mod witnesses;
 

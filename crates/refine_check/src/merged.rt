@@ -1,21 +1,22 @@
 //! `merged events differ`.
-ghost use Rattle.std.specs.Prelude.{◌≡◌, ◌++◌, ◌||◌, ◌&&◌, [], not, bytes_eq, IfOk, OnOk};
-ghost use Rattle.std.specs.List.{filter_map, list_all, list_any};
+ghost use Rattle.std.specs.Prelude.{◌≡◌, ◌++◌, ◌||◌, [], not, IfOk, OnOk};
+ghost use Rattle.std.specs.List.{filter_map, list_all};
 ghost use Rattle.formula_core.specs.Same.{same_actions};
-ghost use Rattle.formula_core.specs.Types.{same_type};
 ghost use Rattle.formula_core.specs.declared.raw.Ref.{Ref as Reference};
 ghost use Rattle.model_core.specs.Each.{at_each, is_among};
 ghost use Rattle.model_core.specs.Faults.{first_by_place};
 ghost use Rattle.check_rules.specs.Visible.{names};
 ghost use Rattle.check_rules.specs.Events.{with_event};
-ghost use Rattle.check_rules.specs.Refinements.{without_labels, first_actions, has_other_type, differs, merged_differ_row};
-ghost use Rattle.refine_check.specs.Private.{found_at, merged_differ_of};
+ghost use Rattle.check_rules.specs.Refinements.{without_labels, first_actions, differs, merged_differ_row};
+ghost use Rattle.refine_check.specs.Private.{found_at, HasTypesOf, merged_differ_of};
 
 use crate::names::Names;
+use crate::param_types::{Types, has_other_there, note_types};
 use check_rules::AbstractEvents;
 use formula_core::{Name, OutOfMemory, Ref, Ty, same_labelled_actions};
 use model_core::{CheckedEvent, Fault, FaultKind, RawEvent, earlier, fault_at};
 use std::alloc::Global;
+use std::collections::BTreeMap;
 
 /// A reference of an event with the abstract event of that name.
 type Found<'r, 'e> = (&'r Ref, &'e CheckedEvent);
@@ -58,43 +59,21 @@ fn are_all_kept(kept: &Names, params: &[(Name, Ty)]) -> bool
     params.iter().all(|p| kept.has(p.0.as_text()))
 }
 
-fn has_type_of(p: &(Name, Ty), q: &(Name, Ty)) -> bool
-    ensures { result ≡ (bytes_eq q.now.0 p.now.0 && not (same_type q.now.1 p.now.1)) }
-{
-    q.0.same(&p.0) && !q.1.same(&p.1)
-}
-
-fn has_other_type(params: &[(Name, Ty)], p: &(Name, Ty)) -> bool
-    ensures { result ≡ has_other_type params.now p.now }
-{
-    params.iter().any(|q| has_type_of(p, q))
-}
-
-fn has_other_type_before(before: &[Found], p: &(Name, Ty)) -> bool
-    ensures { result ≡ list_any (λ b. has_other_type b.1.now.params p.now) before.now }
-{
-    before.iter().any(|b| has_other_type(b.1.params.items(), p))
-}
-
-fn have_other_types(before: &[Found], params: &[(Name, Ty)]) -> bool
-    ensures { result ≡ list_any (λ p. list_any (λ b. has_other_type b.1.now.params p) before.now) params.now }
-{
-    params.iter().any(|p| has_other_type_before(before, p))
-}
-
 fn is_any(same: bool, kept: bool, other: bool) -> bool
     ensures { result ≡ (not same || not kept || other) }
 {
     !same || !kept || other
 }
 
-fn differs(kept: &Names, before: &[Found], event: &CheckedEvent) -> bool
+/// Whether an event can't be merged with those before it, whose parameters have these types.
+fn differs(kept: &Names, before: &[Found], types: &Types<'_>, event: &CheckedEvent) -> bool
+    requires { HasTypesOf types.now (found_at before.now) }
     ensures { (reference : Reference) → result ≡ differs kept.now (found_at before.now) (reference, event.now) }
 {
     let params = event.params.items();
     let same = have_same_actions(before, event);
     let all_kept = are_all_kept(kept, params);
-    let other = have_other_types(before, params);
+    let other = has_other_there(types, params);
     is_any(same, all_kept, other)
 }
 
@@ -103,12 +82,14 @@ fn difference_at(
     component: &Name,
     kept: &Names,
     before: &[Found],
+    types: &Types<'_>,
     reference: &Ref,
     event: &CheckedEvent,
 ) -> Result<Option<Fault>, OutOfMemory>
+    requires { HasTypesOf types.now (found_at before.now) }
     ensures { IfOk result (λ here. here ≡ first_by_place (merged_differ_row component.now kept.now (found_at before.now) (reference.now, event.now))) }
 {
-    if !differs(kept, before, event) {
+    if !differs(kept, before, types, event) {
         return Ok(None);
     }
     let here = fault_at(
@@ -130,10 +111,13 @@ fn first_difference_of(
     ensures { IfOk result (λ first. first ≡ first_by_place (at_each (merged_differ_row component.now kept.now) [] (found_at found.now))) }
 {
     let mut first = None;
+    let mut types = BTreeMap::new(alloc);
     for at in 0..found.len() {
         let one = found[at];
-        let here = difference_at(alloc, component, kept, &found[..at], one.0, one.1)?;
+        let before = &found[..at];
+        let here = difference_at(alloc, component, kept, before, &types, one.0, one.1)?;
         first = earlier(first, here);
+        note_types(&mut types, one.1.params.items())?;
     }
     Ok(first)
 }

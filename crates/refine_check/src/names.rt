@@ -1,63 +1,97 @@
 //! Names that are looked up by their texts.
-ghost use Rattle.std.specs.Prelude.{◌≡◌, ◌++◌, IfOk, OnOk, ℕ, List};
+ghost use Rattle.std.specs.Prelude.{◌≡◌, ◌++◌, IfOk, OnOk, ℕ, List, bytes_eq};
+ghost use Rattle.std.specs.List.{filter, slice_get};
+ghost use Rattle.std.specs.Option.{option_map};
 ghost use Rattle.model_core.specs.Each.{is_among};
 ghost use Rattle.check_rules.specs.Visible.{names};
 ghost use Rattle.check_rules.specs.Contexts.{names_of};
-ghost use Rattle.refine_check.specs.Private.{has, texts};
+ghost use Rattle.refine_check.specs.Private.{first_place, lower, place_in, texts, text_at};
 
 use formula_core::{Name, OutOfMemory, Ref, Ty};
 use std::alloc::Global;
-use std::collections::BTreeSet;
+use std::collections::BTreeMap;
 use std::marker::Model;
 
-/// Names in a row, with an index by their texts.
+/// Names in a row, with the first place of each.
 #[derive(Drop)]
 pub(crate) struct Names<'a> {
     list: Vec<&'a str>,
-    index: BTreeSet<&'a str>,
+    places: BTreeMap<&'a str, usize>,
 }
 
 impl<'a> Model for Names<'a> {
-    ghost use Rattle.std.specs.Prelude.{List, ℕ, ◌≡◌};
-    ghost use Rattle.model_core.specs.Each.{is_among};
-    ghost use Rattle.refine_check.specs.Private.{has, texts};
+    ghost use Rattle.std.specs.Prelude.{List, ℕ, ◌≡◌, bytes_eq};
+    ghost use Rattle.refine_check.specs.Private.{first_place, place_in, texts};
 
     ghost Value = { List (List ℕ) };
 
     ghost view = { λ a. texts a.list.items };
 
-    ghost invariant = { λ a. (name : List ℕ) → has a.index name ≡ is_among (texts a.list.items) name };
+    ghost invariant = { λ a. (name : List ℕ) → place_in a.places name ≡ first_place (bytes_eq name) (texts a.list.items) };
 }
 
 impl<'a> Names<'a> {
     pub(crate) fn of(alloc: Global, list: Vec<&'a str>) -> Result<Names<'a>, OutOfMemory>
         ensures { IfOk result (λ names. names ≡ texts list.entry.items) }
     {
-        let index = index_of(alloc, &list)?;
-        Ok(Names { list, index })
+        let places = places_of(alloc, &list)?;
+        Ok(Names { list, places })
     }
 
     pub(crate) fn has(&self, name: &str) -> bool
         ensures { result ≡ is_among self.now name.now }
     {
-        self.index.contains(name)
+        self.places.contains_key(name)
     }
 
-    pub(crate) fn list(&self) -> &[&'a str]
-        ensures { texts result.now ≡ self.now }
+    /// The first of them that is among these names. They are looked up, so that no others are gone through.
+    pub(crate) fn first_among(&self, names: &[&str]) -> Option<&'a str>
+        ensures { option_map (λ n. n.now) result ≡ slice_get (filter (is_among (texts names.now)) self.now) 0 }
     {
-        &self.list
+        let place = place_among(&self.places, names);
+        text_at(&self.list, place)
     }
 }
 
-fn index_of<'a>(alloc: Global, list: &[&'a str]) -> Result<BTreeSet<&'a str>, OutOfMemory>
-    ensures { IfOk result (λ index. (name : List ℕ) → has index name ≡ is_among (texts list.now) name) }
+/// The lowest place that one of the names has.
+fn place_among(places: &BTreeMap<&str, usize>, names: &[&str]) -> Option<usize>
+    ensures { (list : List (List ℕ)) → ((name : List ℕ) → place_in places.now name ≡ first_place (bytes_eq name) list)
+        → result ≡ first_place (is_among (texts names.now)) list }
 {
-    let mut index = BTreeSet::new(alloc);
-    for name in list {
-        index.insert(*name)?;
+    let mut lowest = None;
+    for name in names {
+        lowest = lower(lowest, places.get(*name).copied());
     }
-    Ok(index)
+    lowest
+}
+
+fn lower(one: Option<usize>, other: Option<usize>) -> Option<usize>
+    ensures { result ≡ lower one other }
+{
+    match one {
+        None => other,
+        Some(one) => match other {
+            None => Some(one),
+            Some(other) => Some(one.min(other)),
+        },
+    }
+}
+
+fn text_at<'a>(list: &[&'a str], place: Option<usize>) -> Option<&'a str>
+    ensures { option_map (λ n. n.now) result ≡ text_at (texts list.now) place }
+{
+    list.get(place?).copied()
+}
+
+/// The first place of each name: they are noted from the last to the first.
+fn places_of<'a>(alloc: Global, list: &[&'a str]) -> Result<BTreeMap<&'a str, usize>, OutOfMemory>
+    ensures { IfOk result (λ places. (name : List ℕ) → place_in places name ≡ first_place (bytes_eq name) (texts list.now)) }
+{
+    let mut places = BTreeMap::new(alloc);
+    for place in (0..list.len()).rev() {
+        places.insert(list[place], place)?;
+    }
+    Ok(places)
 }
 
 /// The names of variables.

@@ -4,7 +4,9 @@ ghost use Rattle.std.specs.List.{filter};
 ghost use Rattle.formula_core.specs.Formulas.{joined};
 ghost use Rattle.type_action.specs.CoreActions.{primed};
 ghost use Rattle.model_core.specs.Each.{is_among};
-ghost use Rattle.model_core.specs.Faults.{first_by_place};
+ghost use Rattle.std.specs.Option.{option_map};
+ghost use Rattle.model_core.specs.declared.fault.FaultKind.TheVariants as kind;
+ghost use Rattle.model_core.specs.Faults.{first_by_place, fault_at};
 ghost use Rattle.check_rules.specs.Visible.{names};
 ghost use Rattle.check_rules.specs.Events.{params_inherited};
 ghost use Rattle.check_rules.specs.Refinements.{chosen, all_chosen, without_labels, missing_witness_row, superfluous_witness_row};
@@ -116,14 +118,17 @@ fn add_all_chosen<'a>(
 }
 
 /// The variables that the first of the refined events assigns nondeterministically.
-fn chosen_first<'a>(alloc: Global, refined: &[&'a CheckedEvent]) -> Result<Names<'a>, OutOfMemory>
-    ensures { IfOk result (λ found. found ≡ chosen_first (map (λ x. x.now) refined.now)) }
+fn chosen_first<'a>(
+    alloc: Global,
+    refined: &[&'a CheckedEvent],
+) -> Result<Vec<&'a str>, OutOfMemory>
+    ensures { IfOk result (λ found. texts found.items ≡ chosen_first (map (λ x. x.now) refined.now)) }
 {
     let mut found = Vec::new(alloc);
     if let Some(first) = refined.first() {
         add_all_chosen(first.actions.items(), &mut found)?;
     }
-    Names::of(alloc, found)
+    Ok(found)
 }
 
 fn primed(alloc: Global, name: &str) -> Result<Text, OutOfMemory>
@@ -134,37 +139,21 @@ fn primed(alloc: Global, name: &str) -> Result<Text, OutOfMemory>
     Text::of(alloc, text.as_str())
 }
 
+/// Adds the primed names of lost variables, of those that are chosen.
 fn add_primed(
     alloc: Global,
-    chosen: &Names,
-    lost: &[&str],
+    lost: &Names,
+    chosen: &[&str],
     found: &mut Vec<Text>,
 ) -> Result<(), OutOfMemory>
-    ensures { OnOk result (found.new.items ≡ found.old.items ++ map primed (filter (is_among chosen.entry.now) (texts lost.entry.now))) }
+    ensures { OnOk result (found.new.items ≡ found.old.items ++ map primed (filter (is_among lost.entry.now) (texts chosen.entry.now))) }
 {
-    for name in lost {
-        if chosen.has(name) {
+    for name in chosen {
+        if lost.has(name) {
             found.push(primed(alloc, name)?)?;
         }
     }
     Ok(())
-}
-
-/// The names that want a witness.
-fn needed(
-    alloc: Global,
-    kept: &Names,
-    lost: &Names,
-    refined: &[&CheckedEvent],
-    event: &RawEvent,
-) -> Result<Vec<Text>, OutOfMemory>
-    ensures { IfOk result (λ found. found.items ≡ needed_of (map (λ x. x.now) refined.now) kept.now lost.now event.now) }
-{
-    let mut found = Vec::new(alloc);
-    add_needed_params(alloc, kept, refined, event, &mut found)?;
-    let chosen = chosen_first(alloc, refined)?;
-    add_primed(alloc, &chosen, lost.list(), &mut found)?;
-    Ok(found)
 }
 
 fn index_of(alloc: Global, needed: &[Text]) -> Result<Names<'_>, OutOfMemory>
@@ -227,6 +216,70 @@ fn first_missing(
     Ok(first)
 }
 
+fn is_unwitnessed(alloc: Global, labels: &Names, name: &str) -> Result<bool, OutOfMemory>
+    ensures { IfOk result (λ lacking. lacking ≡ not (is_among labels.now (primed name.now))) }
+{
+    let wanted = primed(alloc, name)?;
+    Ok(!labels.has(wanted.as_text()))
+}
+
+/// Those of the variables whose primed names have no witness.
+fn unwitnessed<'a>(
+    alloc: Global,
+    labels: &Names,
+    chosen: &[&'a str],
+) -> Result<Vec<&'a str>, OutOfMemory>
+    ensures { IfOk result (λ found. texts found.items ≡ filter (λ n. not (is_among labels.now (primed n))) (texts chosen.now)) }
+{
+    let mut found = Vec::new(alloc);
+    for name in chosen {
+        if is_unwitnessed(alloc, labels, name)? {
+            found.push(*name)?;
+        }
+    }
+    Ok(found)
+}
+
+fn told_missing(
+    alloc: Global,
+    component: &Name,
+    place: u32,
+    name: Option<&str>,
+) -> Result<Option<Fault>, OutOfMemory>
+    ensures { IfOk result (λ here. here ≡ option_map (λ n. fault_at component.now kind.BadWitness place (primed n.now)) name.entry) }
+{
+    match name {
+        None => Ok(None),
+        Some(name) => {
+            let words = primed(alloc, name)?;
+            let here = fault_at(
+                alloc,
+                component,
+                FaultKind::BadWitness,
+                place,
+                words.as_text(),
+            )?;
+            Ok(Some(here))
+        }
+    }
+}
+
+/// The first lost variable, of those that are chosen, whose primed name has no witness.
+fn first_missing_primed(
+    alloc: Global,
+    component: &Name,
+    place: u32,
+    labels: &Names,
+    lost: &Names,
+    chosen: &[&str],
+) -> Result<Option<Fault>, OutOfMemory>
+    ensures { IfOk result (λ first. first ≡ first_by_place (joined (map (missing_witness_row component.now place labels.now []) (map primed (filter (is_among (texts chosen.now)) lost.now))))) }
+{
+    let without = unwitnessed(alloc, labels, chosen)?;
+    let first = lost.first_among(&without);
+    told_missing(alloc, component, place, first)
+}
+
 fn superfluous_at(
     alloc: Global,
     component: &Name,
@@ -266,23 +319,6 @@ fn first_superfluous(
     Ok(first)
 }
 
-/// The first witness of an event that is missing or superfluous.
-fn first_bad_witness_of(
-    alloc: Global,
-    component: &Name,
-    needed: &[Text],
-    event: &RawEvent,
-) -> Result<Option<Fault>, OutOfMemory>
-    ensures { IfOk result (λ first. first ≡ first_by_place (bad_witnesses_of component.now needed.now event.now)) }
-{
-    let witnesses = event.witnesses.items();
-    let labels = labels_of(alloc, witnesses)?;
-    let missing = first_missing(alloc, component, event.name.place, &labels, needed)?;
-    let index = index_of(alloc, needed)?;
-    let superfluous = first_superfluous(alloc, component, &index, witnesses)?;
-    Ok(earlier(missing, superfluous))
-}
-
 /// The first witness that an event lacks, or has and doesn't want.
 pub(crate) fn first_bad_witness(
     alloc: Global,
@@ -294,6 +330,17 @@ pub(crate) fn first_bad_witness(
 ) -> Result<Option<Fault>, OutOfMemory>
     ensures { IfOk result (λ first. first ≡ first_by_place (bad_witnesses_of component.now (needed_of (map (λ x. x.now) refined.now) kept.now lost.now event.now) event.now)) }
 {
-    let needed = needed(alloc, kept, lost, refined, event)?;
-    first_bad_witness_of(alloc, component, &needed, event)
+    let place = event.name.place;
+    let witnesses = event.witnesses.items();
+    let labels = labels_of(alloc, witnesses)?;
+    let chosen = chosen_first(alloc, refined)?;
+    let mut needed = Vec::new(alloc);
+    add_needed_params(alloc, kept, refined, event, &mut needed)?;
+    let param = first_missing(alloc, component, place, &labels, &needed)?;
+    let variable = first_missing_primed(alloc, component, place, &labels, lost, &chosen)?;
+    add_primed(alloc, lost, &chosen, &mut needed)?;
+    let index = index_of(alloc, &needed)?;
+    let superfluous = first_superfluous(alloc, component, &index, witnesses)?;
+    let missing = earlier(param, variable);
+    Ok(earlier(missing, superfluous))
 }

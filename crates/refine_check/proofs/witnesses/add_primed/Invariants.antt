@@ -6,4 +6,4 @@ use Rattle.refine_check.specs.Private.{texts}
 use Rattle.refine_check.proofs.witnesses.add_primed.Given as goal
 
 abbrev pub invariant-loop-name : goal.invariant-loop-name
-invariant-loop-name l = l.found.items ≡ l.initial.found.items ++ map primed (filter (is_among l.chosen) (texts (take l.name-index l.lost)))
+invariant-loop-name l = l.found.items ≡ l.initial.found.items ++ map primed (filter (is_among l.lost) (texts (take l.name-index l.chosen)))

@@ -1,7 +1,0 @@
-use Rattle.std.proofs.Common.{◌≡◌, ℕ, List, take}
-use Rattle.model_core.specs.Each.{is_among}
-use Rattle.refine_check.specs.Private.{has, texts}
-use Rattle.refine_check.proofs.names.index_of.Given as goal
-
-abbrev pub invariant-loop-name : goal.invariant-loop-name
-invariant-loop-name l = (name : List ℕ) → has l.index name ≡ is_among (texts (take l.name-index l.list)) name
