@@ -1,10 +1,10 @@
 -- The carrier sets of the types of a formula's identifiers are among its identifiers.
-use Rattle.std.proofs.Common.{◌≡◌, ◌∙◌, sym, subst, ℕ, ℤ, List, [], ◌∷◌, ◌++◌, map}
+use Rattle.std.proofs.Common.{◌∙◌, sym, subst, ℕ, List, [], ◌∷◌, ◌++◌, map}
 use Rattle.std.specs.Prelude.{Contains}
 use Rattle.std.specs.List.{AllByRecursion}
 use Rattle.std.proofs.lemmas.List.Elements.{All-contains, All-from_recursion, All-contains_itself, recursion_from_All, Contains-append_left, Contains-append_right}
 use Rattle.formula_core.specs.declared.Ty.{Ty}
-use Rattle.formula_core.specs.declared.Ty.TheVariants.{Given, Pow, Pair}
+use Rattle.formula_core.specs.declared.Ty.TheVariants.{Given, Pow}
 use Rattle.formula_core.specs.declared.Formula.{Formula}
 use Rattle.formula_core.specs.Formulas.{joined}
 use Rattle.formula_core.specs.Identifiers.{carriers, identifiers}

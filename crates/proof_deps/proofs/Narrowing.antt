@@ -1,8 +1,7 @@
 -- What was found of a tree, step by step.
-use Rattle.std.proofs.Common.{◌≡◌, ◌∙◌, ◌↔◌, ◌⊎◌, inl, inr, sym, ap, subst, refl, ℕ, ◌+◌, ◌<◌, suc, Bool, true, false, Option, Some, None, List, [], ◌∷◌, ◌++◌, IsTrue, take, get_or, length, IfSome, ⊎_elim, arith, min}
+use Rattle.std.proofs.Common.{◌≡◌, ◌∙◌, ◌↔◌, ◌⊎◌, inl, inr, sym, ap, subst, refl, ℕ, ◌+◌, ◌<◌, suc, Bool, false, Some, None, List, [], ◌∷◌, ◌++◌, IsTrue, take, get_or, length, IfSome, ⊎_elim, arith, min}
 use Rattle.std.specs.Prelude.{Contains}
 use Rattle.std.specs.List.{AllByRecursion}
-use Rattle.std.specs.Option.{option_or}
 use Rattle.std.proofs.lemmas.List.{take_more, take_all, length-take}
 use Rattle.formula_core.specs.declared.Formula.{Formula}
 use Rattle.formula_core.specs.declared.Ty.{Ty}

@@ -1,6 +1,6 @@
 -- When a sequent can have what was found of a tree.
-use Rattle.std.proofs.Common.{◌≡◌, ◌∙◌, ◌↔◌, ⊎_elim, sym, ap, subst, refl, ℕ, Bool, true, false, List, [], ◌∷◌, ◌++◌, map, Option, Some, None, IsTrue, IfSome, is_some}
-use Rattle.std.specs.Prelude.{Contains, bytes_eq, Result, Ok, Err, IfOk, MatchOption, if◌then◌else◌}
+use Rattle.std.proofs.Common.{◌≡◌, ◌∙◌, ◌↔◌, ⊎_elim, sym, ap, subst, refl, ℕ, Bool, true, List, [], Option, Some, None, IsTrue, IfSome, is_some}
+use Rattle.std.specs.Prelude.{Contains, Result, Ok, Err, IfOk, MatchOption, if◌then◌else◌}
 use Rattle.std.specs.List.{AllByRecursion}
 use Rattle.std.proofs.lemmas.Cmp.{nat_list_eq_equiv}
 use Rattle.std.proofs.lemmas.Map.Views.{lookup-from_Contains}
@@ -13,8 +13,8 @@ use Rattle.formula_core.specs.declared.memory.OutOfMemory.{OutOfMemory}
 use Rattle.formula_core.specs.declared.Formula.TheViews.{outs-Node}
 use Rattle.formula_core.specs.Env.{HasDistinctNames, type_in}
 use Rattle.formula_core.specs.Identifiers.{carriers, identifiers}
-use Rattle.formula_core.specs.Typed.{Stands, IsPredicateIn, IsGoodEnv}
-use Rattle.formula_core.specs.Types.{is_value_type, is_truth, is_truth_at}
+use Rattle.formula_core.specs.Typed.{Stands, IsPredicateIn}
+use Rattle.formula_core.specs.Types.{is_value_type, is_truth_at}
 use Rattle.formula_core.specs.Wellness.{type_of_step, type_of, is_well}
 use Rattle.formula_core.proofs.Equations.{identifiers-Node}
 use Rattle.formula_core.proofs.Keeping.{all_more, carriers-Truth}

@@ -1,5 +1,5 @@
 -- A tree that applies to a sequent names nothing of it but what it asks for: what its least sequent names stands there.
-use Rattle.std.proofs.Common.{◌≡◌, ◌∙◌, ◌⊎◌, ⊎_elim, sym, ap, subst, refl, ℕ, Bool, true, false, ◌||◌, List, [], ◌∷◌, ◌++◌, map, Option, Some, None, IsTrue, IfSome, pos, arith}
+use Rattle.std.proofs.Common.{◌≡◌, ◌∙◌, ⊎_elim, sym, ap, subst, refl, ℕ, Bool, true, false, ◌||◌, List, [], ◌∷◌, ◌++◌, map, Option, Some, None, IfSome, pos, arith}
 use Rattle.std.specs.Prelude.{bytes_eq, not, filter, Contains}
 use Rattle.std.specs.List.{AllByRecursion, list_any}
 use Rattle.std.specs.Option.{option_or, option_to_list}
@@ -7,16 +7,13 @@ use Rattle.std.specs.Cmp.Lexicographic.{same_text}
 use Rattle.std.proofs.lemmas.Slice.Eq.{bytes_eq-Decides}
 use Rattle.std.proofs.lemmas.List.Elements.{filter_passes, recursion_from_All, Contains-append_left, Contains-append_right, Contains-append_cases}
 use Rattle.formula_core.specs.declared.Ty.{Ty}
-use Rattle.formula_core.specs.declared.Ty.TheVariants.{Truth}
 use Rattle.formula_core.specs.declared.Formula.{Formula}
 use Rattle.formula_core.specs.declared.Formula.TheVariants.{Int}
-use Rattle.formula_core.specs.Env.{HasDistinctNames, type_in}
+use Rattle.formula_core.specs.Env.{type_in}
 use Rattle.formula_core.specs.Formulas.{same_identifier}
 use Rattle.formula_core.specs.Identifiers.{carriers, identifiers}
-use Rattle.formula_core.specs.Typed.{Stands, IsPredicateIn, IsGoodEnv}
-use Rattle.formula_core.specs.Types.{is_value_type}
-use Rattle.formula_core.specs.Wellness.{type_of}
-use Rattle.formula_core.proofs.Keeping.{front, back, both, all_more, identifiers-Int}
+use Rattle.formula_core.specs.Typed.{Stands}
+use Rattle.formula_core.proofs.Keeping.{front, back, all_more, identifiers-Int}
 use Rattle.formula_core.proofs.TypedIn.{stands_more}
 use Rattle.formula_core.proofs.Types.{same_type_exact}
 use Rattle.formula_core.proofs.Weakening.{first_true, second_true, both_true}
@@ -31,11 +28,10 @@ use Rattle.sequent_core.specs.declared.tree.Tree.TheViews.{roll-Tree, rolls-Leaf
 use Rattle.sequent_core.specs.declared.tree.Tree.TheFolds.{map-Tree, ind-Tree}
 use Rattle.sequent_core.specs.Children.{EachApplies}
 use Rattle.rule_table.specs.Rules.{IsRule, needed_formulas, body_of}
-use Rattle.sequent_core.specs.Sequents.{IsSequent}
 use Rattle.sequent_core.specs.Trees.{goal_or, extended, Meets, IsFresh, Applies}
 use Rattle.sequent_core.proofs.Nodes.{leaf_applies, node_applies, applied_rule}
 use Rattle.proof_deps.proofs.Carried.{Names, at, itself}
-use Rattle.proof_deps.proofs.Envs.{type_there, stands_or, still_stands, still_missing, kept}
+use Rattle.proof_deps.proofs.Envs.{type_there, still_stands, still_missing, kept}
 use Rattle.proof_deps.proofs.RuleNames.{names_of, Avoids, names_avoid, used_avoid, needed_avoid}
 use Rattle.proof_deps.proofs.Ways.{type_in-append, new_name}
 

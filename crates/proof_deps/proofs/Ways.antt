@@ -1,18 +1,15 @@
 -- What the way to a place adds.
-use Rattle.std.proofs.Common.{◌≡◌, ◌∙◌, sym, ap, subst, refl, ℕ, Bool, true, false, List, [], ◌∷◌, ◌++◌, Option, Some, None, Bor, ◌⊎◌, inl, inr, cond, IsTrue, ⊎_elim}
+use Rattle.std.proofs.Common.{◌≡◌, ◌∙◌, sym, ap, subst, refl, ℕ, Bool, true, false, List, [], ◌∷◌, ◌++◌, Option, Some, None, Bor, ◌⊎◌, inl, cond, IsTrue, ⊎_elim}
 use Rattle.std.specs.Prelude.{bytes_eq, Contains}
 use Rattle.std.specs.List.{AllByRecursion}
 use Rattle.std.specs.Option.{option_or}
-use Rattle.std.specs.Map.{lookup}
 use Rattle.std.specs.Cmp.Lexicographic.{same_text}
-use Rattle.std.proofs.lemmas.Map.Entries.{lookup_head, lookup_tail}
 use Rattle.std.proofs.lemmas.List.Elements.{Contains-append_left, Contains-append_right, Contains-append_cases}
 use Rattle.formula_core.specs.declared.Ty.{Ty}
 use Rattle.formula_core.specs.declared.Formula.{Formula}
 use Rattle.formula_core.specs.Env.{type_in}
 use Rattle.sequent_core.specs.declared.sequent.Sequent.{Sequent}
 use Rattle.rule_table.specs.declared.rule.Antecedent.{Antecedent}
-use Rattle.sequent_core.specs.Trees.{extended, IsFresh}
 use Rattle.proof_deps.specs.declared.way.Way.{Way}
 use Rattle.proof_deps.specs.declared.way.Way.TheOpen.{Below as BelowF, Root as RootF}
 use Rattle.proof_deps.specs.declared.way.Way.TheVariants.{Below, Root}

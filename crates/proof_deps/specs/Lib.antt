@@ -1,2 +1,3 @@
 pub mod Deps
+pub mod Prints
 pub mod Private

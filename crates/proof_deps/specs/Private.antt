@@ -1,7 +1,6 @@
 -- Places in a tree, and what was found of a tree so far.
-use Rattle.std.specs.Prelude.{◌≡◌, ℕ, List, [], ◌∷◌, ⊤, None, IfSome, IsTrue, Contains}
+use Rattle.std.specs.Prelude.{◌≡◌, List, [], ◌∷◌, ⊤, None, IfSome, IsTrue, Contains}
 use Rattle.std.specs.List.{AllByRecursion}
-use Rattle.formula_core.specs.declared.Ty.{Ty}
 use Rattle.formula_core.specs.Env.{type_in}
 use Rattle.formula_core.specs.Typed.{Stands}
 use Rattle.sequent_core.specs.declared.sequent.Sequent.{Sequent}

@@ -8,5 +8,6 @@ mod print;
 mod settle;
 mod way;
 
-pub use deps::{Deps, fits};
+pub use deps::{Deps, fits, fits_by};
 pub use gather::of;
+pub use print::prints_of;

@@ -1,51 +1,84 @@
-//! Numbers of formulas, by which places in lists are guessed. What is done with a guess doesn't rest on it.
-use formula_core::{Formula, Name};
+//! Numbers of formulas, by which they are found in lists.
+ghost use Rattle.std.specs.Prelude.{◌≡◌, ◌*◌, ◌+◌, ◌%◌, ◌^◌, map, fold, unsigned_abs, IfOk};
+ghost use Rattle.proof_deps.specs.Prints.{mixed, root_print, near_print, print_of, parts_of};
 
-/// How many levels below its root a formula's number is made of.
-const LEVELS: u32 = 2;
+use formula_core::{Formula, List, Name, OutOfMemory};
+use std::alloc::Global;
 
 /// How many formulas are looked for at once.
 pub const MANY: usize = 16;
 
-/// A number of the formula: formulas that are the same have the same one, and few others have it.
-pub fn print(formula: &Formula) -> u64 {
-    print_of(formula, LEVELS)
+/// The numbers of the formulas, in their order. Kept with them they serve `fits_by`.
+pub fn prints_of(alloc: Global, formulas: &[Formula]) -> Result<List<u64>, OutOfMemory>
+    ensures { IfOk result (λ prints. prints ≡ map print_of formulas.now) }
+{
+    let mut prints = Vec::new(alloc);
+    for formula in formulas {
+        prints.push(print(formula))?;
+    }
+    Ok(List::of(prints))
 }
 
-#[cycle(print)]
-fn print_of(formula: &Formula, levels: u32) -> u64 {
-    match formula {
-        Formula::Int(number) => (number.unsigned_abs() % (1 << 61)) as u64,
-        Formula::Free(name, _) => print_of_name(name),
-        Formula::Bound(at, _) => mixed(1, *at as u64),
-        Formula::Node(op, parts, _) => print_of_parts(op.number() as u64, parts.items(), levels),
-        Formula::Bind(binder, _, parts, _) => {
-            print_of_parts(128 + binder.number() as u64, parts.items(), levels)
-        }
-    }
-}
-
-#[cycle(print)]
-fn print_of_parts(root: u64, parts: &[Formula], levels: u32) -> u64 {
-    if levels == 0 {
-        return root;
-    }
-    let mut print = root;
+/// A number of the formula, by its root, its parts and theirs: formulas that are the same have the same one, and few
+/// others have it.
+pub fn print(formula: &Formula) -> u64
+    ensures { result ≡ print_of formula.now }
+{
+    let parts = parts_of(formula);
+    let mut print = root_print(formula);
     for part in parts {
-        print = mixed(print, print_of(part, levels - 1));
+        print = mixed(print, near_print(part));
     }
     print
 }
 
-fn print_of_name(name: &Name) -> u64 {
+fn near_print(formula: &Formula) -> u64
+    ensures { result ≡ near_print formula.now }
+{
+    let parts = parts_of(formula);
+    let mut print = root_print(formula);
+    for part in parts {
+        print = mixed(print, root_print(part));
+    }
+    print
+}
+
+fn root_print(formula: &Formula) -> u64
+    ensures { result ≡ root_print formula.now }
+{
+    match formula {
+        Formula::Int(number) => (number.unsigned_abs() % (1 << 61)) as u64,
+        Formula::Free(name, _) => name_print(name),
+        Formula::Bound(at, _) => mixed(1, *at as u64),
+        Formula::Node(op, _, _) => op.number() as u64,
+        Formula::Bind(binder, _, _, _) => 128 + binder.number() as u64,
+    }
+}
+
+fn parts_of(formula: &Formula) -> &[Formula]
+    ensures { result.now ≡ parts_of formula.now }
+{
+    match formula {
+        Formula::Node(_, parts, _) => parts.items(),
+        Formula::Bind(_, _, parts, _) => parts.items(),
+        Formula::Int(_) | Formula::Free(_, _) | Formula::Bound(_, _) => &[],
+    }
+}
+
+fn name_print(name: &Name) -> u64
+    ensures { result ≡ fold mixed 2 name.now }
+{
+    let bytes = name.as_text().as_bytes();
     let mut print = 2;
-    for byte in name.as_text().as_bytes() {
+    for byte in bytes {
         print = mixed(print, *byte as u64);
     }
     print
 }
 
-fn mixed(print: u64, next: u64) -> u64 {
+fn mixed(print: u64, next: u64) -> u64
+    ensures { result ≡ mixed print next }
+{
     print.wrapping_mul(0x9e37_79b9_7f4a_7c15).wrapping_add(next)
 }
 

@@ -1,4 +1,4 @@
-use Rattle.std.proofs.Common.{refl, IsTrue}
+use Rattle.std.proofs.Common.{refl}
 use Rattle.proof_deps.proofs.Narrowing.{narrows_below, node_narrows, each_never, each_more}
 use Rattle.sequent_core.specs.Trees.{Applies}
 use Rattle.proof_deps.proofs.Ways.{antecedents_of-Below}

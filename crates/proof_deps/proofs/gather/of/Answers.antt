@@ -1,9 +1,8 @@
-use Rattle.std.proofs.Common.{◌≡◌, ◌↔◌, None}
 use Rattle.sequent_core.specs.declared.sequent.Sequent.{Sequent}
 use Rattle.sequent_core.specs.Sequents.{IsSequent}
 use Rattle.sequent_core.specs.Trees.{Applies}
-use Rattle.proof_deps.specs.Deps.{FitsIn, AreDepsOf}
-use Rattle.proof_deps.specs.Private.{Allows, IsPossible, least}
+use Rattle.proof_deps.specs.Deps.{AreDepsOf}
+use Rattle.proof_deps.specs.Private.{least}
 use Rattle.proof_deps.proofs.Narrowing.{from_root}
 use Rattle.proof_deps.proofs.Possible.{possible_of, least_applies, deps_from, none_from}
 use Rattle.proof_deps.proofs.Ways.{antecedents_of-Root}

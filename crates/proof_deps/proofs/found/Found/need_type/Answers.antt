@@ -1,4 +1,4 @@
-use Rattle.std.proofs.Common.{refl, ap, ◌∙◌, ◌≡◌, false}
+use Rattle.std.proofs.Common.{refl, ap, ◌∙◌}
 use Rattle.std.specs.Option.{option_or, option_copied}
 use Rattle.formula_core.specs.Env.{type_in}
 use Rattle.proof_deps.proofs.Narrowing.{type_known, type_conflicts, type_added}

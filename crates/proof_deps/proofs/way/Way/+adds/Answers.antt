@@ -1,4 +1,3 @@
-use Rattle.std.proofs.Common.{IsTrue, false, ◌≡◌}
 use Rattle.proof_deps.proofs.Ways.{hyps_under, here, further}
 use Rattle.proof_deps.proofs.way.Way.+adds.Goals as goal
 

@@ -1,4 +1,4 @@
-use Rattle.std.proofs.Common.{◌≡◌, ◌∙◌, ap, refl}
+use Rattle.std.proofs.Common.{◌∙◌, ap, refl}
 use Rattle.std.specs.Option.{option_or, option_copied}
 use Rattle.formula_core.specs.Env.{type_in}
 use Rattle.proof_deps.proofs.Ways.{env_under, outer_fresh, near_fresh, type_here, type_further}
