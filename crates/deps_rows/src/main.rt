@@ -8,7 +8,8 @@
 //! tab are comments, behind which no tree stands.
 //!
 //! Rows with another answer are printed with it, and at the end how many rows there were. With a number as its word the
-//! program copies the sequent of each row `fits` so often, and prints how long the tests of the copies take (`bench/fits`).
+//! program copies the sequent of each row `fits` so often, and prints how long the tests of the copies take, without and with
+//! the numbers of their hypotheses (`bench/fits`).
 #![tactic(auto)]
 
 mod reading;
