@@ -106,9 +106,13 @@ event_env m e env = with_all (with_all env (inherited_params m e)) (in_order (ab
 abbrev pub primed_variables : Entries → List (List ℕ) → Entries
 primed_variables env variables = map (λ x. (primed x.0, x.1)) (filter (λ x. is_identifier x.0 && is_among variables x.0) env)
 
--- The environment of its witnesses: lost parameters, and the primed names of own and lost variables.
-abbrev pub witness_env : List CheckedEvent → RawEvent → List (List ℕ) → Entries → Entries
-witness_env m e variables env = with_all (with_all env (lost_params m e)) (primed_variables env variables)
+-- the environment of a machine with the primed names of own and lost variables
+abbrev pub primed_env : Entries → List (List ℕ) → Entries
+primed_env env variables = with_all env (primed_variables env variables)
+
+-- The environment of an event's witnesses: that of the machine with primed names, what stands behind the event's guards, and lost parameters.
+abbrev pub witness_env : List CheckedEvent → RawEvent → List (List ℕ) → Entries → Entries → Entries
+witness_env m e variables env last = with_all (with_all (primed_env env variables) last) (lost_params m e)
 
 -- a witness is for a name
 abbrev pub witnesses_of : List Labelled → List (List ℕ × Formula)
@@ -133,7 +137,7 @@ IsTypedEvent component m variables env e typed faults =
     (guards : List Labelled) × (guard_faults : List Fault) × (last : Entries)
     × AreTyped component (event_env m e env) (names_of e.params) e.guards guards guard_faults last
     × (witnesses : List Labelled) × (witness_faults : List Fault) × (same : Entries)
-    × AreTyped component (witness_env m e variables last) [] e.witnesses witnesses witness_faults same
+    × AreTyped component (witness_env m e variables env last) [] e.witnesses witnesses witness_faults same
     × (actions : List LabelledAction) × (action_faults : List Fault)
     × AreTypedActions component last e.actions actions action_faults
     × (typed ≡ event_of m e last guards witnesses actions)
