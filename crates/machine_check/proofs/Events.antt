@@ -1,10 +1,11 @@
 -- Events that are typed, one after another.
-use Rattle.std.proofs.Common.{◌≡◌, ◌<◌, ◌+◌, ◌∙◌, sym, ap, subst, refl, ℕ, List, [], ◌∷◌, ◌++◌, map, take, length, get_or, Option, None, true, ◌==◌, append_assoc, arith}
+use Rattle.std.proofs.Common.{◌≡◌, ◌<◌, ◌+◌, ◌∙◌, sym, ap, subst, refl, ℕ, List, [], ◌∷◌, ◌++◌, map, take, drop, length, get_or, Option, None, true, ◌==◌, append_assoc, arith}
 use Rattle.std.specs.Borrow.{Bor}
 use Rattle.std.specs.List.{filter}
 use Rattle.std.proofs.lemmas.List.{map-append}
 use Rattle.std.proofs.lemmas.Bool.Decides.{Decides-eqb}
 use Rattle.formula_core.specs.Names.{is_name}
+use Rattle.type_action.specs.CoreActions.{with_all}
 use Rattle.model_core.specs.declared.fault.Fault.{Fault}
 use Rattle.formula_core.specs.declared.raw.Ref.{Ref}
 use Rattle.model_core.specs.declared.component.RawEvent.{RawEvent}
@@ -17,9 +18,10 @@ use Rattle.model_core.proofs.Firsts.{first_append, taken_more}
 use Rattle.model_core.proofs.Lists.{filter_append}
 use Rattle.check_rules.specs.Contexts.{names_of}
 use Rattle.check_rules.specs.Typed.{Entries, LabelledAction, AreTyped, AreTypedActions, never_typed}
-use Rattle.check_rules.specs.Events.{event_env, witness_env, witnesses_of, event_of, IsTypedEvent, AreTypedEvents}
+use Rattle.check_rules.specs.Events.{refined, lost_params, event_env, primed_variables, primed_env, witness_env, witnesses_of, event_of, IsTypedEvent, AreTypedEvents}
 use Rattle.context_check.specs.Typings.{AreTypedSoFar, AreTypedStepsSoFar}
-use Rattle.machine_check.specs.PrivateTyped.{AreTypedWitnesses, IsTypedSoFar, AreTypedEventsSoFar}
+use Rattle.machine_check.specs.PrivateTyped.{AreTypedWitnesses, IsTypedSoFar, AreTypedEventsSoFar, Grows, witness_env_from}
+use Rattle.machine_check.proofs.Growing.{added_again}
 
 pub witnesses_push : (xs : List Labelled) (w : Labelled) → witnesses_of (xs ++ w ∷ []) ≡ witnesses_of xs ++ witnesses_of (w ∷ [])
 witnesses_push xs w =
@@ -37,7 +39,7 @@ pub event_typed : (component : List ℕ) (m : List CheckedEvent) (variables : Li
     start ≡ event_env m e env → params ≡ names_of e.params → written ≡ e.guards → declared ≡ e.params → steps ≡ e.actions → after ≡ last →
     AreTypedSoFar component start params written guards g last →
     n ≡ first_by_place (never_typed component last declared) →
-    AreTypedWitnesses component (witness_env m e variables last) e.witnesses witnesses w →
+    AreTypedWitnesses component (witness_env m e variables env last) e.witnesses witnesses w →
     AreTypedStepsSoFar component after steps actions a →
     typed ≡ event_of m e after guards witnesses actions →
     IsTypedSoFar component m variables env e typed (earlier (earlier (earlier g n) w) a)
@@ -110,3 +112,11 @@ pub witnesses_typed : (component : List ℕ) (known env last : Entries) (items w
     AreTypedSoFar component known [] items typed first last → AreTypedWitnesses component env written typed first
 witnesses_typed component known env last items written typed first k i h =
     (last, subst (λ x. AreTypedSoFar component x [] written typed first last) k (subst (λ x. AreTypedSoFar component known [] x typed first last) i h))
+
+-- An event's witnesses are typed behind the names that it adds to those of its machine.
+pub witnesses_behind : (component : List ℕ) (m : List CheckedEvent) (variables : List (List ℕ)) (env start last : Entries) (e : RawEvent) (abstract : List CheckedEvent) (added : Entries) (n : ℕ) (typed : List Labelled) (first : Option Fault) →
+    start ≡ primed_env env variables → abstract ≡ refined m e → n ≡ length env → Grows env last → added ≡ drop n last →
+    AreTypedWitnesses component (witness_env_from abstract e start added) e.witnesses typed first → AreTypedWitnesses component (witness_env m e variables env last) e.witnesses typed first
+witnesses_behind component m variables env start last e abstract added n typed first s r is grown a h =
+    let start_is : with_all start added ≡ with_all (primed_env env variables) last = (λ i. with_all (s i) (a i)) ∙ added_again env (primed_variables env variables) last n grown is in
+    subst (λ x. AreTypedWitnesses component x e.witnesses typed first) ((λ i. witness_env_from (r i) e start added) ∙ ap (λ x. with_all x (lost_params m e)) start_is) h

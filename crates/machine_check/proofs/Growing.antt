@@ -1,7 +1,10 @@
 -- Environments that grow at their ends, and are cut back.
-use Rattle.std.proofs.Common.{◌≡◌, inl, inr, ◌∙◌, ap, refl, ℕ, Bool, true, false, List, [], ◌∷◌, ◌++◌, take, length, append_assoc}
+use Rattle.std.proofs.Common.{◌≡◌, ◌≤◌, inl, inr, ◌∙◌, sym, ap, subst, refl, ℕ, Bool, true, false, cond, List, [], ◌∷◌, ◌++◌, take, drop, length, append_assoc, bytes_eq, arith}
 use Rattle.std.specs.Prelude.{Option, Some, None, is_some, if◌then◌else◌}
-use Rattle.std.proofs.Math.Seq.{take-append_seam}
+use Rattle.std.specs.List.{AllByRecursion}
+use Rattle.std.proofs.Math.Seq.{take-append_seam, drop-append_seam}
+use Rattle.std.proofs.lemmas.List.{length-append}
+use Rattle.std.proofs.lemmas.Slice.Eq.{bytes_eq-Decides}
 use Rattle.formula_core.specs.declared.ty.Ty.{Ty}
 use Rattle.formula_core.specs.declared.formula.Formula.{Formula}
 use Rattle.formula_core.specs.Env.{type_in}
@@ -18,7 +21,9 @@ use Rattle.check_rules.specs.Typed.{Entries, AreTyped, in_order}
 use Rattle.check_rules.specs.Events.{event_env, inherited_params, abstract_params}
 use Rattle.context_check.specs.Typings.{AreTypedSoFar}
 use Rattle.context_check.proofs.Views.{append_none}
+use Rattle.type_core.proofs.Named.{all_each}
 use Rattle.machine_check.specs.PrivateTyped.{Grows}
+use Rattle.machine_check.proofs.Params.{with_all_append}
 
 same : (env : Entries) → Grows env env
 same env = ([], append_none env)
@@ -66,5 +71,44 @@ by_two env xs ys last is = let g = further env (with_all env xs) (with_all (with
 pub by_event : (m : List CheckedEvent) (e : RawEvent) (env start : Entries) → start ≡ event_env m e env → Grows env start
 by_event m e env start is = by_two env (inherited_params m e) (in_order (abstract_params m e) (names_of e.params)) start is
 
+-- an event's names stand behind those of its machine, after its guards too
+pub by_guards : (component : List ℕ) (m : List CheckedEvent) (e : RawEvent) (wanted : List (List ℕ)) (env start : Entries) (labelled : List RawLabelled) (typed : List Labelled) (first : Option Fault) (last : Entries) →
+    start ≡ event_env m e env → AreTypedSoFar component start wanted labelled typed first last → Grows env last
+by_guards component m e wanted env start labelled typed first last is so = further env start last (by_event m e env start is) (by_typing component wanted start labelled typed first last so)
+
+pub no_shorter : (env last now : Entries) (n : ℕ) → Grows env last → n ≡ length env → now ≡ last → n ≤ length now
+no_shorter env last now n (rest, e) is same = omega (arith, is, ap length (same ∙ e) ∙ length-append env rest)
+
 pub cut_back : (env last : Entries) (n : ℕ) → Grows env last → n ≡ length env → take n last ≡ env
 cut_back env last n (rest, e) is = (λ i. take (is i) (e i)) ∙ take-append_seam env rest
+
+-- What stands in an environment already isn't added again.
+
+here_first : (x : List ℕ × Ty) (xs : Entries) → is_some (type_in (x ∷ xs) x.0) ≡ true
+here_first x xs = ap (λ b. is_some (cond b (Some x.1) (type_in xs x.0))) ((bytes_eq-Decides x.0 x.0).1 refl)
+
+here_later : (x : List ℕ × Ty) (xs : Entries) (n : List ℕ) → is_some (type_in xs n) ≡ true → is_some (type_in (x ∷ xs) n) ≡ true
+here_later x xs n h = at (bytes_eq n x.0)
+  where
+    at : (b : Bool) → is_some (cond b (Some x.1) (type_in xs n)) ≡ true
+    at true = refl
+    at false = h
+
+all_here : (env rest : Entries) → AllByRecursion (λ x. is_some (type_in (env ++ rest) x.0) ≡ true) env
+all_here [] rest = tt
+all_here (x ∷ env) rest = (
+  here_first x (env ++ rest),
+  all_each (λ y. is_some (type_in (env ++ rest) y.0) ≡ true) (λ y. is_some (type_in (x ∷ env ++ rest) y.0) ≡ true) env (λ y h. here_later x (env ++ rest) y.0 h) (all_here env rest),
+)
+
+none_added : (env xs : Entries) → AllByRecursion (λ x. is_some (type_in env x.0) ≡ true) xs → with_all env xs ≡ env
+none_added env [] h = refl
+none_added env (x ∷ xs) h = ap (λ b. with_all (if b then env else (env ++ x ∷ [])) xs) h.0 ∙ none_added env xs h.1
+
+pub added_again : (env more last : Entries) (n : ℕ) → Grows env last → n ≡ length env → with_all (with_all env more) (drop n last) ≡ with_all (with_all env more) last
+added_again env more last n (rest, e) is =
+    let start = with_all env more in
+    let more_last = with_more env more in
+    let none : with_all start env ≡ start = subst (λ x. with_all x env ≡ x) (sym more_last.1) (none_added (env ++ more_last.0) env (all_here env more_last.0)) in
+    ap (with_all start) ((λ i. drop (is i) (e i)) ∙ drop-append_seam env rest)
+    ∙ ap (λ x. with_all x rest) (sym none) ∙ sym (with_all_append start env rest) ∙ ap (with_all start) (sym e)

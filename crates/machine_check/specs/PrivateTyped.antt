@@ -22,7 +22,7 @@ use Rattle.model_core.specs.Faults.{first_by_place}
 use Rattle.check_rules.specs.Contexts.{names_of}
 use Rattle.check_rules.specs.Visible.{names}
 use Rattle.check_rules.specs.Typed.{Entries, LabelledAction, in_order}
-use Rattle.check_rules.specs.Events.{extended_of, params_inherited, primed_variables, witnesses_of, IsTypedEvent, AreTypedEvents}
+use Rattle.check_rules.specs.Events.{extended_of, params_inherited, witnesses_of, IsTypedEvent, AreTypedEvents}
 use Rattle.context_check.specs.Texts.{has}
 use Rattle.context_check.specs.Typings.{AreTypedSoFar}
 
@@ -57,12 +57,11 @@ abbrev pub event_env_from : List CheckedEvent → RawEvent → Entries → Entri
 event_env_from abstract e env =
     with_all (with_all env (params_inherited e abstract)) (in_order (joined (map (λ a. a.params) abstract)) (names_of e.params))
 
--- the environment of its witnesses
-abbrev pub witness_env_from : List CheckedEvent → RawEvent → List (List ℕ) → Entries → Entries
-witness_env_from abstract e variables env =
-    with_all (with_all env (filter (λ p. not (is_among (names (params_inherited e abstract) ++ names_of e.params) p.0))
-    (joined (map (λ a. a.params) abstract))))
-    (primed_variables env variables)
+-- the environment of its witnesses, from that of the machine with primed names and what the event adds
+abbrev pub witness_env_from : List CheckedEvent → RawEvent → Entries → Entries → Entries
+witness_env_from abstract e start added =
+    with_all (with_all start added) (filter (λ p. not (is_among (names (params_inherited e abstract) ++ names_of e.params) p.0))
+    (joined (map (λ a. a.params) abstract)))
 
 -- an event from those that it refines
 abbrev pub event_from : RawEvent → List CheckedEvent → Entries → List Labelled → List Labelled → List LabelledAction → CheckedEvent

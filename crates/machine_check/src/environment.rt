@@ -1,6 +1,6 @@
 //! The environment in which an event is typed.
 
-ghost use Rattle.std.specs.Prelude.{◌≡◌, ◌++◌, ◌∷◌, [], ℕ, List, IfOk, OnOk, Some, map, not, ◌&&◌};
+ghost use Rattle.std.specs.Prelude.{◌≡◌, ◌++◌, ◌∷◌, [], IfOk, OnOk, Some, map, not, ◌&&◌};
 ghost use Rattle.std.specs.List.{filter};
 ghost use Rattle.formula_core.specs.Formulas.{joined};
 ghost use Rattle.formula_core.specs.Names.{is_identifier};
@@ -9,12 +9,12 @@ ghost use Rattle.type_action.specs.CoreActions.{with_all};
 ghost use Rattle.check_rules.specs.Visible.{names};
 ghost use Rattle.check_rules.specs.Typed.{in_order};
 ghost use Rattle.check_rules.specs.Contexts.{names_of};
-ghost use Rattle.check_rules.specs.Events.{params_inherited};
+ghost use Rattle.check_rules.specs.Events.{params_inherited, primed_env};
 ghost use Rattle.context_check.specs.Texts.{has};
 ghost use Rattle.machine_check.specs.PrivateTyped.{HasExactly, Grows, event_env_from, witness_env_from};
 ghost use Rattle.machine_check.specs.PrivateTyped.{primed_known, type_there, typed_there};
 
-use crate::assignments::add_names_of;
+use crate::assignments::{add_names_of, texts_of};
 use crate::machine_names::add_ref_names;
 use crate::param_types::{Types, type_there, types_in};
 use context_check::declarations::{Texts, has};
@@ -190,23 +190,33 @@ fn primed_in(
     Ok(found)
 }
 
-/// Adds what an event's witnesses know beside its guards: the parameters that the event lacks, and the primed names of
-/// the variables.
+/// The environment of a machine with the primed names of the variables.
+pub fn primed_env(alloc: Global, env: &Env, variables: &[Name]) -> Result<Env, OutOfMemory>
+    ensures { IfOk result (λ all. all ≡ primed_env env.now variables.now) }
+{
+    let variables = texts_of(alloc, variables)?;
+    let primed = primed_in(alloc, &variables, env.entries())?;
+    let mut all = env.copy(alloc)?;
+    add_all(alloc, &mut all, &primed)?;
+    Ok(all)
+}
+
+/// Adds what an event's witnesses know beside the machine's names: what the event adds to these, and the parameters
+/// that it lacks.
 pub fn add_witness_names(
     alloc: Global,
     env: &mut Env,
     refined: &[&CheckedEvent],
     event: &RawEvent,
-    variables: &Texts<'_>,
+    added: &[(Name, Ty)],
 ) -> Result<(), OutOfMemory>
-    ensures names { OnOk result ((names : List (List ℕ)) → HasExactly variables.now names
-        → env.new ≡ witness_env_from (map (λ x. x.now) refined.now) event.now names env.old) }
+    ensures names { OnOk result (env.new
+        ≡ witness_env_from (map (λ x. x.now) refined.now) event.now env.old added.now) }
     ensures grown { OnOk result (Grows env.old env.new) }
 {
-    let primed = primed_in(alloc, variables, env.entries())?;
     let inherited = inherited_params(refined, event);
     let kept = param_names(alloc, inherited, event.params.items())?;
+    add_all(alloc, env, added)?;
     add_all_lost(alloc, env, &kept, refined)?;
-    add_all(alloc, env, &primed)?;
     Ok(())
 }

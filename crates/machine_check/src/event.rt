@@ -2,18 +2,16 @@
 
 ghost use Rattle.std.specs.Prelude.{◌≡◌, ℕ, List, IfOk, OnOk, map};
 ghost use Rattle.std.specs.Option.{option_copied};
-ghost use Rattle.check_rules.specs.Events.{extended_of};
+ghost use Rattle.check_rules.specs.Events.{extended_of, primed_env};
 ghost use Rattle.machine_check.specs.PrivateTyped.{guards_in, actions_in, event_from, witness_env_from, Grows};
-ghost use Rattle.machine_check.specs.PrivateTyped.{HasExactly, AreTypedWitnesses, IsTypedSoFar, AreTypedEventsSoFar};
+ghost use Rattle.machine_check.specs.PrivateTyped.{AreTypedWitnesses, IsTypedSoFar, AreTypedEventsSoFar};
 
-use crate::assignments::texts_of;
-use crate::environment::{add_event_names, add_witness_names, inherited_params};
+use crate::environment::{add_event_names, add_witness_names, inherited_params, primed_env};
 use crate::parts::{event_names, with_actions, with_labelled, with_params, witnesses_of};
 use check_rules::{AbstractEvents, refined};
 use context_check::copies::{count, names_of};
-use context_check::declarations::Texts;
 use context_check::typing::{TypedParts, first_never_typed, type_actions, type_all};
-use formula_core::{Action, Env, Label, Name, OutOfMemory};
+use formula_core::{Action, Env, Label, Name, OutOfMemory, Ty};
 use model_core::{CheckedEvent, Fault, Labelled, RawEvent, earlier};
 use std::alloc::Global;
 
@@ -75,19 +73,20 @@ fn event_from(
     })
 }
 
-/// Types the witnesses of an event, where `env` is the environment that its guards leave.
+/// Types the witnesses of an event, where `primed` is the machine's environment with primed names, and the event adds
+/// these names to the machine's.
 fn type_witnesses(
     alloc: Global,
     component: &Name,
     refined: &[&CheckedEvent],
     event: &RawEvent,
-    variables: &Texts<'_>,
-    env: &mut Env,
+    added: &[(Name, Ty)],
+    primed: &mut Env,
 ) -> Result<TypedParts<Labelled>, OutOfMemory>
-    ensures typed { IfOk result (λ all. (names : List (List ℕ)) → HasExactly variables.now names
-        → AreTypedWitnesses component.now (witness_env_from (map (λ x. x.now) refined.now) event.now names env.old)
+    ensures typed { IfOk result (λ all. AreTypedWitnesses component.now
+        (witness_env_from (map (λ x. x.now) refined.now) event.now primed.old added.now)
         event.now.witnesses all.typed.items all.first) }
-    ensures kept { OnOk result (env.new ≡ env.old) }
+    ensures kept { OnOk result (primed.new ≡ primed.old) }
 {
     if event.witnesses.items().is_empty() {
         return Ok(TypedParts {
@@ -95,32 +94,36 @@ fn type_witnesses(
             first: None,
         });
     }
-    let len = env.entries().len();
-    add_witness_names(alloc, env, refined, event, variables)?;
-    let all = type_all(alloc, component, env, &[], event.witnesses.items())?;
-    env.cut(len);
+    let len = primed.entries().len();
+    add_witness_names(alloc, primed, refined, event, added)?;
+    let all = type_all(alloc, component, primed, &[], event.witnesses.items())?;
+    primed.cut(len);
     Ok(all)
 }
 
-/// Types an event in an environment that grows by the names of the event.
+/// Types an event in an environment that grows by the names of the event. `primed` is that environment with the primed
+/// names of the variables.
 fn type_in_place(
     alloc: Global,
     component: &Name,
     events: &AbstractEvents<'_>,
-    variables: &Texts<'_>,
     env: &mut Env,
+    primed: &mut Env,
     event: &RawEvent,
 ) -> Result<(CheckedEvent, Option<Fault>), OutOfMemory>
-    ensures typed { IfOk result (λ one. (names : List (List ℕ)) → HasExactly variables.now names
+    ensures typed { IfOk result (λ one. (names : List (List ℕ)) → primed.old ≡ primed_env env.old names
         → IsTypedSoFar component.now events.now names env.old event.now one.0 one.1) }
     ensures grown { OnOk result (Grows env.old env.new) }
+    ensures primed_kept { OnOk result (primed.new ≡ primed.old) }
 {
+    let len = env.entries().len();
     let refined = refined(alloc, events, event)?;
     add_event_names(alloc, env, &refined, event)?;
     let params = names_of(alloc, event.params.items())?;
     let guards = type_all(alloc, component, env, &params, event.guards.items())?;
     let untyped = first_never_typed(alloc, component, env, event.params.items())?;
-    let witnesses = type_witnesses(alloc, component, &refined, event, variables, env)?;
+    let added = &env.entries()[len..];
+    let witnesses = type_witnesses(alloc, component, &refined, event, added, primed)?;
     let actions = type_actions(alloc, component, env, event.actions.items())?;
     let first = earlier(
         earlier(earlier(guards.first, untyped), witnesses.first),
@@ -143,16 +146,17 @@ fn type_event(
     alloc: Global,
     component: &Name,
     events: &AbstractEvents<'_>,
-    variables: &Texts<'_>,
     env: &mut Env,
+    primed: &mut Env,
     event: &RawEvent,
 ) -> Result<(CheckedEvent, Option<Fault>), OutOfMemory>
-    ensures typed { IfOk result (λ one. (names : List (List ℕ)) → HasExactly variables.now names
+    ensures typed { IfOk result (λ one. (names : List (List ℕ)) → primed.old ≡ primed_env env.old names
         → IsTypedSoFar component.now events.now names env.old event.now one.0 one.1) }
     ensures kept { OnOk result (env.new ≡ env.old) }
+    ensures primed_kept { OnOk result (primed.new ≡ primed.old) }
 {
     let len = env.entries().len();
-    let one = type_in_place(alloc, component, events, variables, env, event)?;
+    let one = type_in_place(alloc, component, events, env, primed, event)?;
     env.cut(len);
     Ok(one)
 }
@@ -170,11 +174,11 @@ pub fn type_events(
         all.typed.items all.first) }
     ensures kept { OnOk result (env.new ≡ env.old) }
 {
-    let known = texts_of(alloc, variables)?;
+    let mut primed = primed_env(alloc, env, variables)?;
     let mut typed = Vec::new(alloc);
     let mut first = None;
     for event in written {
-        let (one, here) = type_event(alloc, component, events, &known, env, event)?;
+        let (one, here) = type_event(alloc, component, events, env, &mut primed, event)?;
         typed.push(one)?;
         first = earlier(first, here);
     }
