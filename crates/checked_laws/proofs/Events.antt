@@ -306,8 +306,11 @@ module _ (constants env last : Entries) (known : List (List ℕ)) (place : IsPla
   left_names : HasIdentifiers left
   left_names = left_each (λ x. IsTrue (is_identifier x.0)) (λ a h. h.0.names)
 
-  constants_after : IsWithin constants after
-  constants_after x h = stood.within x (last_first x (place.constants_last x h))
+  last_among : HasCarriersAmong constants last
+  last_among = all_each (λ x. AllStand last (carriers x.1)) (λ x. AllStand constants (carriers x.1)) last (λ x h. carriers_kept last constants place.last_sets x.1 h) place.last_carriers
+
+  after_among : HasCarriersAmong constants after
+  after_among = all_each (λ x. AllStand after (carriers x.1)) (λ x. AllStand constants (carriers x.1)) after (λ x h. carriers_kept after constants after_sets x.1 h) stood.carriers
 
   target_names : HasIdentifiers target
   target_names = all_append (λ x. IsTrue (is_identifier x.0)) env params place.names_are params_identifiers
@@ -385,13 +388,13 @@ module _ (constants env last : Entries) (known : List (List ℕ)) (place : IsPla
   pub event_witnessed : (variables lost : List (List ℕ)) (witnesses : List Labelled) (same : Entries) (actions : List LabelledAction) → AllByRecursion (IsNamedIn env) variables →
       ((n : List ℕ) → is_among lost n ≡ true → is_among variables n ≡ true) → merged_differ component m e ≡ [] →
       missing_witnesses component e.name.place (map (λ w. w.label) e.witnesses) (needed m lost e) ≡ [] → superfluous_witnesses component (needed m lost e) e.witnesses ≡ [] →
-      AreTyped component (witness_env m e variables after) [] e.witnesses witnesses [] same →
+      AreTyped component (witness_env m e variables last after) [] e.witnesses witnesses [] same →
       IsSoundRefinement env variables lost (found_in_events m (map (λ a. a.name) (refined m e))) (event_of m e after guards witnesses actions)
   event_witnessed variables lost witnesses same actions variables_named has_lost merged missing superfluous typed =
       let all = base ++ map with_prime (filter (λ x. is_among variables x.0) env) in
-      let holds : HoldsWitnesses env left base all (witness_env m e variables after) variables =
-      holds_witnesses constants env params left after variables target_good target_names constants_target (left_distinct merged) left_new left_types left_sets left_names after_target stood.carriers
-      constants_after variables_named in
+      let holds : HoldsWitnesses env left base all (witness_env m e variables last after) variables =
+      holds_witnesses constants env params left last after variables target_good target_names constants_target (left_distinct merged) left_new left_types left_sets left_names place.within last_among
+      place.constants_last after_target after_among in
       let left_named : AllByRecursion (IsNamedIn all) (keys_of left) = all_map (IsNamedIn all) (λ x. x.0) left (all_each (Stands all) (λ x. IsNamedIn all x.0) left (λ x h. (x.1, h)) holds.left_stand) in
       let wanted_named : (n : List ℕ) → is_among (needed m lost e) n ≡ true → IsNamedIn all n =
       λ n h. elim (wanted_is m lost e n h) [
@@ -400,17 +403,17 @@ module _ (constants env last : Entries) (known : List (List ℕ)) (place : IsPla
             subst (IsNamedIn all) (sym k.1) (x.0, holds.variable_stands k.0 x.0 (has_lost k.0 k.2) x.1)
       ] in
       let labels : AllByRecursion (λ l. IsNamedIn all l.label) witnesses =
-      labels_typed (IsNamedIn all) component (witness_env m e variables after) [] e.witnesses witnesses same typed
+      labels_typed (IsNamedIn all) component (witness_env m e variables last after) [] e.witnesses witnesses same typed
       (all_each (λ l. is_among (needed m lost e) l.label ≡ true) (λ l. IsNamedIn all l.label) e.witnesses (λ l h. wanted_named l.label h) (all_wanted component (needed m lost e) e.witnesses superfluous)) in
       let listed : AllByRecursion (λ l. is_among (keys_of left ++ map primed (filter (is_among (chosen_by_first (refined m e))) lost)) l.label ≡ true) witnesses =
-      labels_typed (λ n. is_among (keys_of left ++ map primed (filter (is_among (chosen_by_first (refined m e))) lost)) n ≡ true) component (witness_env m e variables after) [] e.witnesses witnesses same typed
+      labels_typed (λ n. is_among (keys_of left ++ map primed (filter (is_among (chosen_by_first (refined m e))) lost)) n ≡ true) component (witness_env m e variables last after) [] e.witnesses witnesses same typed
       (all_each (λ l. is_among (needed m lost e) l.label ≡ true) _ e.witnesses (λ l h. wanted_listed m lost e l.label h) (all_wanted component (needed m lost e) e.witnesses superfluous)) in
       let start : IfSome (event_named m initialisation) (λ a. a.params ≡ []) =
       if_some_each (λ a. (IsSoundEvent a_constants a_env a × StartsPlainly a) × (bytes_eq initialisation a.name ≡ true)) (λ a. a.params ≡ []) (event_named m initialisation) (λ a h. (h.0.1 h.1).0)
       (event_found (λ a. IsSoundEvent a_constants a_env a × StartsPlainly a) m initialisation above.events) in
       let lost_names : AllByRecursion (λ n. is_identifier n ≡ true) lost = all_each (λ n. is_among lost n ≡ true) (λ n. is_identifier n ≡ true) lost
       (λ n h. let x = named_among env variables n variables_named (has_lost n h) in found_has (λ y. IsTrue (is_identifier y.0)) env n x.0 place.names_are x.1) (among_self lost) in
-      let all_have = all_given component m lost e witnesses (witness_env m e variables after) same start merged missing typed (all_map (λ n. is_identifier n ≡ true) (λ x. x.0) left left_names)
+      let all_have = all_given component m lost e witnesses (witness_env m e variables last after) same start merged missing typed (all_map (λ n. is_identifier n ≡ true) (λ x. x.0) left left_names)
       (filter_all (is_among (chosen_by_first (refined m e))) (λ n. is_identifier n ≡ true) lost lost_names) in
       let is = sym (left_is m e params params_keys) in
       let lacked = filter (λ x. not (is_among (keys_of params) x.0)) (for_each (λ r. r.params) (found_in_events m (map (λ a. a.name) (refined m e)))) in
@@ -465,8 +468,8 @@ module _ (constants env last : Entries) (known : List (List ℕ)) (place : IsPla
       let own_faults : t.1 ++ never ≡ [] = first_none (t.1 ++ never) t.5 witness_faults in
       let checks : AreTyped component (event_env m e last) (names_of e.params) e.guards t.0 [] t.2 =
       subst (λ fs. AreTyped component (event_env m e last) (names_of e.params) e.guards t.0 fs t.2) (first_none t.1 never own_faults) t.3 in
-      let witnesses : AreTyped component (witness_env m e variables t.2) [] e.witnesses t.4 [] t.6 =
-      subst (λ fs. AreTyped component (witness_env m e variables t.2) [] e.witnesses t.4 fs t.6) (second_none (t.1 ++ never) t.5 witness_faults) t.7 in
+      let witnesses : AreTyped component (witness_env m e variables last t.2) [] e.witnesses t.4 [] t.6 =
+      subst (λ fs. AreTyped component (witness_env m e variables last t.2) [] e.witnesses t.4 fs t.6) (second_none (t.1 ++ never) t.5 witness_faults) t.7 in
       let all_typed = second_none t.1 never own_faults in
       let ids_are = all_map (λ n. IsTrue (is_identifier n)) (λ r. r.name) e.params ids in
       let has = after_carriers constants env last known place a_constants a_env m above component e ids_are clear t.0 t.2 checks all_typed in

@@ -14,7 +14,7 @@ use Rattle.type_action.specs.CoreActions.{primed, with_all}
 use Rattle.model_core.specs.declared.component.RawLabelled.{RawLabelled}
 use Rattle.model_core.specs.declared.checked.Labelled.{Labelled}
 use Rattle.model_core.specs.Each.{is_among}
-use Rattle.check_rules.specs.Events.{primed_variables}
+use Rattle.check_rules.specs.Events.{primed_variables, primed_env}
 use Rattle.check_rules.specs.Typed.{Entries, AreTyped}
 use Rattle.checked_laws.specs.Sound.{HasIdentifiers, HasCarriersAmong, ArePredicatesIn, IsNamedIn}
 use Rattle.checked_laws.specs.Refining.{with_prime}
@@ -169,12 +169,12 @@ pub record HoldsWitnesses (env left base whole first : Entries) (variables : Lis
   pub variable_stands : (n : List ℕ) (t : Ty) → is_among variables n ≡ true → Stands env (n, t) → Stands whole (primed n, t)
   pub typed : (component : List ℕ) (written : List RawLabelled) (typed : List Labelled) (same : Entries) → AreTyped component first [] written typed [] same → ArePredicatesIn whole typed
 
--- The machine's environment, the event's parameters, those that it lacks, and the environment behind its guards.
-module _ (constants env params left after : Entries) (variables : List (List ℕ)) (good : IsGoodEnv (env ++ params)) (names_are : HasIdentifiers (env ++ params))
+-- The machine's environment, the event's parameters, those that it lacks, the environment in which the event is typed, and the one behind its guards.
+module _ (constants env params left last after : Entries) (variables : List (List ℕ)) (good : IsGoodEnv (env ++ params)) (names_are : HasIdentifiers (env ++ params))
     (constants_stand : IsWithin constants (env ++ params)) (left_distinct : HasDistinctNames left) (left_new : AreNew (env ++ params) (keys_of left))
     (left_types : AllByRecursion (λ x. IsTrue (is_value_type x.1)) left) (left_sets : HasCarriersAmong constants left) (left_names : HasIdentifiers left)
-    (after_within : IsWithin after (env ++ params)) (after_carriers : HasCarriers after) (constants_after : IsWithin constants after)
-    (variables_named : AllByRecursion (IsNamedIn env) variables) where
+    (last_within : IsWithin last env) (last_sets : HasCarriersAmong constants last) (constants_last : IsWithin constants last)
+    (after_within : IsWithin after (env ++ params)) (after_sets : HasCarriersAmong constants after) where
   abbrev target : Entries
   target = env ++ params
 
@@ -191,7 +191,7 @@ module _ (constants env params left after : Entries) (variables : List (List ℕ
   whole = base ++ primes
 
   abbrev first : Entries
-  first = with_all (with_all after left) (primed_variables after variables)
+  first = with_all (with_all (primed_env last variables) after) left
 
   base_distinct : HasDistinctNames base
   base_distinct = distinct_append target left good.names left_distinct (new_turned left target left_new)
@@ -239,36 +239,42 @@ module _ (constants env params left after : Entries) (variables : List (List ℕ
   variable_stands : (n : List ℕ) (t : Ty) → is_among variables n ≡ true → Stands env (n, t) → Stands whole (primed n, t)
   variable_stands n t among h = stands_later base primes (apart_from own) (primed n, t) (primed_stands own n ∙ type_with (is_among variables) env n among ∙ h)
 
-  primed_whole : (x : List ℕ × Ty) → Stands (primed_variables after variables) x → Stands whole x
+  primed_whole : (x : List ℕ × Ty) → Stands (primed_variables last variables) x → Stands whole x
   primed_whole x h =
-      let from = primed_from (λ n. is_identifier n && is_among variables n) after x h in
+      let from = primed_from (λ n. is_identifier n && is_among variables n) last x h in
       let among = both_second (is_identifier from.0) (is_among variables from.0) from.3 in
-      let named = named_among env variables from.0 variables_named among in
-      let here : Stands env (from.0, x.1) = named.1 ∙ sym (sooner env params from.0 named.0 named.1) ∙ after_within (from.0, x.1) from.2 in
-      subst (λ n. Stands whole (n, x.1)) (sym from.1) (variable_stands from.0 x.1 among here)
+      subst (λ n. Stands whole (n, x.1)) (sym from.1) (variable_stands from.0 x.1 among (last_within (from.0, x.1) from.2))
 
   first_whole : IsWithin first whole
-  first_whole x h = elim (with_all_split (with_all after left) (primed_variables after variables) x h) [
-    | inl k ↦ elim (with_all_or (Stands whole) after left left_stand x k) [
-      | inl l ↦ target_whole x (after_within x l)
-      | inr l ↦ l
+  first_whole x h = elim (with_all_or (Stands whole) (with_all (primed_env last variables) after) left left_stand x h) [
+    | inl k ↦ elim (with_all_split (primed_env last variables) after x k) [
+      | inl l ↦ elim (with_all_split last (primed_variables last variables) x l) [
+        | inl i ↦ target_whole x (sooner env params x.0 x.1 (last_within x i))
+        | inr i ↦ primed_whole x i
+      ]
+      | inr l ↦ target_whole x (after_within x l)
     ]
-    | inr k ↦ primed_whole x k
+    | inr k ↦ k
   ]
 
-  after_first : IsWithin after first
-  after_first x h = within_with (with_all after left) (primed_variables after variables) x (within_with after left x h)
+  constants_first : IsWithin constants first
+  constants_first x h = within_with (with_all (primed_env last variables) after) left x
+      (within_with (primed_env last variables) after x (within_with last (primed_variables last variables) x (constants_last x h)))
 
-  after_sets : AllByRecursion (λ x. AllStand first (carriers x.1)) after
-  after_sets = all_each (λ x. AllStand after (carriers x.1)) (λ x. AllStand first (carriers x.1)) after (λ x h. all_each (Stands after) (Stands first) (carriers x.1) after_first h) after_carriers
+  sets_first : (xs : Entries) → HasCarriersAmong constants xs → AllByRecursion (λ x. AllStand first (carriers x.1)) xs
+  sets_first xs h = all_each (λ x. AllStand constants (carriers x.1)) (λ x. AllStand first (carriers x.1)) xs
+      (λ x k. all_each (Stands constants) (Stands first) (carriers x.1) constants_first k) h
+
+  primes_first : AllByRecursion (λ x. AllStand first (carriers x.1)) (primed_variables last variables)
+  primes_first = all_map (λ x. AllStand first (carriers x.1)) with_prime (entries_with (λ n. is_identifier n && is_among variables n) last)
+      (filter_all (λ x. is_identifier x.0 && is_among variables x.0) (λ x. AllStand first (carriers x.1)) last (sets_first last last_sets))
 
   first_carriers : HasCarriers first
-  first_carriers = with_all_each (λ x. AllStand first (carriers x.1)) (with_all after left) (primed_variables after variables)
-      (with_all_each (λ x. AllStand first (carriers x.1)) after left after_sets
-      (all_each (λ x. AllStand constants (carriers x.1)) (λ x. AllStand first (carriers x.1)) left
-      (λ x h. all_each (Stands constants) (Stands first) (carriers x.1) (λ y i. after_first y (constants_after y i)) h) left_sets))
-      (all_map (λ x. AllStand first (carriers x.1)) with_prime (entries_with (λ n. is_identifier n && is_among variables n) after)
-      (filter_all (λ x. is_identifier x.0 && is_among variables x.0) (λ x. AllStand first (carriers x.1)) after after_sets))
+  first_carriers = with_all_each (λ x. AllStand first (carriers x.1)) (with_all (primed_env last variables) after) left
+      (with_all_each (λ x. AllStand first (carriers x.1)) (primed_env last variables) after
+      (with_all_each (λ x. AllStand first (carriers x.1)) last (primed_variables last variables) (sets_first last last_sets) primes_first)
+      (sets_first after after_sets))
+      (sets_first left left_sets)
 
   witnesses_typed : (component : List ℕ) (written : List RawLabelled) (typed : List Labelled) (same : Entries) → AreTyped component first [] written typed [] same → ArePredicatesIn whole typed
   witnesses_typed component written typed same checks =

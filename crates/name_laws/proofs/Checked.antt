@@ -69,7 +69,7 @@ event_from component m variables env e typed faults t none =
     let all : t.1 ++ never ++ t.5 ++ t.9 ≡ [] = sym t.12 ∙ none in
     let first : t.1 ++ never ++ t.5 ≡ [] = first_none (t.1 ++ never ++ t.5) t.9 all in
     let guards = typed_labels component (event_env m e env) (names_of e.params) e.guards t.0 t.1 t.2 t.3 (first_none t.1 never (first_none (t.1 ++ never) t.5 first)) in
-    let witnesses = typed_labels component (witness_env m e variables t.2) [] e.witnesses t.4 t.5 t.6 t.7 (second_none (t.1 ++ never) t.5 first) in
+    let witnesses = typed_labels component (witness_env m e variables env t.2) [] e.witnesses t.4 t.5 t.6 t.7 (second_none (t.1 ++ never) t.5 first) in
     let actions = typed_actions component t.2 e.actions t.8 t.9 t.10 (second_none (t.1 ++ never ++ t.5) t.9 all) in
     subst (IsEventFrom m e) (sym t.11) (record {
       name = refl;

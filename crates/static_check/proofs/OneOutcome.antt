@@ -74,8 +74,8 @@ event_one : (component : List ℕ) (m : List CheckedEvent) (variables : List (Li
     IsTypedEvent component m variables env e t f → IsTypedEvent component m variables env e u g → (t ≡ u) × (f ≡ g)
 event_one component m variables env e t u f g a b =
     let guards = typed_one_way component (event_env m e env) (names_of e.params) e.guards a.0 b.0 a.1 b.1 a.2 b.2 a.3 b.3 in
-    let witnesses = typed_one_way component (witness_env m e variables a.2) [] e.witnesses a.4 b.4 a.5 b.5 a.6 b.6 a.7
-    (subst (λ n. AreTyped component (witness_env m e variables n) [] e.witnesses b.4 b.5 b.6) (sym guards.2) b.7) in
+    let witnesses = typed_one_way component (witness_env m e variables env a.2) [] e.witnesses a.4 b.4 a.5 b.5 a.6 b.6 a.7
+    (subst (λ n. AreTyped component (witness_env m e variables env n) [] e.witnesses b.4 b.5 b.6) (sym guards.2) b.7) in
     let actions = actions_one_way component a.2 e.actions a.8 b.8 a.9 b.9 a.10 (subst (λ n. AreTypedActions component n e.actions b.8 b.9) (sym guards.2) b.10) in (
       a.11 ∙ (λ i. event_of m e (guards.2 i) (guards.0 i) (witnesses.0 i) (actions.0 i)) ∙ sym b.11,
       a.12 ∙ (λ i. guards.1 i ++ never_typed component (guards.2 i) e.params ++ witnesses.1 i ++ actions.1 i) ∙ sym b.12,
