@@ -1,2 +1,4 @@
 pub mod Counted
+pub mod OneList
+pub mod Parts
 pub mod Rows

@@ -3,14 +3,15 @@ use Rattle.std.specs.Option.{option_copied}
 use Rattle.model_core.specs.Each.{for_each}
 use Rattle.po_rules.specs.Gathering.{gathered}
 use Rattle.po_rules.specs.Parts.{parts_of, refined_by}
-use Rattle.po_rules.specs.Tables.{all_rows, event_rows, row_of_event}
+use Rattle.po_rules.specs.Tables.{row_of_event}
 use Rattle.po_machine.specs.Shared.{view, parts_in}
+use Rattle.po_generate.specs.Private.{event_rows_in, rows_in}
 use Rattle.po_generate.proofs.Counted.{stopped}
 use Rattle.po_generate.proofs.table.add_event_rows.Goals as goal
 
 pub returns-then-out-gt-TABLE_LIMIT : goal.returns-then-out-gt-TABLE_LIMIT
 returns-then-out-gt-TABLE_LIMIT c =
-    stopped (view c.args.out.now) (event_rows all_rows c.args.machine.now (option_copied c.args.abstraction) c.args.event.now) c.if-out-gt-TABLE_LIMIT.true
+    stopped (view c.args.out.now) (event_rows_in c.args.part c.args.machine.now (option_copied c.args.abstraction) c.args.event.now) c.if-out-gt-TABLE_LIMIT.true
 
 pub returns : goal.returns
 returns c =
@@ -22,4 +23,4 @@ returns c =
     let parts : parts_in c.in_ok-parts.parts ≡ parts_of m e (refined_by abstraction e) = c.in_ok-parts.ensures.parts ∙ ap (parts_of m e) first in
     c.in_ok-add_rows.ensures
     ∙ (λ i. gathered (view c.args.out.now)
-    (for_each (row_of_event (c.in_ok-parts.ensures.machine i) abstraction (c.in_ok-parts.ensures.event i) (second i) (parts i)) all_rows))
+    (for_each (row_of_event (c.in_ok-parts.ensures.machine i) abstraction (c.in_ok-parts.ensures.event i) (second i) (parts i)) (rows_in c.args.part (second i))))

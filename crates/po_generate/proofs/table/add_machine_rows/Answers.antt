@@ -18,4 +18,4 @@ returns c =
     both_gathered old (view c.add_variant_rows.new.out) (view c.add_each_event.new.out) (own ++ variants) (for_each rows m.events)
     (both_gathered old (view c.add_own_invariant_rows.new.out) (view c.add_variant_rows.new.out) own variants
     c.in_ok-add_own_invariant_rows.ensures c.in_ok-add_variant_rows.ensures)
-    (c.in_ok-add_each_event.ensures ∙ ap (λ es. gathered (view c.add_variant_rows.new.out) (for_each rows es)) c.items.ensures)
+    (c.in_ok-add_each_event.ensures ∙ ap (λ es. gathered (view c.add_variant_rows.new.out) (for_each rows es)) c.items-events.ensures)

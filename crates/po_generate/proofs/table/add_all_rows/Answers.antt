@@ -3,7 +3,7 @@ use Rattle.std.specs.Option.{option_copied}
 use Rattle.po_rules.specs.Tables.{guards, witnesses, strengthening, merging, actions, simulation, equality, invariants, variant, row_of_event, Row}
 use Rattle.po_machine.specs.Shared.{view, parts_in}
 use Rattle.po_generate.proofs.Rows.{nine_gathered}
-use Rattle.po_generate.proofs.table.add_rows.Goals as goal
+use Rattle.po_generate.proofs.table.add_all_rows.Goals as goal
 
 pub returns : goal.returns
 returns c =
