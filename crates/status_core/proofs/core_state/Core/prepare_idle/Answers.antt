@@ -1,0 +1,11 @@
+use Rattle.std.proofs.Common.{sym, subst, List}
+use Rattle.sequent_core.specs.declared.Obligation.{Obligation}
+use Rattle.core_steps.specs.State.{State}
+use Rattle.core_steps.specs.Table.{IsTable}
+use Rattle.status_core.specs.Parts.{IsFirstOpen}
+use Rattle.status_core.proofs.core_state.Core.prepare_idle.Goals as goal
+
+pub tell_idle-requires : goal.tell_idle-requires
+tell_idle-requires c =
+    subst (λ (z : State). (table : List Obligation) → IsTable z.durable.built table → IsFirstOpen z table c.find_open-found.result) (sym c.find_open-found.ensures.same)
+    c.find_open-found.ensures.first

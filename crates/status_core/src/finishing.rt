@@ -1,0 +1,96 @@
+// Tickets that come in.
+ghost use Rattle.std.specs.Prelude.{◌≡◌, ◌<◌, length, slice_get, IfOk, Some};
+ghost use Rattle.std.specs.List.{HoldsAt};
+ghost use Rattle.std.specs.Option.{option_copied, option_map};
+ghost use Rattle.sequent_core.specs.declared.Ticket.{Ticket};
+ghost use Rattle.sequent_core.specs.declared.Attempt.{Attempt};
+ghost use Rattle.core_steps.specs.declared.events.Event.{Event};
+ghost use Rattle.core_steps.specs.declared.events.Reply.{Reply};
+ghost use Rattle.core_steps.specs.declared.events.Status.{Status};
+ghost use Rattle.proof_entries.specs.declared.Entry.{Entry};
+ghost use Rattle.core_steps.specs.Outcomes.{entering};
+ghost use Rattle.core_steps.specs.Tickets.{Ends, IsPresentStatus, by_prover};
+ghost use Rattle.status_core.specs.Prepared.{ComesAs, Prepares};
+ghost use Rattle.status_core.specs.Parts.{IsTicketAt, without_at};
+
+use crate::core_state::Core;
+use crate::lookup::{can_store, present_status, ticket_at};
+use crate::prepared::Prepared;
+use core_steps::{Reply, Status, facts_of};
+use formula_core::{OutOfMemory, PoName};
+use proof_entries::{Origin, Proof};
+use proof_tree::is_good;
+use sequent_core::{Attempt, Obligation, Tree};
+
+impl Core {
+    /// What comes of a finish.
+    pub(crate) fn prepare_finish(
+        &self,
+        number: u64,
+        attempt: &Attempt,
+    ) -> Result<Prepared, OutOfMemory>
+        ensures { IfOk result (λ p. Prepares self.now (Event.Finish number attempt.now) p) }
+    {
+        match ticket_at(&self.out, number) {
+            None => {
+                self.has_table();
+                Ok(self.tell(Reply::NoTicket(number)))
+            }
+            Some(at) => self.finish_at(number, at, attempt),
+        }
+    }
+
+    // What comes of the finish of the ticket at the place.
+    fn finish_at(&self, number: u64, at: usize, attempt: &Attempt) -> Result<Prepared, OutOfMemory>
+        requires { IsTicketAt self.now.out number (Some at) }
+        ensures { IfOk result (λ p. Prepares self.now (Event.Finish number attempt.now) p) }
+    {
+        let ticket = &self.out[at];
+        let name = ticket.name.copy(self.alloc)?;
+        let obligation = self.find(&ticket.name);
+        let status = present_status(&self.durable.proofs, &ticket.name, obligation);
+        match attempt {
+            Attempt::NoProof => self.try_in(Reply::Noted(name, status), at),
+            Attempt::NoMemory => self.try_in(Reply::NoMemory(name, status), at),
+            Attempt::Found(tree) => self.found(at, name, obligation, status, tree),
+        }
+    }
+
+    // The tree is stored, or refused, or stale.
+    fn found(
+        &self,
+        at: usize,
+        name: PoName,
+        obligation: Option<&Obligation>,
+        status: Option<Status>,
+        tree: &Tree,
+    ) -> Result<Prepared, OutOfMemory>
+        requires within { at < length self.now.out }
+        requires name { HoldsAt (λ t. t.name ≡ name) self.now.out at }
+        requires status { IsPresentStatus self.now.durable.proofs name (option_map (λ o. o.sequent) (option_copied obligation)) status }
+        ensures { (ticket : Ticket) → slice_get self.now.out at ≡ Some ticket →
+            IfOk result (λ p. ComesAs self.now (Ends (without_at self.now at) ticket (option_map (λ o. o.sequent) (option_copied obligation.entry)) (Attempt.Found tree.now)) p) }
+    {
+        if can_store(self.alloc, status, obligation, tree)? {
+            return self.store(at, name, tree);
+        }
+        if is_good(tree, self.alloc, &self.out[at].sequent)? {
+            return Ok(self.take_in(Reply::Stale(name, status), at));
+        }
+        self.try_in(Reply::Refused(name, status), at)
+    }
+
+    // The tree is stored as the prover's, and the ticket at the place comes in.
+    fn store(&self, at: usize, name: PoName, tree: &Tree) -> Result<Prepared, OutOfMemory>
+        requires { at < length self.now.out }
+        ensures { IfOk result (λ p. ComesAs self.now (λ x. x ≡ entering (without_at self.now at) (Reply.Stored name (Some Status.Discharged))
+            (Entry.SetProof name (by_prover tree.now))) p) }
+    {
+        let facts = facts_of(self.alloc, tree)?;
+        let tree = tree.copy(self.alloc)?;
+        let origin = Origin::Prover;
+        let told = name.copy(self.alloc)?;
+        let reply = Reply::Stored(told, Some(Status::Discharged));
+        self.keep_in(reply, name, Proof { tree, origin }, facts, at)
+    }
+}
