@@ -1,12 +1,15 @@
 -- What `check` answers, from what it did.
 use Rattle.std.proofs.Common.{◌≡◌, ◌∙◌, ◌⊎◌, inl, inr, sym, ap, subst, refl, ℕ, List, [], ◌++◌}
-use Rattle.std.specs.Prelude.{Ok, Err, codes}
+use Rattle.std.specs.Prelude.{Option, Ok, Err, codes}
 use Rattle.sequent_core.specs.declared.Sequent.{Sequent}
 use Rattle.sequent_core.specs.declared.Attempt.{Attempt}
-use Rattle.status_core.specs.declared.FaultLine.{FaultLine}
-use Rattle.status_core.specs.declared.Status.{Status}
-use Rattle.status_core.specs.State.{opened, no_texts}
-use Rattle.status_core.specs.Run.{Exchange, Run, IsLegal, history_of}
+use Rattle.build_core.specs.declared.FaultLine.{FaultLine}
+use Rattle.proof_entries.specs.declared.Origin.{Origin}
+use Rattle.core_steps.specs.declared.Status.{Status}
+use Rattle.core_steps.specs.Laws.{EntersAll}
+use Rattle.core_steps.specs.Status.{IsRebuilt}
+use Rattle.core_steps.specs.State.{opened, no_texts}
+use Rattle.core_steps.specs.Run.{Exchange, Run, IsLegal, history_of}
 use Rattle.rodin_cli.specs.declared.session.Session.{Session}
 use Rattle.rodin_cli.specs.declared.outcome.Part.{Part}
 use Rattle.check_input.specs.Inputs.{Component, IsInput}
@@ -16,7 +19,7 @@ use Rattle.rodin_cli.specs.Session.{Extends}
 use Rattle.rodin_cli.specs.Script.{IsFull, IsWhole, IsFront}
 use Rattle.rodin_cli.specs.Streams.{Writing, Writes, WritesCut, WritesOrFails, WritesNothing}
 use Rattle.rodin_cli.specs.Texts.{printed}
-use Rattle.rodin_cli.specs.Check.{Leads, IsAnswered, IsTooFull, RanOut, EndsWithLine, ComesOf, HasNoHistory, TellsFaults, TellsWarnings, IsCleanRebuild, IsProved, status_of}
+use Rattle.rodin_cli.specs.Check.{Leads, IsAnswered, IsTooFull, RanOut, EndsWithLine, ComesOf, HasNoHistory, TellsFaults, TellsWarnings, IsProved, status_of}
 use Rattle.rodin_cli.specs.Completeness.{IsComplete}
 use Rattle.rodin_cli.proofs.Sessions.{front_of_whole}
 use Rattle.rodin_cli.proofs.Folding.{run_folds}
@@ -25,6 +28,7 @@ use Rattle.rodin_cli.proofs.Building.{built_of}
 
 -- a session that began empty and did these exchanges
 pub record Did (old new : Session) (exchanges : List Exchange) (part : Part) : Type 0 where
+  pub enters : EntersAll
   pub fresh : old.core ≡ opened no_texts
   pub empty : old.history.items ≡ []
   pub extends : Extends old exchanges new
@@ -42,7 +46,7 @@ module _ (answers : Sequent → Attempt → Type 0) (sure : Sequent → Type 0) 
     run = ran;
     legal = did.legal;
     history = did.history ∙ did.extends.1 ∙ ap (λ h. h ++ history_of 0 exchanges) did.empty;
-    last = did.last ∙ run_folds (opened no_texts) new.core exchanges ran;
+    last = did.last ∙ run_folds did.enters (opened no_texts) new.core exchanges ran;
   }
 
   pub ran_out : (bytes : List ℕ) (sink : Writing) (parts : List Component) → part.status ≡ 9 → IsInput bytes (Ok parts) → IsFront answers sure parts exchanges → WritesNothing sink →
@@ -55,7 +59,7 @@ module _ (answers : Sequent → Attempt → Type 0) (sure : Sequent → Type 0) 
   too_full bytes sink parts status made full text =
       record { parts = parts; made = made; exchanges = exchanges; full = full; leads = leads; status_is = status; text = text }
 
-  module _ (parts : List Component) (told : List FaultLine) (warned : List (List ℕ × List ℕ)) (shown : List (List ℕ × Status)) (whole : IsWhole answers sure parts told warned shown exchanges)
+  module _ (parts : List Component) (told : List FaultLine) (warned : List (List ℕ × List ℕ)) (shown : List (List ℕ × Status × Option Origin)) (whole : IsWhole answers sure parts told warned shown exchanges)
       (complete : IsComplete sure new.core.durable exchanges) where
     pub answered : (bytes : List ℕ) (sink : Writing) → IsInput bytes (Ok parts) →
         ((part.status ≡ status_of told) × Writes sink (printed told warned shown)) ⊎ ((part.status ≡ 4) × WritesCut sink (printed told warned shown)) → IsAnswered answers sure bytes sink part
@@ -74,7 +78,7 @@ module _ (answers : Sequent → Attempt → Type 0) (sure : Sequent → Type 0) 
           built = ap (λ d. d.built) did.last ∙ built_of answers sure bytes parts told warned shown exchanges new.core made whole ran;
           faults = subst (λ d. TellsFaults d told) (sym did.last) tells.0;
           warnings = subst (λ d. TellsWarnings d warned) (sym did.last) tells.1;
-          clean = subst (λ d. IsCleanRebuild d shown) (sym did.last) clean;
+          clean = subst (λ d. IsRebuilt d shown) (sym did.last) clean;
           proved = subst (λ d. IsProved d shown) (sym did.last) (proved_of new.core.durable shown clean);
           complete = subst (λ d. IsComplete sure d exchanges) (sym did.last) complete;
           text = text;
@@ -94,7 +98,7 @@ ran_out_at_once answers sure bytes sink part status nothing kept =
 
 -- an answer that is written, cut, or not begun for want of memory
 pub comes_of_answer : (answers : Sequent → Attempt → Type 0) (sure : Sequent → Type 0) (old new : Session) (exchanges : List Exchange) (part : Part) → Did old new exchanges part →
-    (parts : List Component) (told : List FaultLine) (warned : List (List ℕ × List ℕ)) (shown : List (List ℕ × Status)) → IsWhole answers sure parts told warned shown exchanges → IsComplete sure new.core.durable exchanges →
+    (parts : List Component) (told : List FaultLine) (warned : List (List ℕ × List ℕ)) (shown : List (List ℕ × Status × Option Origin)) → IsWhole answers sure parts told warned shown exchanges → IsComplete sure new.core.durable exchanges →
     (bytes : List ℕ) (sink : Writing) (status : ℕ) → part.status ≡ status → IsInput bytes (Ok parts) →
     ((status ≡ status_of told) × Writes sink (printed told warned shown)) ⊎ ((status ≡ 4) × WritesCut sink (printed told warned shown)) ⊎ ((status ≡ 9) × WritesNothing sink) →
     ComesOf answers sure bytes sink part

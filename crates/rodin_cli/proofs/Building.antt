@@ -1,40 +1,46 @@
 -- What is built are the components of the input.
-use Rattle.std.proofs.Common.{◌≡◌, ◌∙◌, refl, sym, ap, subst, inl, inr, ℕ, ◌+◌, ◌<◌, ◌≤◌, Bool, true, false, cond, List, [], ◌∷◌, ◌++◌, length, arith}
+use Rattle.std.proofs.Common.{◌≡◌, ◌∙◌, sym, ap, subst, inl, inr, ℕ, ◌+◌, ◌<◌, ◌≤◌, Bool, true, false, cond, List, [], ◌∷◌, ◌++◌, length, arith}
 use Rattle.std.specs.Prelude.{Option, None, Ok, fold}
-use Rattle.std.specs.FinMap.{FinMap, insert, len, len-insert, len-empty, contains_key}
+use Rattle.std.specs.FinMap.{empty, insert, len, len-insert, len-empty, contains_key}
 use Rattle.std.specs.Cmp.Lexicographic.{nat_list_cmp_total}
 use Rattle.formula_core.specs.Names.{is_identifier}
 use Rattle.sequent_core.specs.declared.Sequent.{Sequent}
-use Rattle.sequent_core.specs.declared.Obligation.{Obligation}
 use Rattle.sequent_core.specs.declared.Ticket.{Ticket}
 use Rattle.sequent_core.specs.declared.Attempt.{Attempt}
 use Rattle.sequent_core.specs.declared.Attempt.TheVariants.{Found, NoProof, NoMemory as AttemptNoMemory}
-use Rattle.status_core.specs.declared.FaultLine.{FaultLine}
-use Rattle.status_core.specs.declared.Status.{Status}
-use Rattle.status_core.specs.declared.Entry.{Entry}
-use Rattle.status_core.specs.declared.Entry.TheVariants.{Put}
-use Rattle.status_core.specs.declared.Event.TheVariants.{Edit, Build, Take, Finish, Ask}
-use Rattle.status_core.specs.declared.Question.TheVariants.{Statuses as AskStatuses, Faults as AskFaults}
-use Rattle.status_core.specs.declared.Reply.{Reply}
-use Rattle.status_core.specs.declared.Reply.TheVariants.{TableFull, Built}
-use Rattle.status_core.specs.Durable.{ProjectMap, text_cmp}
-use Rattle.status_core.specs.State.{State, entered, opened, no_texts}
-use Rattle.status_core.specs.Step.{Does, Edits, Finishes}
-use Rattle.status_core.specs.Run.{Exchange, Run}
+use Rattle.build_core.specs.declared.FaultLine.{FaultLine}
+use Rattle.proof_entries.specs.declared.Origin.{Origin}
+use Rattle.proof_entries.specs.declared.Entry.TheVariants.{Put}
+use Rattle.core_steps.specs.declared.Status.{Status}
+use Rattle.core_steps.specs.declared.Event.TheVariants.{Edit, Build, Take, Finish, Ask}
+use Rattle.core_steps.specs.declared.Question.TheVariants.{Statuses as AskStatuses, Faults as AskFaults}
+use Rattle.core_steps.specs.declared.Reply.TheVariants.{TableFull, Built}
+use Rattle.core_steps.specs.Durable.{ProjectMap, text_cmp, IsBuildable}
+use Rattle.core_steps.specs.State.{State, entered, opened, no_texts}
+use Rattle.core_steps.specs.Outcomes.{Outcome}
+use Rattle.core_steps.specs.Editing.{Edits, Builds}
+use Rattle.core_steps.specs.Tickets.{Ends}
+use Rattle.core_steps.specs.Step.{Comes}
+use Rattle.core_steps.specs.Run.{Exchange, Run}
+use Rattle.core_steps.proofs.NameMaps.{entries-empty}
 use Rattle.check_input.specs.Inputs.{Component, IsInput}
 use Rattle.check_input.specs.Laws.{AreGoodFrom}
 use Rattle.check_input.proofs.Good.{parts_are_good}
 use Rattle.rodin_cli.specs.Check.{with_part, project_of}
 use Rattle.rodin_cli.specs.Script.{AreEdits, AreTurns, IsBuiltReply, IsWhole}
-use Rattle.rodin_cli.proofs.Sessions.{Run-split}
+use Rattle.rodin_cli.proofs.Sessions.{Run-split, comes}
+
+-- the empty project may be built
+pub empty_buildable : IsBuildable (empty {X = List ℕ} {R = text_cmp})
+empty_buildable = rw (entries-empty {X = List ℕ}) (omega arith, tt)
 
 -- ---- edits
-edited_to : (s t : State) (name text : List ℕ) (reply : Reply) (entry : Option Entry) → Edits s name text reply entry t → is_identifier name ≡ true → length text ≤ 65536 → len s.durable.texts < 256 →
-    t.durable ≡ entered s.durable (Put name text)
-edited_to s t name text reply entry (inl d) is short room = let no : false ≡ true = sym d.0 ∙ is in cc
-edited_to s t name text reply entry (inr (inl d)) is short room = absurd (let long = d.1 in omega (arith, long, short))
-edited_to s t name text reply entry (inr (inr (inl d))) is short room = absurd (let full = d.2.1 in omega (arith, full, room))
-edited_to s t name text reply entry (inr (inr (inr d))) is short room = ap (λ u. u.durable) d.5
+edited_to : (s : State) (x : Outcome) (name text : List ℕ) → Edits s name text x → is_identifier name ≡ true → length text ≤ 65536 → len s.durable.texts < 256 →
+    x.new.durable ≡ entered s.durable (Put name text)
+edited_to s x name text (inl d) is short room = absurd (d.0 is)
+edited_to s x name text (inr (named, inl d)) is short room = absurd (let long = d.0 in omega (arith, long, short))
+edited_to s x name text (inr (named, inr (within, inl d))) is short room = absurd (let full = d.0.1 in omega (arith, full, room))
+edited_to s x name text (inr (named, inr (within, inr d))) is short room = ap (λ z. z.new.durable) d.1
 
 one_more : (b : Bool) (n k : ℕ) → n ≤ k → cond b n (n + 1) ≤ k + 1
 one_more true n k h = omega (arith, h)
@@ -51,33 +57,37 @@ edits_lead [] (x ∷ edits) s t n good room are run = absurd are
 edits_lead (p ∷ parts) [] s t n good room are run = absurd are
 edits_lead (p ∷ parts) (x ∷ edits) s t n good room are (m, step, rest) =
     let few = good.2 in
-    let d : Does s (Edit p.0 p.1) x.reply x.entry m = subst (λ e. Does s e x.reply x.entry m) are.0 step in
-    let is : m.durable ≡ entered s.durable (Put p.0 p.1) = edited_to s m p.0 p.1 x.reply x.entry d good.0 good.1 (omega (arith, few, room)) in
+    let is : m.durable ≡ entered s.durable (Put p.0 p.1) = edited_to s _ p.0 p.1 (comes s m x (Edit p.0 p.1) are.0 step).2 good.0 good.1 (omega (arith, few, room)) in
     let texts : m.durable.texts ≡ insert s.durable.texts p.0 p.1 = ap (λ u. u.texts) is in
     let more : len m.durable.texts ≤ n + 1 = subst (λ u. len u ≤ n + 1) (sym texts) (room_for s.durable.texts p.0 p.1 n room) in
     edits_lead parts edits m t (n + 1) good.3 more are.1 rest ∙ ap (λ u. fold with_part u parts) texts
 
 -- ---- the build, and what comes behind it
-build_takes : (s t : State) (reply : Reply) (entry : Option Entry) → Does s Build reply entry t → IsBuiltReply reply → t.durable.built ≡ s.durable.texts
-build_takes s t reply entry (inl d) (components, faulted, obligations, is) = let no : TableFull d.0 ≡ Built components faulted obligations = sym d.2 ∙ is in cc
-build_takes s t reply entry (inr d) replied = ap (λ u. u.durable.built) d.6
+build_takes : (s : State) (x : Outcome) → Builds s x → IsBuiltReply x.reply → x.new.durable.built ≡ s.durable.texts
+build_takes s x (inl d) (components, faulted, obligations, is) = let no : TableFull d.0 ≡ Built components faulted obligations = sym (ap (λ z. z.reply) d.2) ∙ is in cc
+build_takes s x (inr d) replied = ap (λ z. z.new.durable.built) d.4
 
-take_keeps : (s t : State) (reply : Reply) (entry : Option Entry) → Does s (Take None) reply entry t → t.durable.built ≡ s.durable.built
-take_keeps s t reply entry (table, is, inl d, none) = ap (λ u. u.durable.built) d.2
-take_keeps s t reply entry (table, is, inr d, none) = ap (λ u. u.durable.built) d.6.1
+take_keeps : (s : State) (x : Outcome) → Comes s (Take None) x → x.new.durable.built ≡ s.durable.built
+take_keeps s x (table, is, inl d) = ap (λ z. z.new.durable.built) d.1
+take_keeps s x (table, is, inr d) = ap (λ z. z.new.durable.built) d.6
 
-finishes_keep : (s : State) (table : List Obligation) (ticket : Ticket) (attempt : Attempt) (reply : Reply) (entry : Option Entry) (t : State) → Finishes s table ticket attempt reply entry t →
-    t.durable.built ≡ s.durable.built
-finishes_keep s table ticket NoProof reply entry t f = ap (λ u. u.durable.built) f.6
-finishes_keep s table ticket AttemptNoMemory reply entry t f = ap (λ u. u.durable.built) f.6
-finishes_keep s table ticket (Found tree) reply entry t (sequent, status, present, shown, inl d) = ap (λ u. u.durable.built) d.3
-finishes_keep s table ticket (Found tree) reply entry t (sequent, status, present, shown, inr (inl d)) = ap (λ u. u.durable.built) d.4
-finishes_keep s table ticket (Found tree) reply entry t (sequent, status, present, shown, inr (inr d)) = ap (λ u. u.durable.built) d.4
+ends_keep : (s : State) (ticket : Ticket) (sequent : Option Sequent) (attempt : Attempt) (x : Outcome) → Ends s ticket sequent attempt x → x.new.durable.built ≡ s.durable.built
+ends_keep s ticket sequent NoProof x e = ap (λ z. z.new.durable.built) e.2
+ends_keep s ticket sequent AttemptNoMemory x e = ap (λ z. z.new.durable.built) e.2
+ends_keep s ticket sequent (Found tree) x (status, shown, inl d) = ap (λ z. z.new.durable.built) d.1
+ends_keep s ticket sequent (Found tree) x (status, shown, inr (never, inl d)) = ap (λ z. z.new.durable.built) d.1
+ends_keep s ticket sequent (Found tree) x (status, shown, inr (never, inr d)) = ap (λ z. z.new.durable.built) d.1
 
-finish_keeps : (s t : State) (number : ℕ) (attempt : Attempt) (reply : Reply) (entry : Option Entry) → Does s (Finish number attempt) reply entry t → t.durable.built ≡ s.durable.built
-finish_keeps s t number attempt reply entry (table, is, inl d) = ap (λ u. u.durable.built) d.3
-finish_keeps s t number attempt reply entry (table, is, inr (before, ticket, behind, cut, numbered, f)) =
-    finishes_keep (record s { out = before ++ behind }) table ticket attempt reply entry t f
+finish_keeps : (s : State) (x : Outcome) (number : ℕ) (attempt : Attempt) → Comes s (Finish number attempt) x → x.new.durable.built ≡ s.durable.built
+finish_keeps s x number attempt (table, is, inl d) = ap (λ z. z.new.durable.built) d.1
+finish_keeps s x number attempt (table, is, inr (before, ticket, behind, cut, numbered, (sequent, present, e))) =
+    ends_keep (record s { out = before ++ behind }) ticket sequent attempt x e
+
+faults_keep : (s : State) (x : Outcome) → Comes s (Ask AskFaults) x → x.new.durable.built ≡ s.durable.built
+faults_keep s x (table, is, d) = ap (λ z. z.new.durable.built) d.4
+
+statuses_keep : (s : State) (x : Outcome) → Comes s (Ask AskStatuses) x → x.new.durable.built ≡ s.durable.built
+statuses_keep s x (table, is, d) = ap (λ z. z.new.durable.built) d.2
 
 module _ (answers : Sequent → Attempt → Type 0) (sure : Sequent → Type 0) where
   turns_keep : (turns : List Exchange) (s t : State) → AreTurns answers sure turns → Run s turns t → t.durable.built ≡ s.durable.built
@@ -86,11 +96,11 @@ module _ (answers : Sequent → Attempt → Type 0) (sure : Sequent → Type 0) 
   turns_keep (x ∷ y ∷ turns) s t are (m, first, (n, second, rest)) =
       let (ticket, attempt, takes, given, finishes, fair) = are.0 in
       turns_keep turns n t are.1 rest
-      ∙ finish_keeps m n ticket.number attempt y.reply y.entry (subst (λ e. Does m e y.reply y.entry n) finishes second)
-      ∙ take_keeps s m x.reply x.entry (subst (λ e. Does s e x.reply x.entry m) takes first)
+      ∙ finish_keeps m _ ticket.number attempt (comes m n y (Finish ticket.number attempt) finishes second)
+      ∙ take_keeps s _ (comes s m x (Take None) takes first)
 
   -- a whole run builds the components of the input
-  pub built_of : (bytes : List ℕ) (parts : List Component) (told : List FaultLine) (warned : List (List ℕ × List ℕ)) (shown : List (List ℕ × Status)) (exchanges : List Exchange) (t : State) →
+  pub built_of : (bytes : List ℕ) (parts : List Component) (told : List FaultLine) (warned : List (List ℕ × List ℕ)) (shown : List (List ℕ × Status × Option Origin)) (exchanges : List Exchange) (t : State) →
       IsInput bytes (Ok parts) → IsWhole answers sure parts told warned shown exchanges → Run (opened no_texts) exchanges t → t.durable.built ≡ project_of parts
   built_of bytes parts told warned shown exchanges t made w run =
       let s : State = opened no_texts in
@@ -99,9 +109,9 @@ module _ (answers : Sequent → Attempt → Type 0) (sure : Sequent → Type 0) 
       let none : len s.durable.texts ≡ 0 = len-empty text_cmp (List ℕ) in
       let texts = edits_lead parts w.edits s front.0 0 (parts_are_good bytes parts made) (omega (arith, none)) w.edits_are front.1 in
       let b = front.2 in
-      let built = build_takes front.0 b.0 w.build.reply w.build.entry (subst (λ e. Does front.0 e w.build.reply w.build.entry b.0) w.build_is.0 b.1) w.build_is.1 in
+      let built = build_takes front.0 _ (comes front.0 b.0 w.build Build w.build_is.0 b.1).2 w.build_is.1 in
       let r = cut.2 in
-      let taken = take_keeps cut.0 r.0 w.nothing.reply w.nothing.entry (subst (λ e. Does cut.0 e w.nothing.reply w.nothing.entry r.0) w.nothing_is.0 r.1) in
-      let f : Does r.0 (Ask AskFaults) w.faults.reply w.faults.entry r.2.0 = subst (λ e. Does r.0 e w.faults.reply w.faults.entry r.2.0) w.faults_is.0 r.2.1 in
-      let a : Does r.2.0 (Ask AskStatuses) w.statuses.reply w.statuses.entry r.2.2.0 = subst (λ e. Does r.2.0 e w.statuses.reply w.statuses.entry r.2.2.0) w.statuses_is.0 r.2.2.1 in
-      ap (λ u. u.durable.built) (r.2.2.2 ∙ a.6 ∙ f.6) ∙ taken ∙ turns_keep w.turns b.0 cut.0 w.turns_are b.2 ∙ built ∙ texts
+      let taken = take_keeps cut.0 _ (comes cut.0 r.0 w.nothing (Take None) w.nothing_is.0 r.1) in
+      let tells = faults_keep r.0 _ (comes r.0 r.2.0 w.faults (Ask AskFaults) w.faults_is.0 r.2.1) in
+      let shows = statuses_keep r.2.0 _ (comes r.2.0 r.2.2.0 w.statuses (Ask AskStatuses) w.statuses_is.0 r.2.2.1) in
+      ap (λ u. u.durable.built) r.2.2.2 ∙ shows ∙ tells ∙ taken ∙ turns_keep w.turns b.0 cut.0 w.turns_are b.2 ∙ built ∙ texts

@@ -13,25 +13,27 @@ use Rattle.sequent_core.specs.declared.Attempt.TheVariants.{Found, NoProof, NoMe
 use Rattle.sequent_core.specs.Trees.{Derives}
 use Rattle.sequent_core.specs.Provers.{IsGood, IsGoodTree}
 use Rattle.sequent_core.proofs.Nodes.{derives_not_leaf}
-use Rattle.status_core.specs.Durable.{text_cmp}
-use Rattle.status_core.specs.declared.Status.{Status}
-use Rattle.status_core.specs.declared.Status.TheVariants.{Unattempted}
-use Rattle.status_core.specs.declared.Entry.{Entry}
-use Rattle.status_core.specs.declared.Entry.TheVariants.{SetProof}
-use Rattle.status_core.specs.declared.Event.TheVariants.{Take, Finish}
-use Rattle.status_core.specs.declared.Reply.{Reply}
-use Rattle.status_core.specs.declared.Reply.TheVariants.{Taken, Nothing, NoTicket, Noted, NoMemory, Stored, Refused, Stale}
-use Rattle.status_core.specs.Table.{IsTable, IsPresent, HasDistinctPoNames, HasDistinctTable}
-use Rattle.status_core.specs.Status.{IsStatus, IsUnsettled, IsUnsettledBy}
-use Rattle.status_core.specs.State.{State, entered, IsFresh}
-use Rattle.status_core.specs.Step.{Does, Finishes, CanStore, IsOpen, IsFor, TakesFirst, ticket_for, tried_with}
-use Rattle.status_core.specs.Run.{Exchange, Run, IsLegal}
-use Rattle.status_core.proofs.Alls.{all_both, all_last, all_so, all_so_both}
-use Rattle.status_core.proofs.NameMaps.{get_same, get_other}
-use Rattle.status_core.proofs.Tables.{present_one}
+use Rattle.proof_entries.specs.declared.Proof.{Proof}
+use Rattle.proof_entries.specs.declared.Entry.TheVariants.{SetProof}
+use Rattle.core_steps.specs.Durable.{text_cmp}
+use Rattle.core_steps.specs.declared.Status.{Status}
+use Rattle.core_steps.specs.declared.Status.TheVariants.{Unattempted}
+use Rattle.core_steps.specs.declared.Event.TheVariants.{Take, Finish}
+use Rattle.core_steps.specs.declared.Reply.{Reply}
+use Rattle.core_steps.specs.declared.Reply.TheVariants.{Taken, Nothing, NoTicket, Noted, NoMemory, Stored, Refused}
+use Rattle.core_steps.specs.Table.{IsTable, IsPresent}
+use Rattle.core_steps.specs.Status.{IsStatus, IsUnsettled, IsUnsettledBy}
+use Rattle.core_steps.specs.State.{State, entered, IsFresh}
+use Rattle.core_steps.specs.Outcomes.{Outcome}
+use Rattle.core_steps.specs.Step.{Comes}
+use Rattle.core_steps.specs.Tickets.{CanStore, Ends, IsOpen, IsFor, TakesFirst, by_prover, ticket_for, tried_with}
+use Rattle.core_steps.specs.Run.{Exchange, Run, IsLegal}
+use Rattle.core_steps.proofs.Alls.{all_both, all_last, all_so, all_so_both}
+use Rattle.core_steps.proofs.NameMaps.{get_same, get_other}
 use Rattle.rodin_cli.specs.Script.{IsTurn, AreTurns}
 use Rattle.rodin_cli.specs.Completeness.{LacksMemory, HasNoMemory}
-use Rattle.rodin_cli.proofs.OneTable.{one_table, distinct_table}
+use Rattle.rodin_cli.proofs.OneTable.{HasDistinctPoNames, one_table, distinct_table, apart_before, apart_behind, present_one}
+use Rattle.rodin_cli.proofs.Sessions.{outcome, comes}
 
 -- LISTS CUT AT THE FIRST ELEMENT WITH A PROPERTY
 
@@ -88,8 +90,8 @@ done_closed : (sure : Sequent → Type 0) (s : State) (xs : List Exchange) (o : 
 done_closed sure s xs o (inl settled) open_ = settled open_.unsettled
 done_closed sure s xs o (inr tried) open_ = open_.not_tried tried.0
 
-unsettled_without : (proofs : FinMap text_cmp Tree) (o : Obligation) → get proofs o.name ≡ None → IsUnsettledBy proofs o
-unsettled_without proofs o none = (Unattempted, subst (λ tree. IsStatus tree o.sequent Unattempted) (sym none) refl, inl refl)
+unsettled_without : (proofs : FinMap text_cmp Proof) (o : Obligation) → get proofs o.name ≡ None → IsUnsettledBy proofs o
+unsettled_without proofs o none = (Unattempted, subst (λ stored. IsStatus stored o.sequent Unattempted) (sym none) refl, inl refl)
 
 untouched_open : (s : State) (o : Obligation) → s.out ≡ [] → IsUntouched s o → IsOpen s o
 untouched_open s o out untouched = record {
@@ -109,38 +111,39 @@ pub record Closes (sure : Sequent → Type 0) (s t : State) (o : Obligation) (xs
   pub done : IsDone sure t xs o
   pub legal : (number : ℕ) → reply ≢ NoTicket number
 
-settled_by : (proofs : FinMap text_cmp Tree) (o : Obligation) (tree : Tree) → Derives tree o.sequent → IsUnsettledBy (insert proofs o.name tree) o → ⊥
-settled_by proofs o tree derives unsettled = by unsettled.0 (subst (λ stored. IsStatus stored o.sequent unsettled.0) (get_same proofs o.name tree) unsettled.1) unsettled.2 where
-  by : (status : Status) → IsStatus (Some tree) o.sequent status → IsUnsettled status → ⊥
-  by status is (inl e) = derives_not_leaf tree o.sequent derives (subst (λ q. IsStatus (Some tree) o.sequent q) e is)
-  by status is (inr e) = (subst (λ q. IsStatus (Some tree) o.sequent q) e is).1 derives.applies
+settled_by : (proofs : FinMap text_cmp Proof) (o : Obligation) (proof : Proof) → Derives proof.tree o.sequent → IsUnsettledBy (insert proofs o.name proof) o → ⊥
+settled_by proofs o proof derives unsettled = by unsettled.0 (subst (λ stored. IsStatus stored o.sequent unsettled.0) (get_same proofs o.name proof) unsettled.1) unsettled.2 where
+  by : (status : Status) → IsStatus (Some proof) o.sequent status → IsUnsettled status → ⊥
+  by status is (inl e) = derives_not_leaf proof.tree o.sequent derives (subst (λ q. IsStatus (Some proof) o.sequent q) e is)
+  by status is (inr e) = (subst (λ q. IsStatus (Some proof) o.sequent q) e is).1 derives.applies
 
 module _ (sure : Sequent → Type 0) (s : State) (number : ℕ) (o : Obligation) (xs : List Exchange) where
-  tried_closes : (t : State) (reply : Reply) → t ≡ tried_with s (ticket_for number o) → ((n : ℕ) → reply ≢ NoTicket n) →
-      (sure o.sequent → ⊥) ⊎ HasNoMemory o xs → Closes sure s t o xs reply
-  tried_closes t reply is legal why =
-      subst (λ u. Closes sure s u o xs reply) (sym is) (record {
-        out = refl;
-        next = refl;
-        built = refl;
-        proofs = λ p apart. refl;
-        tried = λ p apart. get_other s.tried o.name p.name o.sequent apart;
-        done = inr (get_same s.tried o.name o.sequent, why);
-        legal = legal;
-      })
+  closes_as : (x z : Outcome) → x ≡ z → Closes sure s z.new o xs z.reply → Closes sure s x.new o xs x.reply
+  closes_as x z is closes = subst (λ u. Closes sure s u.new o xs u.reply) (sym is) closes
 
-  stored_closes : (t : State) (reply : Reply) (tree : Tree) → t ≡ record s { durable = entered s.durable (SetProof o.name tree) } → ((n : ℕ) → reply ≢ NoTicket n) →
-      Derives tree o.sequent → Closes sure s t o xs reply
-  stored_closes t reply tree is legal derives =
-      subst (λ u. Closes sure s u o xs reply) (sym is) (record {
-        out = refl;
-        next = refl;
-        built = refl;
-        proofs = λ p apart. get_other s.durable.proofs o.name p.name tree apart;
-        tried = λ p apart. refl;
-        done = inl (settled_by s.durable.proofs o tree derives);
-        legal = legal;
-      })
+  tried_closes : (reply : Reply) → ((n : ℕ) → reply ≢ NoTicket n) → (sure o.sequent → ⊥) ⊎ HasNoMemory o xs →
+      Closes sure s (tried_with s (ticket_for number o)) o xs reply
+  tried_closes reply legal why = record {
+    out = refl;
+    next = refl;
+    built = refl;
+    proofs = λ p apart. refl;
+    tried = λ p apart. get_other s.tried o.name p.name o.sequent apart;
+    done = inr (get_same s.tried o.name o.sequent, why);
+    legal = legal;
+  }
+
+  stored_closes : (reply : Reply) (proof : Proof) → ((n : ℕ) → reply ≢ NoTicket n) → Derives proof.tree o.sequent →
+      Closes sure s (record s { durable = entered s.durable (SetProof o.name proof) }) o xs reply
+  stored_closes reply proof legal derives = record {
+    out = refl;
+    next = refl;
+    built = refl;
+    proofs = λ p apart. get_other s.durable.proofs o.name p.name proof apart;
+    tried = λ p apart. refl;
+    done = inl (settled_by s.durable.proofs o proof derives);
+    legal = legal;
+  }
 
   can_store : (sequent : Option Sequent) (tree : Tree) → sequent ≡ Some o.sequent → get s.durable.proofs o.name ≡ None → IsGoodTree tree o.sequent → CanStore s.durable.proofs o.name sequent tree
   can_store sequent tree is none good =
@@ -150,38 +153,20 @@ module _ (sure : Sequent → Type 0) (s : State) (number : ℕ) (o : Obligation)
   stores sequent tree is can = (subst (λ q. CanStore s.durable.proofs o.name q tree) is can).1.derives
 
   -- the finish of the one ticket that was out, with an attempt that is good where the sequent is sure
-  pub finish_closes : (table : List Obligation) (attempt : Attempt) (reply : Reply) (entry : Option Entry) (t : State) →
-      ((sequent : Option Sequent) → IsPresent table o.name sequent → sequent ≡ Some o.sequent) → get s.durable.proofs o.name ≡ None →
+  pub finish_closes : (sequent : Option Sequent) (attempt : Attempt) (x : Outcome) → sequent ≡ Some o.sequent → get s.durable.proofs o.name ≡ None →
       (sure o.sequent → IsGood attempt o.sequent) → (attempt ≡ AttemptNoMemory → HasNoMemory o xs) →
-      Finishes s table (ticket_for number o) attempt reply entry t → Closes sure s t o xs reply
-  finish_closes table NoProof reply entry t present none fair memory f =
-      tried_closes t reply f.6 (λ n e. let no : Noted o.name f.1 ≡ NoTicket n = sym f.4 ∙ e in cc) (inl fair)
-  finish_closes table AttemptNoMemory reply entry t present none fair memory f =
-      tried_closes t reply f.6 (λ n e. let no : NoMemory o.name f.1 ≡ NoTicket n = sym f.4 ∙ e in cc) (inr (memory refl))
-  finish_closes table (Found tree) reply entry t present none fair memory f = by f.4 where
-    by : ((CanStore s.durable.proofs o.name f.0 tree
-        × (reply ≡ Stored o.name f.1) × (entry ≡ Some (SetProof o.name tree)) × (t ≡ record s { durable = entered s.durable (SetProof o.name tree) }))
-        ⊎ ((CanStore s.durable.proofs o.name f.0 tree → ⊥) × (IsGoodTree tree o.sequent → ⊥)
-        × (reply ≡ Refused o.name f.1) × (entry ≡ None) × (t ≡ tried_with s (ticket_for number o)))
-        ⊎ ((CanStore s.durable.proofs o.name f.0 tree → ⊥) × IsGoodTree tree o.sequent
-        × (reply ≡ Stale o.name f.1) × (entry ≡ None) × (t ≡ s))) → Closes sure s t o xs reply
-    by (inl stored) =
-        stored_closes t reply tree stored.3 (λ n e. let no : Stored o.name f.1 ≡ NoTicket n = sym stored.1 ∙ e in cc) (stores f.0 tree (present f.0 f.2) stored.0)
-    by (inr (inl refused)) =
-        tried_closes t reply refused.4 (λ n e. let no : Refused o.name f.1 ≡ NoTicket n = sym refused.2 ∙ e in cc) (inl (λ is. refused.1 (fair is)))
-    by (inr (inr stale)) = absurd (stale.0 (can_store f.0 tree (present f.0 f.2) none stale.1))
+      Ends s (ticket_for number o) sequent attempt x → Closes sure s x.new o xs x.reply
+  finish_closes sequent NoProof x is none fair memory e =
+      closes_as x _ e.2 (tried_closes (Noted o.name e.0) (λ n k. let no : Noted o.name e.0 ≡ NoTicket n = k in cc) (inl fair))
+  finish_closes sequent AttemptNoMemory x is none fair memory e =
+      closes_as x _ e.2 (tried_closes (NoMemory o.name e.0) (λ n k. let no : NoMemory o.name e.0 ≡ NoTicket n = k in cc) (inr (memory refl)))
+  finish_closes sequent (Found tree) x is none fair memory (status, shown, inl (can, stored)) =
+      closes_as x _ stored (stored_closes (Stored o.name status) (by_prover tree) (λ n k. let no : Stored o.name status ≡ NoTicket n = k in cc) (stores sequent tree is can))
+  finish_closes sequent (Found tree) x is none fair memory (status, shown, inr (never, inl (good, stale))) = absurd (never (can_store sequent tree is none good))
+  finish_closes sequent (Found tree) x is none fair memory (status, shown, inr (never, inr (bad, refused))) =
+      closes_as x _ refused (tried_closes (Refused o.name status) (λ n k. let no : Refused o.name status ≡ NoTicket n = k in cc) (inl (λ certain. bad (fair certain))))
 
 -- THE TURNS
-
--- names around one in a table without repeats
-apart_before : (before : List Obligation) (o : Obligation) (behind : List Obligation) → HasDistinctPoNames (before ++ o ∷ behind) → AllByRecursion (λ p. p.name ≢ o.name) before
-apart_before [] o behind distinct = tt
-apart_before (p ∷ before) o behind distinct =
-    ((λ e. (all_last (λ q. q.name ≢ p.name) before (o ∷ behind) distinct.0).0 (sym e)), apart_before before o behind distinct.1)
-
-apart_behind : (before : List Obligation) (o : Obligation) (behind : List Obligation) → HasDistinctPoNames (before ++ o ∷ behind) → AllByRecursion (λ p. p.name ≢ o.name) behind
-apart_behind [] o behind distinct = distinct.0
-apart_behind (p ∷ before) o behind distinct = apart_behind before o behind distinct.1
 
 -- The first obligations, `before`, were worked on, one a turn, and the others, `ahead`, weren't. No ticket is out.
 pub record Worked (sure : Sequent → Type 0) (before ahead : List Obligation) (s : State) (xs : List Exchange) : Type 0 where
@@ -202,30 +187,30 @@ module _ (sure : Sequent → Type 0) (s t : State) (o : Obligation) (xs ys : Lis
   stays_untouched p apart untouched = (closes.proofs p apart ∙ untouched.0, closes.tried p apart ∙ untouched.1)
 
 -- a take that gives a ticket gives one for the first obligation that wasn't worked on
-pub taken_first : (sure : Sequent → Type 0) (before ahead : List Obligation) (s m : State) (xs : List Exchange) (ticket : Ticket) →
-    Worked sure before ahead s xs → TakesFirst s (before ++ ahead) (Taken ticket) m →
+pub taken_first : (sure : Sequent → Type 0) (before ahead : List Obligation) (s : State) (x : Outcome) (xs : List Exchange) (ticket : Ticket) → x.reply ≡ Taken ticket →
+    Worked sure before ahead s xs → TakesFirst s (before ++ ahead) x →
     (o : Obligation) × (behind : List Obligation) × (ahead ≡ o ∷ behind) × (ticket ≡ ticket_for s.next o)
-    × (m ≡ record s { out = ticket_for s.next o ∷ []; next = s.next + 1 })
-taken_first sure before ahead s m xs ticket worked (inl none) = let no : Taken ticket ≡ Nothing = none.0 in cc
-taken_first sure before ahead s m xs ticket worked (inr (b, o, behind, cut, closed, open_, takes)) =
+    × (x.new ≡ record s { out = ticket_for s.next o ∷ []; next = s.next + 1 })
+taken_first sure before ahead s x xs ticket replied worked (inl none) = let no : Taken ticket ≡ Nothing = sym replied ∙ ap (λ z. z.reply) none.1 in cc
+taken_first sure before ahead s x xs ticket replied worked (inr (b, o, behind, cut, closed, open_, takes)) =
     let same = same_cut (IsOpen s) before ahead b behind o cut
     (all_so (IsDone sure s xs) (λ p. IsOpen s p → ⊥) (λ p. done_closed sure s xs p) before worked.past)
     (all_so (IsUntouched s) (IsOpen s) (λ p. untouched_open s p worked.out) ahead worked.future)
     closed open_ in
-    let given : Taken ticket ≡ Taken (ticket_for s.next o) = takes.0 in
+    let given : Taken ticket ≡ Taken (ticket_for s.next o) = sym replied ∙ ap (λ z. z.reply) takes in
     let is : ticket ≡ ticket_for s.next o = cc in
-    (o, behind, same.1, is, takes.1 ∙ ap (λ out. record s { out = out ++ ticket_for s.next o ∷ []; next = s.next + 1 }) worked.out)
+    (o, behind, same.1, is, ap (λ z. z.new) takes ∙ ap (λ out. record s { out = out ++ ticket_for s.next o ∷ []; next = s.next + 1 }) worked.out)
 
 -- nothing is left to take only where every obligation was worked on
-pub nothing_left : (sure : Sequent → Type 0) (before ahead : List Obligation) (s m : State) (xs : List Exchange) →
-    Worked sure before ahead s xs → TakesFirst s (before ++ ahead) Nothing m → (ahead ≡ []) × (m ≡ s)
-nothing_left sure before ahead s m xs worked (inl none) =
-    (empty_of ahead worked.future (all_last (λ p. IsOpen s p → ⊥) before ahead none.1), none.2) where
+pub nothing_left : (sure : Sequent → Type 0) (before ahead : List Obligation) (s : State) (x : Outcome) (xs : List Exchange) → x.reply ≡ Nothing →
+    Worked sure before ahead s xs → TakesFirst s (before ++ ahead) x → (ahead ≡ []) × (x.new ≡ s)
+nothing_left sure before ahead s x xs replied worked (inl none) =
+    (empty_of ahead worked.future (all_last (λ p. IsOpen s p → ⊥) before ahead none.0), ap (λ z. z.new) none.1) where
       empty_of : (os : List Obligation) → AllByRecursion (IsUntouched s) os → AllByRecursion (λ p. IsOpen s p → ⊥) os → os ≡ []
       empty_of [] untouched closed = refl
       empty_of (o ∷ os) untouched closed = absurd (closed.0 (untouched_open s o worked.out untouched.0))
-nothing_left sure before ahead s m xs worked (inr (b, o, behind, cut, closed, open_, takes)) =
-    let no : Nothing ≡ Taken (ticket_for s.next o) = takes.0 in cc
+nothing_left sure before ahead s x xs replied worked (inr (b, o, behind, cut, closed, open_, takes)) =
+    let no : Nothing ≡ Taken (ticket_for s.next o) = sym replied ∙ ap (λ z. z.reply) takes in cc
 
 -- what a turn leads to
 pub record Turned (sure : Sequent → Type 0) (before ahead : List Obligation) (s t : State) (xs : List Exchange) : Type 0 where
@@ -237,17 +222,16 @@ pub record Turned (sure : Sequent → Type 0) (before ahead : List Obligation) (
 
 module _ (answers : Sequent → Attempt → Type 0) (sure : Sequent → Type 0) where
   -- the ticket that is out is taken in
-  finished : (before : List Obligation) (o : Obligation) (behind : List Obligation) (s t : State) (xs ys : List Exchange) (attempt : Attempt) (reply : Reply) (entry : Option Entry) →
-      HasDistinctPoNames (before ++ o ∷ behind) → Worked sure before (o ∷ behind) s xs → ((q : Obligation) → HasNoMemory q xs → HasNoMemory q ys) → IsLegal xs →
-      (((number : ℕ) → reply ≢ NoTicket number) → IsLegal ys) →
-      (sure o.sequent → IsGood attempt o.sequent) → (attempt ≡ AttemptNoMemory → HasNoMemory o ys) →
-      Finishes (record s { out = []; next = s.next + 1 }) (before ++ o ∷ behind) (ticket_for s.next o) attempt reply entry t →
-      Turned sure before (o ∷ behind) s t ys
-  finished before o behind s t xs ys attempt reply entry distinct worked more legal_xs legal_ys fair memory f =
+  finished : (before : List Obligation) (o : Obligation) (behind : List Obligation) (s : State) (xs ys : List Exchange) (sequent : Option Sequent) (attempt : Attempt) (x : Outcome) →
+      HasDistinctPoNames (before ++ o ∷ behind) → Worked sure before (o ∷ behind) s xs → ((q : Obligation) → HasNoMemory q xs → HasNoMemory q ys) →
+      (((number : ℕ) → x.reply ≢ NoTicket number) → IsLegal ys) →
+      (sure o.sequent → IsGood attempt o.sequent) → (attempt ≡ AttemptNoMemory → HasNoMemory o ys) → sequent ≡ Some o.sequent →
+      Ends (record s { out = []; next = s.next + 1 }) (ticket_for s.next o) sequent attempt x →
+      Turned sure before (o ∷ behind) s x.new ys
+  finished before o behind s xs ys sequent attempt x distinct worked more legal fair memory is ends =
       let m : State = record s { out = []; next = s.next + 1 } in
-      let closes : Closes sure m t o ys reply =
-      finish_closes sure m s.next o ys (before ++ o ∷ behind) attempt reply entry t
-      (λ sequent present. present_one (before ++ o ∷ behind) before o behind refl distinct sequent present) worked.future.0.0 fair memory f in
+      let t : State = x.new in
+      let closes : Closes sure m t o ys x.reply = finish_closes sure m s.next o ys sequent attempt x is worked.future.0.0 fair memory ends in
       record {
         o = o;
         behind = behind;
@@ -257,47 +241,46 @@ module _ (answers : Sequent → Attempt → Type 0) (sure : Sequent → Type 0) 
           out = closes.out;
           next = closes.next ∙ omega (arith, worked.next, length-append before (o ∷ []));
           past = all_both (IsDone sure t ys) before (o ∷ [])
-              (all_so_both (λ p. p.name ≢ o.name) (IsDone sure s xs) (IsDone sure t ys) (λ p apart done. stays_done sure m t o xs ys reply closes p apart more done)
+              (all_so_both (λ p. p.name ≢ o.name) (IsDone sure s xs) (IsDone sure t ys) (λ p apart done. stays_done sure m t o xs ys x.reply closes p apart more done)
               before (apart_before before o behind distinct) worked.past)
               (closes.done, tt);
-          future = all_so_both (λ p. p.name ≢ o.name) (IsUntouched s) (IsUntouched t) (λ p apart untouched. stays_untouched sure m t o xs ys reply closes p apart untouched)
+          future = all_so_both (λ p. p.name ≢ o.name) (IsUntouched s) (IsUntouched t) (λ p apart untouched. stays_untouched sure m t o xs ys x.reply closes p apart untouched)
               behind (apart_behind before o behind distinct) worked.future.1;
-          legal = legal_ys closes.legal;
+          legal = legal closes.legal;
         };
       }
 
   -- the finish of the ticket that was taken
-  finish_step : (before : List Obligation) (o : Obligation) (behind : List Obligation) (s t : State) (xs ys : List Exchange) (attempt : Attempt) (reply : Reply) (entry : Option Entry) →
+  finish_step : (before : List Obligation) (o : Obligation) (behind : List Obligation) (s : State) (xs ys : List Exchange) (attempt : Attempt) (x : Outcome) →
       IsTable s.durable.built (before ++ o ∷ behind) → HasDistinctPoNames (before ++ o ∷ behind) → Worked sure before (o ∷ behind) s xs →
-      ((q : Obligation) → HasNoMemory q xs → HasNoMemory q ys) → (((number : ℕ) → reply ≢ NoTicket number) → IsLegal ys) →
+      ((q : Obligation) → HasNoMemory q xs → HasNoMemory q ys) → (((number : ℕ) → x.reply ≢ NoTicket number) → IsLegal ys) →
       (sure o.sequent → IsGood attempt o.sequent) → (attempt ≡ AttemptNoMemory → HasNoMemory o ys) →
-      Does (record s { out = ticket_for s.next o ∷ []; next = s.next + 1 }) (Finish s.next attempt) reply entry t →
-      Turned sure before (o ∷ behind) s t ys
-  finish_step before o behind s t xs ys attempt reply entry table distinct worked more legal fair memory (table', is, inl none) = absurd (none.0.0 refl)
-  finish_step before o behind s t xs ys attempt reply entry table distinct worked more legal fair memory (table', is, inr (b, ticket, bh, cut, numbered, f)) =
+      Comes (record s { out = ticket_for s.next o ∷ []; next = s.next + 1 }) (Finish s.next attempt) x →
+      Turned sure before (o ∷ behind) s x.new ys
+  finish_step before o behind s xs ys attempt x table distinct worked more legal fair memory (table', is, inl none) = absurd (none.0.0 refl)
+  finish_step before o behind s xs ys attempt x table distinct worked more legal fair memory (table', is, inr (b, ticket, bh, cut, numbered, (sequent, present, ends))) =
       let single = single_cut (ticket_for s.next o) ticket b bh cut in
-      let m : State = record s { out = ticket_for s.next o ∷ []; next = s.next + 1 } in
-      let f1 : Finishes (record m { out = [] ++ bh }) table' ticket attempt reply entry t =
-      subst (λ bs. Finishes (record m { out = bs ++ bh }) table' ticket attempt reply entry t) single.0 f in
-      let f2 : Finishes (record m { out = [] }) table' ticket attempt reply entry t =
-      subst (λ bs. Finishes (record m { out = [] ++ bs }) table' ticket attempt reply entry t) single.2 f1 in
-      let f3 : Finishes (record m { out = [] }) table' (ticket_for s.next o) attempt reply entry t =
-      subst (λ k. Finishes (record m { out = [] }) table' k attempt reply entry t) (sym single.1) f2 in
-      let f4 : Finishes (record m { out = [] }) (before ++ o ∷ behind) (ticket_for s.next o) attempt reply entry t =
-      subst (λ os. Finishes (record m { out = [] }) os (ticket_for s.next o) attempt reply entry t) (one_table s.durable.built table' (before ++ o ∷ behind) is table) f3 in
-      finished before o behind s t xs ys attempt reply entry distinct worked more worked.legal legal fair memory f4
+      let m : State = record s { out = []; next = s.next + 1 } in
+      let left : b ++ bh ≡ [] = ap (λ bs. bs ++ bh) single.0 ∙ single.2 in
+      let ends' : Ends m (ticket_for s.next o) sequent attempt x =
+      subst (λ k. Ends m k sequent attempt x) (sym single.1) (subst (λ out. Ends (record m { out = out }) ticket sequent attempt x) left ends) in
+      let present' : IsPresent (before ++ o ∷ behind) o.name sequent =
+      subst (λ k. IsPresent (before ++ o ∷ behind) k.name sequent) (sym single.1)
+      (subst (λ os. IsPresent os ticket.name sequent) (one_table s.durable.built table' (before ++ o ∷ behind) is table) present) in
+      finished before o behind s xs ys sequent attempt x distinct worked more legal fair memory (present_one before o behind distinct sequent present') ends'
 
   -- a turn works on the next obligation
   pub turned : (before ahead : List Obligation) (s t : State) (xs : List Exchange) (x y : Exchange) →
       IsTable s.durable.built (before ++ ahead) → HasDistinctPoNames (before ++ ahead) → Worked sure before ahead s xs → IsTurn answers sure x y → Run s (x ∷ y ∷ []) t →
       Turned sure before ahead s t (xs ++ x ∷ y ∷ [])
   turned before ahead s t xs x y table distinct worked (ticket, attempt, takes, given, finishes, fair) (m, first, (n, second, last)) =
-      let d : Does s (Take None) (Taken ticket) x.entry m = subst (λ r. Does s (Take None) r x.entry m) given (subst (λ e. Does s e x.reply x.entry m) takes first) in
-      let taken : TakesFirst s (before ++ ahead) (Taken ticket) m =
-      subst (λ os. TakesFirst s os (Taken ticket) m) (one_table s.durable.built d.0 (before ++ ahead) d.1 table) d.2 in
-      let (o, behind, was, is, mid) = taken_first sure before ahead s m xs ticket worked taken in
-      subst (λ os. Turned sure before os s t (xs ++ x ∷ y ∷ [])) (sym was)
-      (finish_step before o behind s t xs (xs ++ x ∷ y ∷ []) attempt y.reply y.entry
+      let d = comes s m x (Take None) takes first in
+      let taken = subst (λ os. TakesFirst s os (outcome x m)) (one_table s.durable.built d.0 (before ++ ahead) d.1 table) d.2 in
+      let (o, behind, was, is, mid) = taken_first sure before ahead s (outcome x m) xs ticket given worked taken in
+      let f = comes m n y (Finish s.next attempt) (finishes ∙ ap (λ k. Finish k.number attempt) is) second in
+      subst (λ u. Turned sure before ahead s u (xs ++ x ∷ y ∷ [])) (sym last)
+      (subst (λ os. Turned sure before os s n (xs ++ x ∷ y ∷ [])) (sym was)
+      (finish_step before o behind s xs (xs ++ x ∷ y ∷ []) attempt (outcome y n)
       (subst (λ os. IsTable s.durable.built (before ++ os)) was table)
       (subst (λ os. HasDistinctPoNames (before ++ os)) was distinct)
       (subst (λ os. Worked sure before os s xs) was worked)
@@ -307,9 +290,7 @@ module _ (answers : Sequent → Attempt → Type 0) (sure : Sequent → Type 0) 
       (subst (λ k. sure k.sequent → IsGood attempt k.sequent) is fair.1)
       (λ lacks. has_before o xs (x ∷ y ∷ [])
       (inl (ticket, given, (ap (λ k. k.name) is, ap (λ k. k.sequent) is), finishes ∙ ap (λ a. Finish ticket.number a) lacks)))
-      (subst (λ u. Does (record s { out = ticket_for s.next o ∷ []; next = s.next + 1 }) (Finish s.next attempt) y.reply y.entry u) (sym last)
-      (subst (λ u. Does u (Finish s.next attempt) y.reply y.entry n) mid
-      (subst (λ e. Does m e y.reply y.entry n) (finishes ∙ ap (λ k. Finish k.number attempt) is) second))))
+      (subst (λ u. Comes u (Finish s.next attempt) (outcome y n)) mid f)))
 
   -- turns work on one obligation each
   pub turns_worked : (turns : List Exchange) (before ahead : List Obligation) (s t : State) (xs : List Exchange) →
@@ -358,8 +339,8 @@ fresh_worked sure table s fresh = record {
 
 -- turns from a fresh state are no more than there are obligations, and each takes the next number
 pub turns_bound : (answers : Sequent → Attempt → Type 0) (sure : Sequent → Type 0) (turns : List Exchange) (table : List Obligation) (s t : State) (r : ℕ) →
-    IsFresh s → HasDistinctTable s.durable.built → IsTable s.durable.built table → AreTurns answers sure turns → Run s turns t → length turns ≡ 2 * r → (r ≤ length table) × (t.next ≡ r + 1)
-turns_bound answers sure turns table s t r fresh distinct is are run count =
-    let w = turns_worked answers sure turns [] table s t [] is (distinct_table s.durable.built table is distinct) (fresh_worked sure table s fresh) are run in
+    IsFresh s → IsTable s.durable.built table → AreTurns answers sure turns → Run s turns t → length turns ≡ 2 * r → (r ≤ length table) × (t.next ≡ r + 1)
+turns_bound answers sure turns table s t r fresh is are run count =
+    let w = turns_worked answers sure turns [] table s t [] is (distinct_table s.durable.built table is) (fresh_worked sure table s fresh) are run in
     let done : r ≡ length w.0 = omega (arith, count, w.5) in
     (omega (arith, done, ap length w.2, length-append w.0 w.1), w.3.next ∙ ap (λ n. n + 1) (sym done))

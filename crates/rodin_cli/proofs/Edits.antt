@@ -1,14 +1,14 @@
 -- The edits of the parts, and the build.
 use Rattle.std.proofs.Common.{◌≡◌, ◌∙◌, refl, sym, ap, subst, inl, inr, ℕ, Bool, true, false, IsTrue, List, [], ◌∷◌, ◌++◌, length, map, take, drop}
-use Rattle.std.specs.Prelude.{Option, MatchBool}
+use Rattle.std.specs.Prelude.{MatchBool}
 use Rattle.std.proofs.lemmas.List.{append-nil, map-id, take-append-drop}
-use Rattle.status_core.specs.declared.Entry.{Entry}
-use Rattle.status_core.specs.declared.Event.TheVariants.{Edit, Build}
-use Rattle.status_core.specs.declared.Reply.{Reply}
-use Rattle.status_core.specs.declared.Reply.TheVariants.{TableFull}
-use Rattle.status_core.specs.State.{State}
-use Rattle.status_core.specs.Step.{Does}
-use Rattle.status_core.specs.Run.{Exchange}
+use Rattle.core_steps.specs.declared.Event.TheVariants.{Edit, Build}
+use Rattle.core_steps.specs.declared.Reply.{Reply}
+use Rattle.core_steps.specs.declared.Reply.TheVariants.{TableFull}
+use Rattle.core_steps.specs.State.{State}
+use Rattle.core_steps.specs.Outcomes.{Outcome}
+use Rattle.core_steps.specs.Editing.{Builds}
+use Rattle.core_steps.specs.Run.{Exchange}
 use Rattle.rodin_cli.specs.declared.session.Session.{Session}
 use Rattle.check_input.specs.Inputs.{Component}
 use Rattle.rodin_cli.specs.Script.{AreEdits, AreFirstEdits, IsBuiltReply, IsFull}
@@ -30,19 +30,26 @@ front_is_first parts front edits e are =
     let whole : front ++ drop (length front) parts ≡ parts = ap (λ ps. ps ++ drop (length front) parts) (sym (map-id front) ∙ e) ∙ take-append-drop (length front) parts in
     subst (λ ps. AreFirstEdits ps edits) whole (first_of front (drop (length front) parts) edits are)
 
-pub one_more_edit : (parts : List Component) (part : Component) (edits : List Exchange) (x : Exchange) → AreEdits parts edits → x.event ≡ Edit part.0 part.1 →
+one_more_edit : (parts : List Component) (part : Component) (edits : List Exchange) (x : Exchange) → AreEdits parts edits → x.event ≡ Edit part.0 part.1 →
     AreEdits (parts ++ part ∷ []) (edits ++ x ∷ [])
 one_more_edit [] part [] x are is = (is, tt)
 one_more_edit [] part (y ∷ edits) x are is = absurd are
 one_more_edit (p ∷ parts) part [] x are is = absurd are
 one_more_edit (p ∷ parts) part (y ∷ edits) x are is = (are.0, one_more_edit parts part edits x are.1 is)
 
+-- one more part is edited
+pub next_edit : (a b c : Session) (done : List Component) (part : Component) (reply : Reply) → (edits : List Exchange) × AreEdits done edits × Extends a edits b →
+    Performs b (Edit part.0 part.1) reply c → (edits : List Exchange) × AreEdits (done ++ part ∷ []) edits × Extends a edits c
+next_edit a b c done part reply edited performs =
+    let x = performed b c (Edit part.0 part.1) reply performs in
+    (edited.0 ++ x.0 ∷ [], one_more_edit done part edited.0 x.0 edited.1 x.1, both a b c edited.0 (x.0 ∷ []) edited.2 x.3)
+
 pub then_unchanged : (a b c : Session) (xs : List Exchange) → Extends a xs b → IsUnchanged b c → Extends a xs c
 then_unchanged a b c xs p same = subst (λ ys. Extends a ys c) (append-nil xs) (both a b c xs [] p (unchanged b c same))
 
-full_nodes : (s t : State) (reply : Reply) (entry : Option Entry) → Does s Build reply entry t → (IsBuiltReply reply → ⊥) → (n : ℕ) × (reply ≡ TableFull n)
-full_nodes s t reply entry (inl d) never = (d.0, d.2)
-full_nodes s t reply entry (inr d) never = absurd (never (_, _, _, d.4))
+full_nodes : (s : State) (x : Outcome) → Builds s x → (IsBuiltReply x.reply → ⊥) → (n : ℕ) × (x.reply ≡ TableFull n)
+full_nodes s x (inl d) never = (d.0, ap (λ z. z.reply) d.2)
+full_nodes s x (inr d) never = absurd (never (_, _, _, ap (λ z. z.reply) d.4))
 
 -- edits and a build, which is refused where the table is too large
 pub built_or_full : (parts : List Component) (a b c : Session) (reply : Reply) (built : Bool) → (edits : List Exchange) × AreEdits parts edits × Extends a edits b →
@@ -55,7 +62,7 @@ built_or_full parts a b c reply true edited done says =
     (edited.0, x.0, edited.1, x.1, subst IsBuiltReply (sym x.2) (says.0 refl), both a b c edited.0 (x.0 ∷ []) edited.2 x.3)
 built_or_full parts a b c reply false edited done says =
     let x = performed b c Build reply done in
-    let full = full_nodes b.core c.core reply done.0.0 done.0.1 (λ is. let wrong : false ≡ true = says.1 is in cc) in (
+    let full = full_nodes b.core (record { reply = reply; entry = done.0.0; new = c.core }) done.0.1.2 (λ is. let wrong : false ≡ true = says.1 is in cc) in (
       edited.0 ++ x.0 ∷ [],
       record { edits = edited.0; build = x.0; nodes = full.0; in_order = refl; edits_are = edited.1; build_is = (x.1, x.2 ∙ full.1) },
       both a b c edited.0 (x.0 ∷ []) edited.2 x.3,

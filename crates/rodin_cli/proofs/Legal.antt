@@ -5,46 +5,49 @@ use Rattle.std.specs.Prelude.{Option, None}
 use Rattle.sequent_core.specs.declared.Sequent.{Sequent}
 use Rattle.sequent_core.specs.declared.Obligation.{Obligation}
 use Rattle.sequent_core.specs.declared.Attempt.{Attempt}
-use Rattle.status_core.specs.declared.FaultLine.{FaultLine}
-use Rattle.status_core.specs.declared.Status.{Status}
-use Rattle.status_core.specs.declared.Entry.{Entry}
-use Rattle.status_core.specs.declared.Event.TheVariants.{Edit, Build, Take, Ask}
-use Rattle.status_core.specs.declared.Question.TheVariants.{Statuses as AskStatuses, Faults as AskFaults}
-use Rattle.status_core.specs.declared.Reply.{Reply}
-use Rattle.status_core.specs.declared.Reply.TheVariants.{BadName, TextTooLong, ProjectFull, Edited, Built, TableFull, Nothing, Taken, NoTicket, Statuses, Faults}
-use Rattle.status_core.specs.Status.{IsUnsettledBy}
-use Rattle.status_core.specs.Table.{IsTable, HasDistinctTable}
-use Rattle.status_core.specs.State.{State, opened, no_texts, IsFresh}
-use Rattle.status_core.specs.Step.{Does, Edits, Builds, TakesFirst, ticket_for}
-use Rattle.status_core.specs.Run.{Exchange, Step, Run, IsLegal}
-use Rattle.status_core.proofs.Alls.{all_both, all_so}
+use Rattle.build_core.specs.declared.FaultLine.{FaultLine}
+use Rattle.proof_entries.specs.declared.Origin.{Origin}
+use Rattle.core_steps.specs.declared.Status.{Status}
+use Rattle.core_steps.specs.declared.Event.TheVariants.{Edit, Build, Take, Ask}
+use Rattle.core_steps.specs.declared.Question.TheVariants.{Statuses as AskStatuses, Faults as AskFaults}
+use Rattle.core_steps.specs.declared.Reply.{Reply}
+use Rattle.core_steps.specs.declared.Reply.TheVariants.{BadName, TextTooLong, ProjectFull, Edited, Built, TableFull, Nothing, Taken, NoTicket, Statuses, Faults}
+use Rattle.core_steps.specs.Status.{IsUnsettledBy}
+use Rattle.core_steps.specs.Table.{IsTable}
+use Rattle.core_steps.specs.State.{State, opened, no_texts, IsFresh}
+use Rattle.core_steps.specs.Outcomes.{Outcome}
+use Rattle.core_steps.specs.Editing.{Edits, Builds}
+use Rattle.core_steps.specs.Tickets.{TakesFirst, ticket_for}
+use Rattle.core_steps.specs.Run.{Exchange, Step, Run, IsLegal}
+use Rattle.core_steps.proofs.Alls.{all_both, all_so}
 use Rattle.check_input.specs.Inputs.{Component}
 use Rattle.rodin_cli.specs.declared.session.Session.{Session}
 use Rattle.rodin_cli.specs.Session.{Extends, IsUnchanged}
 use Rattle.rodin_cli.specs.Script.{AreEdits, AreFirstEdits, AreTurns, IsEndFront, IsBuiltReply, IsFull, IsWhole, IsFront}
 use Rattle.rodin_cli.specs.Completeness.{HasNoMemory, IsComplete}
 use Rattle.rodin_cli.proofs.OneTable.{one_table, distinct_table}
-use Rattle.rodin_cli.proofs.Sessions.{Run-both, Run-split, both, unchanged, regrouped, regrouped_asked, regrouped_whole}
+use Rattle.rodin_cli.proofs.Sessions.{outcome, comes, Run-both, Run-split, both, unchanged, regrouped, regrouped_asked, regrouped_whole}
 use Rattle.rodin_cli.proofs.Completing.{Worked, IsDone, turns_worked, fresh_worked, nothing_left, has_before, has_behind}
 
 -- the reply isn't that no such ticket is out
 abbrev pub IsLegalReply : Reply → Type 0
 IsLegalReply reply = (number : ℕ) → reply ≢ NoTicket number
 
-edit_keeps : (s t : State) (name text : List ℕ) (reply : Reply) (entry : Option Entry) → Edits s name text reply entry t → IsFresh s → IsFresh t × IsLegalReply reply
-edit_keeps s t name text reply entry (inl d) fresh =
-    (subst IsFresh (sym d.3) fresh, λ n e. let no : BadName ≡ NoTicket n = sym d.1 ∙ e in cc)
-edit_keeps s t name text reply entry (inr (inl d)) fresh =
-    (subst IsFresh (sym d.4) fresh, λ n e. let no : TextTooLong ≡ NoTicket n = sym d.2 ∙ e in cc)
-edit_keeps s t name text reply entry (inr (inr (inl d))) fresh =
-    (subst IsFresh (sym d.5) fresh, λ n e. let no : ProjectFull ≡ NoTicket n = sym d.3 ∙ e in cc)
-edit_keeps s t name text reply entry (inr (inr (inr d))) fresh = (
-  subst IsFresh (sym d.5) (record { proofs = fresh.proofs; out = fresh.out; tried = fresh.tried; next = fresh.next }),
-  λ n e. let no : Edited name ≡ NoTicket n = sym d.3 ∙ e in cc,
-)
+legal_as : (x z : Outcome) → x ≡ z → IsLegalReply z.reply → IsLegalReply x.reply
+legal_as x z is legal = subst (λ u. IsLegalReply u.reply) (sym is) legal
+
+fresh_as : (x z : Outcome) → x ≡ z → IsFresh z.new → IsLegalReply z.reply → IsFresh x.new × IsLegalReply x.reply
+fresh_as x z is fresh legal = (subst (λ u. IsFresh u.new) (sym is) fresh, legal_as x z is legal)
+
+edit_keeps : (s : State) (x : Outcome) (name text : List ℕ) → Edits s name text x → IsFresh s → IsFresh x.new × IsLegalReply x.reply
+edit_keeps s x name text (inl d) fresh = fresh_as x _ d.1 fresh (λ n e. let no : BadName ≡ NoTicket n = e in cc)
+edit_keeps s x name text (inr (named, inl d)) fresh = fresh_as x _ d.1 fresh (λ n e. let no : TextTooLong ≡ NoTicket n = e in cc)
+edit_keeps s x name text (inr (named, inr (within, inl d))) fresh = fresh_as x _ d.1 fresh (λ n e. let no : ProjectFull ≡ NoTicket n = e in cc)
+edit_keeps s x name text (inr (named, inr (within, inr d))) fresh =
+    fresh_as x _ d.1 (record { proofs = fresh.proofs; out = fresh.out; tried = fresh.tried; next = fresh.next }) (λ n e. let no : Edited name ≡ NoTicket n = e in cc)
 
 edit_step : (s t : State) (x : Exchange) (name text : List ℕ) → x.event ≡ Edit name text → Step s x t → IsFresh s → IsFresh t × IsLegalReply x.reply
-edit_step s t x name text e d fresh = edit_keeps s t name text x.reply x.entry (subst (λ q. Does s q x.reply x.entry t) e d) fresh
+edit_step s t x name text e d fresh = edit_keeps s (outcome x t) name text (comes s t x (Edit name text) e d).2 fresh
 
 -- edits leave a fresh state fresh
 pub edits_fresh : (parts : List Component) (edits : List Exchange) (s t : State) → AreEdits parts edits → Run s edits t → IsFresh s → IsFresh t × IsLegal edits
@@ -64,36 +67,35 @@ first_edits_legal (part ∷ parts) (x ∷ edits) s t are run fresh =
     let one = edit_step s run.0 x part.0 part.1 are.0 run.1 fresh in
     (one.1, first_edits_legal parts edits run.0 t are.1 run.2 one.0)
 
-built_step : (s t : State) (reply : Reply) (entry : Option Entry) → Builds s reply entry t → IsFresh s → IsFresh t × IsLegalReply reply
-built_step s t reply entry (inl d) fresh = (subst IsFresh (sym d.4) fresh, λ n e. let no : TableFull d.0 ≡ NoTicket n = sym d.2 ∙ e in cc)
-built_step s t reply entry (inr d) fresh = (
-  subst IsFresh (sym d.6) (record { proofs = fresh.proofs; out = fresh.out; tried = fresh.tried; next = fresh.next }),
-  λ n e. let no : Built _ _ _ ≡ NoTicket n = sym d.4 ∙ e in cc,
-)
+built_step : (s : State) (x : Outcome) → Builds s x → IsFresh s → IsFresh x.new × IsLegalReply x.reply
+built_step s x (inl d) fresh = fresh_as x _ d.2 fresh (λ n e. let no : TableFull d.0 ≡ NoTicket n = e in cc)
+built_step s x (inr d) fresh =
+    fresh_as x _ d.4 (record { proofs = fresh.proofs; out = fresh.out; tried = fresh.tried; next = fresh.next }) (λ n e. let no : Built _ _ _ ≡ NoTicket n = e in cc)
 
 build_step : (s t : State) (x : Exchange) → x.event ≡ Build → Step s x t → IsFresh s → IsFresh t × IsLegalReply x.reply
-build_step s t x e d fresh = built_step s t x.reply x.entry (subst (λ q. Does s q x.reply x.entry t) e d) fresh
+build_step s t x e d fresh = built_step s (outcome x t) (comes s t x Build e d).2 fresh
 
 -- where the texts are built, they have a table
-built_table : (s t : State) (reply : Reply) (entry : Option Entry) → Builds s reply entry t → IsBuiltReply reply → (table : List Obligation) × IsTable t.durable.built table
-built_table s t reply entry (inl d) (components, faulted, obligations, is) = let no : TableFull d.0 ≡ Built components faulted obligations = sym d.2 ∙ is in cc
-built_table s t reply entry (inr d) built = (d.0, subst (λ u. IsTable u.durable.built d.0) (sym d.6) d.2.0)
+built_table : (s : State) (x : Outcome) → Builds s x → IsBuiltReply x.reply → (table : List Obligation) × IsTable x.new.durable.built table
+built_table s x (inl d) (components, faulted, obligations, is) = let no : TableFull d.0 ≡ Built components faulted obligations = sym (ap (λ z. z.reply) d.2) ∙ is in cc
+built_table s x (inr d) built = (d.0, subst (λ u. IsTable u.new.durable.built d.0) (sym d.4) d.2.0)
+
+taken_legal : (s : State) (x : Outcome) (table : List Obligation) → TakesFirst s table x → IsLegalReply x.reply
+taken_legal s x table (inl none) = legal_as x _ none.1 (λ n e. let no : Nothing ≡ NoTicket n = e in cc)
+taken_legal s x table (inr taken) = legal_as x _ taken.6 (λ n e. let no : Taken (ticket_for s.next taken.1) ≡ NoTicket n = e in cc)
 
 take_step : (s t : State) (x : Exchange) → x.event ≡ Take None → Step s x t → IsLegalReply x.reply
-take_step s t x e d n f = by (subst (λ q. Does s q x.reply x.entry t) e d) where
-  by : Does s (Take None) x.reply x.entry t → ⊥
-  by (table, is, inl none, entry) = let no : Nothing ≡ NoTicket n = sym none.0 ∙ f in cc
-  by (table, is, inr taken, entry) = let no : Taken (ticket_for s.next taken.1) ≡ NoTicket n = sym taken.6.0 ∙ f in cc
+take_step s t x e d = let a = comes s t x (Take None) e d in taken_legal s (outcome x t) a.0 a.2
 
 ask_faults_step : (s t : State) (x : Exchange) → x.event ≡ Ask AskFaults → Step s x t → IsLegalReply x.reply
-ask_faults_step s t x e d n f =
-    let a : Does s (Ask AskFaults) x.reply x.entry t = subst (λ q. Does s q x.reply x.entry t) e d in
-    let no : Faults a.0 a.1 ≡ NoTicket n = sym a.4 ∙ f in cc
+ask_faults_step s t x e d =
+    let a = (comes s t x (Ask AskFaults) e d).2 in
+    legal_as (outcome x t) _ a.4 (λ n f. let no : Faults a.0 a.1 ≡ NoTicket n = f in cc)
 
 ask_statuses_step : (s t : State) (x : Exchange) → x.event ≡ Ask AskStatuses → Step s x t → IsLegalReply x.reply
-ask_statuses_step s t x e d n f =
-    let a : Does s (Ask AskStatuses) x.reply x.entry t = subst (λ q. Does s q x.reply x.entry t) e d in
-    let no : Statuses a.1 ≡ NoTicket n = sym a.4 ∙ f in cc
+ask_statuses_step s t x e d =
+    let a = (comes s t x (Ask AskStatuses) e d).2 in
+    legal_as (outcome x t) _ a.2 (λ n f. let no : Statuses a.0 ≡ NoTicket n = f in cc)
 
 end_legal : (end : List Exchange) (s t : State) → IsEndFront end → Run s end t → IsLegal end
 end_legal [] s t are run = tt
@@ -124,7 +126,7 @@ module _ (answers : Sequent → Attempt → Type 0) (sure : Sequent → Type 0) 
     pub legal : IsLegal ((edits ++ build ∷ []) ++ turns)
 
   module _ (parts : List Component) (edits : List Exchange) (build : Exchange) (s m : State) (empty : s ≡ opened no_texts) (are : AreEdits parts edits) (is : build.event ≡ Build)
-      (replied : IsBuiltReply build.reply) (run : Run s (edits ++ build ∷ []) m) (distinct : HasDistinctTable m.durable.built) where
+      (replied : IsBuiltReply build.reply) (run : Run s (edits ++ build ∷ []) m) where
     begun : (turns : List Exchange) (t : State) → AreTurns answers sure turns → Run m turns t → Begun edits build turns t
     begun turns t turned rest =
         let cut = Run-split s m edits (build ∷ []) run in
@@ -132,8 +134,8 @@ module _ (answers : Sequent → Attempt → Type 0) (sure : Sequent → Type 0) 
         let last : m ≡ cut.2.0 = cut.2.2 in
         let step : Step cut.0 build m = subst (λ u. Step cut.0 build u) (sym last) cut.2.1 in
         let built = build_step cut.0 m build is step edited.0 in
-        let b = built_table cut.0 m build.reply build.entry (subst (λ q. Does cut.0 q build.reply build.entry m) is step) replied in
-        let w = turns_worked answers sure turns [] b.0 m t [] b.1 (distinct_table m.durable.built b.0 b.1 distinct) (fresh_worked sure b.0 m built.0) turned rest in
+        let b = built_table cut.0 (outcome build m) (comes cut.0 m build Build is step).2 replied in
+        let w = turns_worked answers sure turns [] b.0 m t [] b.1 (distinct_table m.durable.built b.0 b.1) (fresh_worked sure b.0 m built.0) turned rest in
         record {
           before = w.0;
           ahead = w.1;
@@ -158,26 +160,23 @@ module _ (answers : Sequent → Attempt → Type 0) (sure : Sequent → Type 0) 
 
   -- a whole run leaves no sure obligation unproved, unless memory ran out over it
   pub whole_complete : (parts : List Component) (edits : List Exchange) (build : Exchange) (s m : State) → s ≡ opened no_texts → AreEdits parts edits → build.event ≡ Build →
-      IsBuiltReply build.reply → Run s (edits ++ build ∷ []) m → HasDistinctTable m.durable.built →
+      IsBuiltReply build.reply → Run s (edits ++ build ∷ []) m →
       (turns : List Exchange) (nothing faults statuses : Exchange) (t : State) → AreTurns answers sure turns → nothing.event ≡ Take None → nothing.reply ≡ Nothing →
       faults.event ≡ Ask AskFaults → statuses.event ≡ Ask AskStatuses → Run m (turns ++ nothing ∷ faults ∷ statuses ∷ []) t →
       IsComplete sure t.durable ((edits ++ build ∷ turns) ++ nothing ∷ faults ∷ statuses ∷ [])
-  whole_complete parts edits build a m empty are is replied run distinct turns nothing faults statuses t turned taken none asked shown rest =
+  whole_complete parts edits build a m empty are is replied run turns nothing faults statuses t turned taken none asked shown rest =
       let end = nothing ∷ faults ∷ statuses ∷ [] in
       let cut = Run-split m t turns end rest in
       let s = cut.0 in
       let k = cut.2.0 in
-      let begins = begun parts edits build a m empty are is replied run distinct turns s turned cut.1 in
-      let d : Does s (Take None) Nothing nothing.entry k =
-      subst (λ r. Does s (Take None) r nothing.entry k) none (subst (λ e. Does s e nothing.reply nothing.entry k) taken cut.2.1) in
-      let first : TakesFirst s (begins.before ++ begins.ahead) Nothing k =
-      subst (λ os. TakesFirst s os Nothing k) (one_table s.durable.built d.0 (begins.before ++ begins.ahead) d.1 begins.table) d.2 in
-      let left = nothing_left sure begins.before begins.ahead s k turns begins.worked first in
+      let begins = begun parts edits build a m empty are is replied run turns s turned cut.1 in
+      let d = comes s k nothing (Take None) taken cut.2.1 in
+      let first = subst (λ os. TakesFirst s os (outcome nothing k)) (one_table s.durable.built d.0 (begins.before ++ begins.ahead) d.1 begins.table) d.2 in
+      let left = nothing_left sure begins.before begins.ahead s (outcome nothing k) turns none begins.worked first in
       let n = cut.2.2.0 in
-      let f : Does k (Ask AskFaults) faults.reply faults.entry n = subst (λ e. Does k e faults.reply faults.entry n) asked cut.2.2.1 in
-      let q = cut.2.2.2.0 in
-      let g : Does n (Ask AskStatuses) statuses.reply statuses.entry q = subst (λ e. Does n e statuses.reply statuses.entry q) shown cut.2.2.2.1 in
-      let same : t ≡ s = cut.2.2.2.2 ∙ g.6 ∙ f.6 ∙ left.1 in
+      let f = (comes k n faults (Ask AskFaults) asked cut.2.2.1).2 in
+      let g = (comes n cut.2.2.2.0 statuses (Ask AskStatuses) shown cut.2.2.2.1).2 in
+      let same : t ≡ s = cut.2.2.2.2 ∙ ap (λ z. z.new) g.2 ∙ ap (λ z. z.new) f.4 ∙ left.1 in
       let whole : begins.before ++ begins.ahead ≡ begins.before = ap (λ os. begins.before ++ os) left.0 ∙ append-nil begins.before in
       subst (λ u. IsComplete sure u.durable ((edits ++ build ∷ turns) ++ end)) (sym same) (
         begins.before,
@@ -208,10 +207,10 @@ begun_fresh parts edits build s t empty are is run =
 
 module _ (answers : Sequent → Attempt → Type 0) (sure : Sequent → Type 0) (parts : List Component) (a b c d : Session)
     (edits : List Exchange) (build : Exchange) (turns : List Exchange) (nothing : Exchange) (empty : a.core ≡ opened no_texts)
-    (are : AreEdits parts edits) (is : build.event ≡ Build) (replied : IsBuiltReply build.reply) (distinct : HasDistinctTable b.core.durable.built) (turned : AreTurns answers sure turns)
+    (are : AreEdits parts edits) (is : build.event ≡ Build) (replied : IsBuiltReply build.reply) (turned : AreTurns answers sure turns)
     (taken : nothing.event ≡ Take None) (left : nothing.reply ≡ Nothing) (p : Extends a (edits ++ build ∷ []) b) (q : Extends b (turns ++ nothing ∷ []) c) where
   so_far : IsLegal ((edits ++ build ∷ []) ++ (turns ++ nothing ∷ []))
-  so_far = front_legal answers sure parts edits build a.core b.core empty are is replied p.0 distinct turns (nothing ∷ []) c.core turned taken q.0
+  so_far = front_legal answers sure parts edits build a.core b.core empty are is replied p.0 turns (nothing ∷ []) c.core turned taken q.0
 
   -- nothing is left, and the questions fail
   pub front_of_asking : (IsUnchanged c d ⊎ ((x : Exchange) × (x.event ≡ Ask AskFaults) × Extends c (x ∷ []) d)) →
@@ -231,7 +230,7 @@ module _ (answers : Sequent → Attempt → Type 0) (sure : Sequent → Type 0) 
   )
 
   -- nothing is left, and the questions are answered
-  pub whole_of_asking : (told : List FaultLine) (warned : List (List ℕ × List ℕ)) (shown : List (List ℕ × Status)) (x y : Exchange) →
+  pub whole_of_asking : (told : List FaultLine) (warned : List (List ℕ × List ℕ)) (shown : List (List ℕ × Status × Option Origin)) (x y : Exchange) →
       x.event ≡ Ask AskFaults → x.reply ≡ Faults told warned → y.event ≡ Ask AskStatuses → y.reply ≡ Statuses shown → Extends c (x ∷ y ∷ []) d →
       (exchanges : List Exchange) × IsWhole answers sure parts told warned shown exchanges × IsLegal exchanges × IsComplete sure d.core.durable exchanges × Extends a exchanges d
   whole_of_asking told warned shown x y asks tells asks_more shows r = (
@@ -254,7 +253,7 @@ module _ (answers : Sequent → Attempt → Type 0) (sure : Sequent → Type 0) 
     subst IsLegal (regrouped_whole edits build turns nothing x y)
         (all_both (λ z. IsLegalReply z.reply) ((edits ++ build ∷ []) ++ (turns ++ nothing ∷ [])) (x ∷ y ∷ []) so_far
         (ask_faults_step c.core r.0.0 x asks r.0.1, (ask_statuses_step r.0.0 r.0.2.0 y asks_more r.0.2.1, tt))),
-    whole_complete answers sure parts edits build a.core b.core empty are is replied p.0 distinct turns nothing x y d.core turned taken left asks asks_more
+    whole_complete answers sure parts edits build a.core b.core empty are is replied p.0 turns nothing x y d.core turned taken left asks asks_more
         (subst (λ xs. Run b.core xs d.core) (append_assoc turns (nothing ∷ []) (x ∷ y ∷ [])) (Run-both b.core c.core d.core (turns ++ nothing ∷ []) (x ∷ y ∷ []) q.0 r.0)),
     subst (λ xs. Extends a xs d) (regrouped_whole edits build turns nothing x y) (both a c d _ (x ∷ y ∷ []) (both a b c _ _ p q) r),
   )

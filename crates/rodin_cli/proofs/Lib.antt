@@ -8,5 +8,6 @@ pub mod Known
 pub mod Legal
 pub mod OneTable
 pub mod Sessions
+pub mod Sizes
 pub mod Typed
 pub mod Words

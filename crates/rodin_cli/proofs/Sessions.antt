@@ -5,12 +5,15 @@ use Rattle.std.specs.Prelude.{Option, Some, None}
 use Rattle.std.specs.Io.KnownBytes.{Keeps}
 use Rattle.sequent_core.specs.declared.Sequent.{Sequent}
 use Rattle.sequent_core.specs.declared.Attempt.{Attempt}
-use Rattle.status_core.specs.declared.FaultLine.{FaultLine}
-use Rattle.status_core.specs.declared.Status.{Status}
-use Rattle.status_core.specs.declared.Event.{Event}
-use Rattle.status_core.specs.declared.Reply.{Reply}
-use Rattle.status_core.specs.State.{State}
-use Rattle.status_core.specs.Run.{Exchange, Run, history_of}
+use Rattle.build_core.specs.declared.FaultLine.{FaultLine}
+use Rattle.proof_entries.specs.declared.Origin.{Origin}
+use Rattle.core_steps.specs.declared.Status.{Status}
+use Rattle.core_steps.specs.declared.Event.{Event}
+use Rattle.core_steps.specs.declared.Reply.{Reply}
+use Rattle.core_steps.specs.Outcomes.{Outcome}
+use Rattle.core_steps.specs.State.{State}
+use Rattle.core_steps.specs.Step.{Comes}
+use Rattle.core_steps.specs.Run.{Exchange, Step, Run, history_of}
 use Rattle.rodin_cli.specs.declared.session.Session.{Session}
 use Rattle.check_input.specs.Inputs.{Component}
 use Rattle.rodin_cli.specs.Session.{Performs, IsUnchanged, Extends}
@@ -23,6 +26,13 @@ Run-both a b c (x ∷ xs) ys p q = (p.0, p.1, Run-both p.0 b c xs ys p.2 q)
 pub Run-split : (a b : State) (xs ys : List Exchange) → Run a (xs ++ ys) b → (s : State) × Run a xs s × Run s ys b
 Run-split a b [] ys r = (a, refl, r)
 Run-split a b (x ∷ xs) ys r = let t = Run-split r.0 b xs ys r.2 in (t.0, (r.0, r.1, t.1), t.2)
+
+-- what comes of the event of an exchange
+abbrev pub outcome : Exchange → State → Outcome
+outcome x new = record { reply = x.reply; entry = x.entry; new = new }
+
+pub comes : (s t : State) (x : Exchange) (event : Event) → x.event ≡ event → Step s x t → Comes s event (outcome x t)
+comes s t x event is step = subst (λ e. Comes s e (outcome x t)) is step
 
 pub performed : (old new : Session) (event : Event) (reply : Reply) → Performs old event reply new →
     (x : Exchange) × (x.event ≡ event) × (x.reply ≡ reply) × Extends old (x ∷ []) new
@@ -56,7 +66,7 @@ regrouped_asked edits build turns nothing x = simp append_assoc
 
 module _ (answers : Sequent → Attempt → Type 0) (sure : Sequent → Type 0) (parts : List Component) where
   -- a whole run is a front of one
-  pub front_of_whole : (told : List FaultLine) (warned : List (List ℕ × List ℕ)) (shown : List (List ℕ × Status)) (exchanges : List Exchange) →
+  pub front_of_whole : (told : List FaultLine) (warned : List (List ℕ × List ℕ)) (shown : List (List ℕ × Status × Option Origin)) (exchanges : List Exchange) →
       IsWhole answers sure parts told warned shown exchanges → IsFront answers sure parts exchanges
   front_of_whole told warned shown exchanges w =
       inr (

@@ -1,23 +1,24 @@
 -- What `check` did: its status, its history, and what it read and wrote.
-use Rattle.std.specs.Prelude.{◌≡◌, ◌⊎◌, ℕ, ◌≤◌, ◌<◌, List, [], ◌∷◌, length, map, fold, codes, String, string_bytes, Some, Ok, Err}
+use Rattle.std.specs.Prelude.{◌≡◌, ◌⊎◌, ℕ, ◌≤◌, ◌<◌, List, [], ◌∷◌, length, map, fold, codes, String, string_bytes, Option, Some, Ok, Err}
 use Rattle.std.specs.List.{AllZip}
 use Rattle.std.specs.FinMap.{empty, get, insert}
 use Rattle.std.specs.declared.alloc.Global.{Global}
 use Rattle.sequent_core.specs.declared.Sequent.{Sequent}
 use Rattle.sequent_core.specs.declared.Obligation.{Obligation}
 use Rattle.sequent_core.specs.declared.Attempt.{Attempt}
-use Rattle.sequent_core.specs.declared.Tree.{Tree}
 use Rattle.sequent_core.specs.Trees.{Derives}
-use Rattle.status_core.specs.declared.Durable.{Durable}
-use Rattle.status_core.specs.declared.FaultLine.{FaultLine}
-use Rattle.status_core.specs.declared.Status.{Status}
-use Rattle.status_core.specs.declared.Status.TheVariants.{Discharged}
-use Rattle.status_core.specs.Durable.{ProjectMap}
-use Rattle.status_core.specs.Status.{Shows}
-use Rattle.status_core.specs.Faults.{AreFaults, AreWarnings}
-use Rattle.status_core.specs.Table.{IsTable}
-use Rattle.status_core.specs.State.{State, opened, no_texts, after}
-use Rattle.status_core.specs.Run.{Exchange, Run, IsLegal, history_of}
+use Rattle.build_core.specs.declared.FaultLine.{FaultLine}
+use Rattle.proof_entries.specs.declared.Origin.{Origin}
+use Rattle.proof_entries.specs.declared.Proof.{Proof}
+use Rattle.core_steps.specs.declared.Durable.{Durable}
+use Rattle.core_steps.specs.declared.Status.{Status}
+use Rattle.core_steps.specs.declared.Status.TheVariants.{Discharged}
+use Rattle.core_steps.specs.Durable.{ProjectMap}
+use Rattle.core_steps.specs.Status.{IsRebuilt}
+use Rattle.core_steps.specs.Faults.{AreFaults, AreWarnings}
+use Rattle.core_steps.specs.Table.{IsTable}
+use Rattle.core_steps.specs.State.{State, opened, no_texts, after}
+use Rattle.core_steps.specs.Run.{Exchange, Run, IsLegal, history_of}
 use Rattle.rodin_cli.specs.declared.outcome.Part.{Part}
 use Rattle.rodin_cli.specs.Streams.{Reading, Writing, SourceFailed, Writes, WritesCut, WritesOrFails, WritesNothing, Takes, Ends}
 use Rattle.rodin_cli.specs.Texts.{printed}
@@ -36,19 +37,14 @@ pub record Leads (part : Part) (exchanges : List Exchange) : Type 0 where
   pub history : part.history.items ≡ history_of 0 exchanges
   pub last : part.last ≡ after no_texts (map (λ x. x.entry) exchanges)
 
--- The status guarantee, its first sentence: the statuses shown are those of a clean rebuild, that is those of the
--- stored proofs for the table of the built texts.
-abbrev pub IsCleanRebuild : Durable → List (List ℕ × Status) → Type 0
-IsCleanRebuild d shown = (table : List Obligation) × IsTable d.built table × AllZip (Shows d.proofs) table shown
-
--- where the obligation is shown discharged, a tree is stored under its name that derives its sequent
-abbrev pub IsProvedWhereDischarged : Durable → Obligation → List ℕ × Status → Type 0
+-- where the obligation is shown discharged, a proof is stored under its name that derives its sequent
+abbrev pub IsProvedWhereDischarged : Durable → Obligation → List ℕ × Status × Option Origin → Type 0
 IsProvedWhereDischarged d o shown =
-    (shown.0 ≡ o.name) × (shown.1 ≡ Discharged → (tree : Tree) × (get d.proofs o.name ≡ Some tree) × Derives tree o.sequent)
+    (shown.0 ≡ o.name) × (shown.1 ≡ Discharged → (proof : Proof) × (get d.proofs o.name ≡ Some proof) × Derives proof.tree o.sequent)
 
--- The status guarantee, its second sentence: every obligation shown discharged has a stored tree that derives its
+-- The status guarantee, its second sentence: every obligation shown discharged has a stored proof that derives its
 -- present sequent.
-abbrev pub IsProved : Durable → List (List ℕ × Status) → Type 0
+abbrev pub IsProved : Durable → List (List ℕ × Status × Option Origin) → Type 0
 IsProved d shown = (table : List Obligation) × IsTable d.built table × AllZip (IsProvedWhereDischarged d) table shown
 
 -- the faults that are told are those of the texts of the last build
@@ -73,20 +69,20 @@ status_of [] = 0
 status_of (f ∷ told) = 1
 
 -- the input has these components, the run is whole, they are what is built, and the faults and warnings that it tells and the statuses that it
--- shows are written
+-- shows are written. The status guarantee, its first sentence: the statuses shown are those of a clean rebuild.
 pub record IsAnswered (answers : Sequent → Attempt → Type 0) (sure : Sequent → Type 0) (bytes : List ℕ) (sink : Writing) (part : Part) : Type 0 where
   pub parts : List Component
   pub made : IsInput bytes (Ok parts)
   pub exchanges : List Exchange
   pub told : List FaultLine
   pub warned : List (List ℕ × List ℕ)
-  pub shown : List (List ℕ × Status)
+  pub shown : List (List ℕ × Status × Option Origin)
   pub whole : IsWhole answers sure parts told warned shown exchanges
   pub leads : Leads part exchanges
   pub built : part.last.built ≡ project_of parts
   pub faults : TellsFaults part.last told
   pub warnings : TellsWarnings part.last warned
-  pub clean : IsCleanRebuild part.last shown
+  pub clean : IsRebuilt part.last shown
   pub proved : IsProved part.last shown
   pub complete : IsComplete sure part.last exchanges
   pub text : ((part.status ≡ status_of told) × Writes sink (printed told warned shown)) ⊎ ((part.status ≡ 4) × WritesCut sink (printed told warned shown))

@@ -5,13 +5,13 @@ use Rattle.sequent_core.specs.declared.Sequent.{Sequent}
 use Rattle.sequent_core.specs.declared.Obligation.{Obligation}
 use Rattle.sequent_core.specs.declared.Ticket.{Ticket}
 use Rattle.sequent_core.specs.declared.Attempt.TheVariants.{NoMemory}
-use Rattle.status_core.specs.declared.Durable.{Durable}
-use Rattle.status_core.specs.declared.Event.TheVariants.{Finish}
-use Rattle.status_core.specs.declared.Reply.TheVariants.{Taken}
-use Rattle.status_core.specs.Status.{IsUnsettledBy}
-use Rattle.status_core.specs.Step.{IsFor}
-use Rattle.status_core.specs.Table.{IsTable}
-use Rattle.status_core.specs.Run.{Exchange}
+use Rattle.core_steps.specs.declared.Durable.{Durable}
+use Rattle.core_steps.specs.declared.Event.TheVariants.{Finish}
+use Rattle.core_steps.specs.declared.Reply.TheVariants.{Taken}
+use Rattle.core_steps.specs.Status.{IsUnsettledBy}
+use Rattle.core_steps.specs.Tickets.{IsFor}
+use Rattle.core_steps.specs.Table.{IsTable}
+use Rattle.core_steps.specs.Run.{Exchange}
 
 -- the obligation was taken, and memory ran out over it
 abbrev pub LacksMemory : Obligation → Exchange → List Exchange → Type 0

@@ -1,17 +1,18 @@
 -- The events of `check`: an edit for each part, a build, turns of taking and finishing until nothing is left to take,
 -- and the questions for the faults and the statuses.
-use Rattle.std.specs.Prelude.{◌≡◌, ◌⊎◌, ℕ, List, [], ◌∷◌, ◌++◌, ⊤, None}
+use Rattle.std.specs.Prelude.{◌≡◌, ◌⊎◌, ℕ, List, [], ◌∷◌, ◌++◌, ⊤, Option, None}
 use Rattle.sequent_core.specs.declared.Sequent.{Sequent}
 use Rattle.sequent_core.specs.declared.Ticket.{Ticket}
 use Rattle.sequent_core.specs.declared.Attempt.{Attempt}
 use Rattle.sequent_core.specs.Provers.{IsFair}
-use Rattle.status_core.specs.declared.Status.{Status}
-use Rattle.status_core.specs.declared.FaultLine.{FaultLine}
-use Rattle.status_core.specs.declared.Event.TheVariants.{Edit, Build, Take, Finish, Ask}
-use Rattle.status_core.specs.declared.Question.TheVariants.{Statuses as AskStatuses, Faults as AskFaults}
-use Rattle.status_core.specs.declared.Reply.{Reply}
-use Rattle.status_core.specs.declared.Reply.TheVariants.{Built, TableFull, Nothing, Taken, Statuses, Faults}
-use Rattle.status_core.specs.Run.{Exchange}
+use Rattle.build_core.specs.declared.FaultLine.{FaultLine}
+use Rattle.proof_entries.specs.declared.Origin.{Origin}
+use Rattle.core_steps.specs.declared.Status.{Status}
+use Rattle.core_steps.specs.declared.Event.TheVariants.{Edit, Build, Take, Finish, Ask}
+use Rattle.core_steps.specs.declared.Question.TheVariants.{Statuses as AskStatuses, Faults as AskFaults}
+use Rattle.core_steps.specs.declared.Reply.{Reply}
+use Rattle.core_steps.specs.declared.Reply.TheVariants.{Built, TableFull, Nothing, Taken, Statuses, Faults}
+use Rattle.core_steps.specs.Run.{Exchange}
 use Rattle.check_input.specs.Inputs.{Component}
 
 -- an edit for each part
@@ -59,7 +60,7 @@ pub record IsFull (parts : List Component) (exchanges : List Exchange) : Type 0 
   pub build_is : (build.event ≡ Build) × (build.reply ≡ TableFull nodes)
 
 -- a whole run of `check`, which tells these faults and shows these statuses
-pub record IsWhole (answers : Sequent → Attempt → Type 0) (sure : Sequent → Type 0) (parts : List Component) (told : List FaultLine) (warned : List (List ℕ × List ℕ)) (shown : List (List ℕ × Status)) (exchanges : List Exchange) : Type 0 where
+pub record IsWhole (answers : Sequent → Attempt → Type 0) (sure : Sequent → Type 0) (parts : List Component) (told : List FaultLine) (warned : List (List ℕ × List ℕ)) (shown : List (List ℕ × Status × Option Origin)) (exchanges : List Exchange) : Type 0 where
   pub edits : List Exchange
   pub build : Exchange
   pub turns : List Exchange

@@ -1,9 +1,9 @@
 -- A core with the history of what it did.
 use Rattle.std.specs.Prelude.{◌≡◌, List, [], ◌∷◌, ◌++◌}
-use Rattle.status_core.specs.declared.Event.{Event}
-use Rattle.status_core.specs.declared.Reply.{Reply}
-use Rattle.status_core.specs.Step.{Replies}
-use Rattle.status_core.specs.Run.{Exchange, Run, history_of}
+use Rattle.core_steps.specs.declared.Event.{Event}
+use Rattle.core_steps.specs.declared.Reply.{Reply}
+use Rattle.core_steps.specs.Step.{Replies}
+use Rattle.core_steps.specs.Run.{Exchange, Run, history_of}
 use Rattle.rodin_cli.specs.declared.session.Session.{Session}
 
 -- the event was answered so, and is the last of the history

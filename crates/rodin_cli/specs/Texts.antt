@@ -1,14 +1,15 @@
 -- What is printed.
-use Rattle.std.specs.Prelude.{ℕ, Bool, true, false, List, [], ◌∷◌, ◌++◌, codes, if◌then◌else◌}
+use Rattle.std.specs.Prelude.{ℕ, Bool, true, false, List, [], ◌∷◌, ◌++◌, codes, Option, if◌then◌else◌}
 use Rattle.std.specs.Fmt.{decimal}
 use Rattle.std.specs.List.{flat_map}
 use Rattle.model_core.specs.declared.fault.Fault.{Fault}
 use Rattle.model_core.specs.declared.fault.FaultKind.{FaultKind}
 use Rattle.model_core.specs.declared.fault.FaultKind.TheVariants as kind
 use Rattle.model_core.specs.Faults.{number}
-use Rattle.status_core.specs.declared.FaultLine.{FaultLine}
-use Rattle.status_core.specs.declared.Status.{Status}
-use Rattle.status_core.specs.declared.Status.TheVariants.{Unattempted, Pending, Reviewed, Discharged, Broken}
+use Rattle.build_core.specs.declared.FaultLine.{FaultLine}
+use Rattle.proof_entries.specs.declared.Origin.{Origin}
+use Rattle.core_steps.specs.declared.Status.{Status}
+use Rattle.core_steps.specs.declared.Status.TheVariants.{Unattempted, Pending, Reviewed, Discharged, Broken}
 
 abbrev pub word_of : Status → List ℕ
 word_of Unattempted = codes "unattempted"
@@ -18,12 +19,12 @@ word_of Discharged = codes "discharged"
 word_of Broken = codes "broken"
 
 -- an obligation's name, a blank, its status and a line feed
-abbrev pub status_line : List ℕ × Status → List ℕ
-status_line shown = shown.0 ++ 32 ∷ word_of shown.1 ++ 10 ∷ []
+abbrev pub status_line : List ℕ → Status → List ℕ
+status_line name status = name ++ 32 ∷ word_of status ++ 10 ∷ []
 
--- the printed text of the reply on statuses, without its summary line
-abbrev pub status_lines : List (List ℕ × Status) → List ℕ
-status_lines shown = flat_map status_line shown
+-- the printed text of the reply on statuses, without its summary line and without who made the proofs
+abbrev pub status_lines : List (List ℕ × Status × Option Origin) → List ℕ
+status_lines shown = flat_map (λ x. status_line x.0 x.1) shown
 
 -- What stands before and behind the name, label or token of a fault. Those that show none have no words.
 abbrev pub front : FaultKind → List ℕ
@@ -84,5 +85,5 @@ abbrev pub warning_lines : List (List ℕ × List ℕ) → List ℕ
 warning_lines warned = flat_map warning_line warned
 
 -- the faults and the warnings, and then the statuses
-abbrev pub printed : List FaultLine → List (List ℕ × List ℕ) → List (List ℕ × Status) → List ℕ
+abbrev pub printed : List FaultLine → List (List ℕ × List ℕ) → List (List ℕ × Status × Option Origin) → List ℕ
 printed told warned shown = fault_lines told ++ warning_lines warned ++ status_lines shown

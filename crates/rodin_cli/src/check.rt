@@ -2,12 +2,11 @@
 ghost use Rattle.std.specs.Prelude.{◌≡◌, ◌⊎◌, ◌≤◌, ◌<◌, ◌+◌, ◌^◌, ◌↔◌, ◌++◌, ◌∷◌, [], None, Ok, List, ℕ, length, IsTrue, IfOk, OnOk, OnErr, MatchBool, MatchOption};
 ghost use Rattle.std.specs.Io.KnownBytes.{IsAtEnd};
 ghost use Rattle.outside.specs.Cause.{Rose};
-ghost use Rattle.status_core.specs.declared.Event.{Event};
-ghost use Rattle.status_core.specs.declared.Question.{Question};
-ghost use Rattle.status_core.specs.declared.Reply.{Reply};
-ghost use Rattle.status_core.specs.Run.{Exchange, IsLegal};
-ghost use Rattle.status_core.specs.Table.{HasDistinctTable};
-ghost use Rattle.status_core.specs.State.{opened, no_texts, IsFresh};
+ghost use Rattle.core_steps.specs.declared.Event.{Event};
+ghost use Rattle.core_steps.specs.declared.Question.{Question};
+ghost use Rattle.core_steps.specs.declared.Reply.{Reply};
+ghost use Rattle.core_steps.specs.Run.{Exchange, IsLegal};
+ghost use Rattle.core_steps.specs.State.{opened, no_texts, IsFresh};
 ghost use Rattle.check_input.specs.Inputs.{IsInput};
 ghost use Rattle.rodin_cli.specs.Completeness.{IsComplete};
 ghost use Rattle.rodin_cli.specs.Script.{AreEdits, AreFirstEdits, AreTurns, IsTurn, IsEndFront, IsBuiltReply, IsFull, IsWhole, IsFront};
@@ -18,23 +17,30 @@ ghost use Rattle.check_input.specs.Lines.{input_line};
 ghost use Rattle.rodin_cli.specs.Check.{HasNoHistory, EndsWithLine, ComesOf, Checks, status_of};
 
 use crate::outcome::Part;
-use crate::session::{Session, ask_faults, ask_statuses, build, edit, finish, take};
+use crate::session::{Session, finish, perform, take};
 use crate::streams::{LONGEST_INPUT, ReadError, read_input, write_text};
 use crate::texts::printed;
 use check_input::{InputError, InputFault, input_line, parts_of};
-use formula_core::{List, Name, OutOfMemory, PoName, Text};
+use core_steps::{Durable, Event, FaultLine, Origin, Question, Reply, Status, enters_all};
+use formula_core::{List, Name, OutOfMemory, PoName, Steps, Text};
 use outside::{Sink, Source};
 use sequent_core::Prover;
-use status_core::{Core, Durable, FaultLine, Reply, Status};
+use status_core::Core;
 use std::alloc::Global;
+use std::marker::Brand;
+use std::sync::ledger::{Blank, Ledger};
 
 // Edits each part.
-fn edit_all(session: &mut Session, parts: Vec<(Name, Text)>) -> Result<(), OutOfMemory>
+fn edit_all<L: Ledger>(
+    session: &mut Session,
+    parts: Vec<(Name, Text)>,
+    steps: &mut Steps<L>,
+) -> Result<(), OutOfMemory>
     ensures done { OnOk result ((edits : List Exchange) × AreEdits parts.items edits × Extends session.old edits session.new) }
     ensures front { OnErr result ((edits : List Exchange) × AreFirstEdits parts.items edits × Extends session.old edits session.new) }
 {
     for (name, text) in parts {
-        edit(session, name, text)?;
+        perform(session, Event::Edit(name, text), steps)?;
     }
     Ok(())
 }
@@ -50,53 +56,66 @@ fn was_built(reply: &Reply) -> bool
 }
 
 // Edits each part and builds. False where the table is too large.
-fn begin(session: &mut Session, parts: Vec<(Name, Text)>) -> Result<bool, OutOfMemory>
+fn begin<L: Ledger>(
+    session: &mut Session,
+    parts: Vec<(Name, Text)>,
+    steps: &mut Steps<L>,
+) -> Result<bool, OutOfMemory>
     ensures whole { IfOk result (λ built. MatchBool built
         ((edits : List Exchange) × (build : Exchange) × AreEdits parts.items edits
         × (build.event ≡ Event.Build) × IsBuiltReply build.reply × Extends session.old (edits ++ build ∷ []) session.new)
         ((exchanges : List Exchange) × IsFull parts.items exchanges × Extends session.old exchanges session.new)) }
     ensures front { OnErr result ((edits : List Exchange) × AreFirstEdits parts.items edits × Extends session.old edits session.new) }
 {
-    match edit_all(session, parts) {
+    match edit_all(session, parts, steps) {
         Ok(()) => {}
         Err(error) => return Err(error),
     }
-    match build(session) {
+    match perform(session, Event::Build, steps) {
         Ok(reply) => Ok(was_built(&reply)),
         Err(error) => Err(error),
     }
 }
 
 // Takes a ticket and finishes it. False where nothing is left.
-fn turn<P: Prover>(alloc: Global, prover: &P, session: &mut Session) -> Result<bool, OutOfMemory>
+fn turn<L: Ledger, P: Prover>(
+    alloc: Global,
+    prover: &P,
+    session: &mut Session,
+    steps: &mut Steps<L>,
+) -> Result<bool, OutOfMemory>
     requires { session.old.core.next + 1 < 2 ^ 64 }
     ensures turned { IfOk result (λ more. MatchBool more
         ((x : Exchange) × (y : Exchange) × IsTurn (P.answers prover.now) (P.sure prover.now) x y × Extends session.old (x ∷ y ∷ []) session.new)
         ((x : Exchange) × (x.event ≡ Event.Take None) × (x.reply ≡ Reply.Nothing) × Extends session.old (x ∷ []) session.new)) }
     ensures front { OnErr result ((end : List Exchange) × IsEndFront end × Extends session.old end session.new) }
 {
-    match take(session)? {
+    match take(session, steps)? {
         None => Ok(false),
         Some(ticket) => {
             let attempt = prover.attempt(alloc, &ticket.sequent);
-            finish(session, ticket.number, attempt)?;
+            finish(session, ticket.number, attempt, steps)?;
             Ok(true)
         }
     }
 }
 
 // Turns, until nothing is left to take. Each turn closes an obligation, so there are no more turns than obligations.
-fn turns<P: Prover>(alloc: Global, prover: &P, session: &mut Session) -> Result<(), OutOfMemory>
+fn turns<L: Ledger, P: Prover>(
+    alloc: Global,
+    prover: &P,
+    session: &mut Session,
+    steps: &mut Steps<L>,
+) -> Result<(), OutOfMemory>
     requires { IsFresh session.old.core }
     ensures whole { OnOk result ((turns : List Exchange) × (x : Exchange) × AreTurns (P.answers prover.now) (P.sure prover.now) turns
         × (x.event ≡ Event.Take None) × (x.reply ≡ Reply.Nothing) × Extends session.old (turns ++ x ∷ []) session.new) }
     ensures front { OnErr result ((turns : List Exchange) × (end : List Exchange) × AreTurns (P.answers prover.now) (P.sure prover.now) turns
         × IsEndFront end × Extends session.old (turns ++ end) session.new) }
-    ensures distinct { HasDistinctTable session.old.core.durable.built }
 {
-    let obligations = session.core.obligation_count();
+    let obligations = session.core.builder().table().len();
     for _turn in 0..obligations + 1 {
-        if !turn(alloc, prover, session)? {
+        if !turn(alloc, prover, session, steps)? {
             return Ok(());
         }
     }
@@ -108,34 +127,39 @@ fn turns<P: Prover>(alloc: Global, prover: &P, session: &mut Session) -> Result<
 struct Shown {
     faults: List<FaultLine>,
     warnings: List<(Name, Name)>,
-    statuses: List<(PoName, Status)>,
+    statuses: List<(PoName, Status, Option<Origin>)>,
 }
 
 // Asks for the faults and the warnings, and for the statuses.
-fn ask(session: &mut Session) -> Result<Shown, OutOfMemory>
+fn ask<L: Ledger>(session: &mut Session, steps: &mut Steps<L>) -> Result<Shown, OutOfMemory>
     ensures whole { IfOk result (λ shown. (x : Exchange) × (y : Exchange)
         × (x.event ≡ Event.Ask Question.Faults) × (x.reply ≡ Reply.Faults shown.faults shown.warnings)
         × (y.event ≡ Event.Ask Question.Statuses) × (y.reply ≡ Reply.Statuses shown.statuses) × Extends session.old (x ∷ y ∷ []) session.new) }
     ensures front { OnErr result (IsUnchanged session.old session.new
         ⊎ ((x : Exchange) × (x.event ≡ Event.Ask Question.Faults) × Extends session.old (x ∷ []) session.new)) }
 {
-    let (faults, warnings) = ask_faults(session)?;
-    match ask_statuses(session) {
-        Ok(statuses) => Ok(Shown {
-            faults,
-            warnings,
-            statuses,
-        }),
-        Err(error) => Err(error),
-    }
+    let told = perform(session, Event::Ask(Question::Faults), steps)?;
+    let Reply::Faults(faults, warnings) = told else {
+        unreachable!()
+    };
+    let shown = perform(session, Event::Ask(Question::Statuses), steps)?;
+    let Reply::Statuses(statuses) = shown else {
+        unreachable!()
+    };
+    Ok(Shown {
+        faults,
+        warnings,
+        statuses,
+    })
 }
 
 // The run of `check` on these parts. None where the table is too large.
-fn play<P: Prover>(
+fn play<L: Ledger, P: Prover>(
     alloc: Global,
     prover: &P,
     session: &mut Session,
     parts: Vec<(Name, Text)>,
+    steps: &mut Steps<L>,
 ) -> Result<Option<Shown>, OutOfMemory>
     requires { session.old.core ≡ opened no_texts }
     ensures whole { IfOk result (λ played. MatchOption played
@@ -148,16 +172,16 @@ fn play<P: Prover>(
         × IsFront (P.answers prover.now) (P.sure prover.now) parts.items exchanges × IsLegal exchanges
         × Extends session.old exchanges session.new) }
 {
-    match begin(session, parts) {
+    match begin(session, parts, steps) {
         Ok(true) => {}
         Ok(false) => return Ok(None),
         Err(error) => return Err(error),
     }
-    match turns(alloc, prover, session) {
+    match turns(alloc, prover, session, steps) {
         Ok(()) => {}
         Err(error) => return Err(error),
     }
-    match ask(session) {
+    match ask(session, steps) {
         Ok(shown) => Ok(Some(shown)),
         Err(error) => Err(error),
     }
@@ -240,24 +264,30 @@ fn answer<O: Sink>(alloc: Global, output: &mut O, shown: &Shown) -> u8
     }
 }
 
-// Builds and proves an input of these parts.
-fn check_parts<O: Sink, P: Prover>(
+// Builds and proves an input of these parts, with a counter of its steps.
+fn check_parts<L: Ledger, O: Sink, P: Prover>(
     alloc: Global,
     parts: Vec<(Name, Text)>,
     output: &mut O,
     prover: &P,
+    blank: Blank,
 ) -> Part
+    requires name { blank.name ≡ L.name }
+    requires parts { blank.parts ≡ L.parts }
+    requires some { 0 < blank.parts }
     ensures { (bytes : List ℕ) → IsInput bytes (Ok parts.items) → ComesOf (P.answers prover.now) (P.sure prover.now) bytes
         (writing (O.written output.old) (O.written output.new) (O.faults output.old) (O.faults output.new)) result }
 {
-    let mut session = match Core::start(alloc, Durable::empty(alloc)) {
+    enters_all();
+    let mut steps = Steps::<L>::open(blank);
+    let mut session = match Core::start(alloc, Durable::empty(alloc), &mut steps) {
         Ok(core) => Session {
             core,
             history: Vec::new(alloc),
         },
         Err(_) => return no_part(alloc, 9),
     };
-    match play(alloc, prover, &mut session, parts) {
+    match play(alloc, prover, &mut session, parts, &mut steps) {
         Ok(Some(shown)) => {
             let status = answer(alloc, output, &shown);
             part_from(session, status)
@@ -290,7 +320,7 @@ fn check_bytes<O: Sink, P: Prover>(alloc: Global, bytes: &[u8], output: &mut O, 
         (writing (O.written output.old) (O.written output.new) (O.faults output.old) (O.faults output.new)) result }
 {
     match parts_of(alloc, bytes) {
-        Ok(parts) => check_parts(alloc, parts, output, prover),
+        Ok(parts) => check_parts::<Brand, O, P>(alloc, parts, output, prover, Blank::new(1)),
         Err(InputError::Fault(fault)) => refuse(alloc, &fault, output),
         Err(InputError::OutOfMemory) => no_part(alloc, 9),
     }

@@ -1,4 +1,5 @@
 //! The core's events, their replies, and what lasts.
-pub use status_core::{
-    Durable, Entry, Event, Fault, FaultLine, PoMap, Project, Question, Reply, Status,
+pub use core_steps::{
+    Durable, Entry, Event, Fault, FaultLine, NodeLine, Origin, PoMap, Project, Proof, Question,
+    Reply, Status, StoredProof,
 };

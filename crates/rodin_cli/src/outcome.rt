@@ -1,5 +1,5 @@
 //! What a run answers.
-use status_core::{Durable, Event};
+use core_steps::{Durable, Event};
 
 /// What a command without a disk answers: the exit status, the events, each with its chair, and what lasts.
 #[derive(Drop)]

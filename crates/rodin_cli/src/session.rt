@@ -1,14 +1,17 @@
 // A core with the history of what it did.
-ghost use Rattle.std.specs.Prelude.{◌≡◌, ◌+◌, ◌<◌, ◌≤◌, ◌^◌, [], ◌∷◌, ◌++◌, None, IfOk, OnErr, vec_len, vec_capacity};
-ghost use Rattle.status_core.specs.declared.Event.{Event};
-ghost use Rattle.status_core.specs.declared.Question.{Question};
-ghost use Rattle.status_core.specs.declared.Reply.{Reply};
-ghost use Rattle.status_core.specs.Step.{take_reply};
+ghost use Rattle.std.specs.Prelude.{◌≡◌, ◌+◌, ◌<◌, ◌^◌, [], ◌∷◌, ◌++◌, None, IfOk, OnOk, OnErr, MatchOption, vec_len, vec_capacity};
+ghost use Rattle.std.specs.FinMap as map;
+ghost use Rattle.core_steps.specs.declared.Event.{Event};
+ghost use Rattle.core_steps.specs.declared.Reply.{Reply};
+ghost use Rattle.core_steps.specs.Step.{IsTake, take_reply};
+ghost use Rattle.sequent_core.specs.declared.Ticket.{Ticket};
 ghost use Rattle.rodin_cli.specs.Session.{Performs, IsUnchanged};
 
-use formula_core::{List, Name, OutOfMemory, PoName, Text};
+use core_steps::{Event, Reply};
+use formula_core::{OutOfMemory, Steps};
 use sequent_core::{Attempt, Ticket};
-use status_core::{Core, Event, FaultLine, Question, Reply, Status};
+use status_core::Core;
+use std::sync::ledger::Ledger;
 
 /// A core, and the events that it performed, each with its chair.
 #[derive(Drop)]
@@ -28,71 +31,67 @@ fn note(history: &mut Vec<(u32, Event)>, event: Event)
     }
 }
 
-/// Edits a component.
-pub fn edit(session: &mut Session, name: Name, text: Text) -> Result<(), OutOfMemory>
-    ensures done { IfOk result (λ _. (reply : Reply) × Performs session.old (Event.Edit name text) reply session.new) }
+/// Performs an event of chair 0.
+pub fn perform<L: Ledger>(
+    session: &mut Session,
+    event: Event,
+    steps: &mut Steps<L>,
+) -> Result<Reply, OutOfMemory>
+    requires number { IsTake event → session.old.core.next + 1 < 2 ^ 64 }
+    requires few { event ≡ Event.Purge → map.len session.old.core.durable.proofs < 2 ^ 32 }
+    ensures done { IfOk result (λ reply. Performs session.old event reply session.new) }
     ensures err { OnErr result (IsUnchanged session.old session.new) }
 {
     session.history.reserve(1)?;
-    session.core.edit(&name, &text)?;
-    note(&mut session.history, Event::Edit(name, text));
-    Ok(())
-}
-
-/// Builds the present texts.
-pub fn build(session: &mut Session) -> Result<Reply, OutOfMemory>
-    ensures done { IfOk result (λ reply. Performs session.old Event.Build reply session.new) }
-    ensures err { OnErr result (IsUnchanged session.old session.new) }
-{
-    session.history.reserve(1)?;
-    let reply = session.core.build()?;
-    note(&mut session.history, Event::Build);
+    let prepared = session.core.prepare(&event, steps)?;
+    let reply = session.core.commit(prepared);
+    note(&mut session.history, event);
     Ok(reply)
 }
 
+// The ticket of a reply that gives one.
+fn ticket_of(reply: Reply) -> Option<Ticket>
+    ensures { MatchOption result ((ticket : Ticket) → reply ≡ Reply.Taken ticket → ⊥) (λ ticket. reply ≡ Reply.Taken ticket) }
+{
+    match reply {
+        Reply::Taken(ticket) => Some(ticket),
+        _ => None,
+    }
+}
+
 /// Takes the first open obligation.
-pub fn take(session: &mut Session) -> Result<Option<Ticket>, OutOfMemory>
+pub fn take<L: Ledger>(
+    session: &mut Session,
+    steps: &mut Steps<L>,
+) -> Result<Option<Ticket>, OutOfMemory>
     requires { session.old.core.next + 1 < 2 ^ 64 }
     ensures done { IfOk result (λ taken. Performs session.old (Event.Take None) (take_reply taken) session.new) }
     ensures err { OnErr result (IsUnchanged session.old session.new) }
 {
-    session.history.reserve(1)?;
-    let taken = session.core.take()?;
-    note(&mut session.history, Event::Take(None));
-    Ok(taken)
+    match perform(session, Event::Take(None), steps) {
+        Ok(reply) => Ok(ticket_of(reply)),
+        Err(error) => Err(error),
+    }
 }
+
+// The reply isn't looked at.
+fn pass(_reply: Reply) {}
 
 /// Takes a ticket in, with what the prover answered.
-pub fn finish(session: &mut Session, number: u64, attempt: Attempt) -> Result<(), OutOfMemory>
-    ensures done { IfOk result (λ _. (reply : Reply) × Performs session.old (Event.Finish number attempt) reply session.new) }
-    ensures err { OnErr result (IsUnchanged session.old session.new) }
-{
-    session.history.reserve(1)?;
-    session.core.finish(number, &attempt)?;
-    note(&mut session.history, Event::Finish(number, attempt));
-    Ok(())
-}
-
-/// Asks for the faults of the built texts, and for the warnings.
-pub fn ask_faults(
+pub fn finish<L: Ledger>(
     session: &mut Session,
-) -> Result<(List<FaultLine>, List<(Name, Name)>), OutOfMemory>
-    ensures done { IfOk result (λ told. Performs session.old (Event.Ask Question.Faults) (Reply.Faults told.0 told.1) session.new) }
+    number: u64,
+    attempt: Attempt,
+    steps: &mut Steps<L>,
+) -> Result<(), OutOfMemory>
+    ensures done { OnOk result ((reply : Reply) × Performs session.old (Event.Finish number attempt) reply session.new) }
     ensures err { OnErr result (IsUnchanged session.old session.new) }
 {
-    session.history.reserve(1)?;
-    let told = session.core.faults()?;
-    note(&mut session.history, Event::Ask(Question::Faults));
-    Ok(told)
-}
-
-/// Asks for the status of each obligation.
-pub fn ask_statuses(session: &mut Session) -> Result<List<(PoName, Status)>, OutOfMemory>
-    ensures done { IfOk result (λ shown. Performs session.old (Event.Ask Question.Statuses) (Reply.Statuses shown) session.new) }
-    ensures err { OnErr result (IsUnchanged session.old session.new) }
-{
-    session.history.reserve(1)?;
-    let shown = session.core.statuses()?;
-    note(&mut session.history, Event::Ask(Question::Statuses));
-    Ok(shown)
+    match perform(session, Event::Finish(number, attempt), steps) {
+        Ok(reply) => {
+            pass(reply);
+            Ok(())
+        }
+        Err(error) => Err(error),
+    }
 }

@@ -2,9 +2,9 @@
 ghost use Rattle.std.specs.Prelude.{◌≡◌, ◌++◌, IfOk, OnOk, string_bytes};
 ghost use Rattle.rodin_cli.specs.Texts.{word_of, status_line, status_lines, front, back, is_at_end, fault_text, fault_line, fault_lines, warning_line, warning_lines, printed};
 
+use core_steps::{FaultLine, Origin, Status};
 use formula_core::{Name, OutOfMemory, PoName};
 use model_core::{Fault, FaultKind};
-use status_core::{FaultLine, Status};
 use std::alloc::Global;
 use std::fmt::Write;
 
@@ -22,7 +22,7 @@ fn word_of(status: Status) -> &'static str
 
 // The obligation's name, a blank and the status.
 fn add_status(text: &mut String, name: &PoName, status: Status) -> Result<(), OutOfMemory>
-    ensures { OnOk result (string_bytes text.new ≡ string_bytes text.old ++ status_line (name.now, status)) }
+    ensures { OnOk result (string_bytes text.new ≡ string_bytes text.old ++ status_line name.now status) }
 {
     text.push_str(name.as_text())?;
     text.push_str(" ")?;
@@ -31,10 +31,13 @@ fn add_status(text: &mut String, name: &PoName, status: Status) -> Result<(), Ou
     Ok(())
 }
 
-fn add_statuses(text: &mut String, shown: &[(PoName, Status)]) -> Result<(), OutOfMemory>
+fn add_statuses(
+    text: &mut String,
+    shown: &[(PoName, Status, Option<Origin>)],
+) -> Result<(), OutOfMemory>
     ensures { OnOk result (string_bytes text.new ≡ string_bytes text.old ++ status_lines shown.now) }
 {
-    for (name, status) in shown {
+    for (name, status, _) in shown {
         add_status(text, name, *status)?;
     }
     Ok(())
@@ -152,7 +155,7 @@ pub fn printed(
     alloc: Global,
     told: &[FaultLine],
     warned: &[(Name, Name)],
-    shown: &[(PoName, Status)],
+    shown: &[(PoName, Status, Option<Origin>)],
 ) -> Result<String, OutOfMemory>
     ensures { IfOk result (λ text. string_bytes text ≡ printed told.now warned.now shown.now) }
 {

@@ -1,5 +1,5 @@
 use Rattle.std.proofs.Common.{[], ◌∷◌, ◌++◌, inl, inr, sym, subst}
-use Rattle.status_core.specs.State.{IsFresh}
+use Rattle.core_steps.specs.State.{IsFresh}
 use Rattle.rodin_cli.proofs.Sessions.{both, regrouped}
 use Rattle.rodin_cli.proofs.Legal.{begun_fresh, opened_fresh, first_edits_legal, front_legal, front_of_asking, whole_of_asking}
 use Rattle.rodin_cli.proofs.check.play.Goals as goal
@@ -21,7 +21,7 @@ returns-in-Err-turns-clause-front g c =
       (b.0 ++ b.1 ∷ []) ++ (t.0 ++ t.1),
       inr (b.0, b.1, t.0, t.1, regrouped b.0 b.1 t.0 t.1, b.2, b.3, b.4, t.2, t.3),
       front_legal (g.P.Prover.answers c.args.prover.now) (g.P.Prover.sure c.args.prover.now) c.args.parts.items b.0 b.1 c.args.session.now.core c.begin.new.session.core
-          c.requires b.2 b.3 b.4 b.5.0 c.in-Err-turns.ensures.distinct t.0 t.1 c.turns.new.session.core t.2 t.3 t.4.0,
+          c.requires b.2 b.3 b.4 b.5.0 t.0 t.1 c.turns.new.session.core t.2 t.3 t.4.0,
       both c.args.session.now c.begin.new.session c.turns.new.session (b.0 ++ b.1 ∷ []) (t.0 ++ t.1) b.5 t.4,
     )
 
@@ -32,7 +32,7 @@ returns-in-Ok-ask-clause-whole g c =
     let a = c.in-Ok-ask.ensures.whole in
     let shown = c.in-Ok-ask.shown in
     whole_of_asking (g.P.Prover.answers c.args.prover.now) (g.P.Prover.sure c.args.prover.now) c.args.parts.items
-    c.args.session.now c.begin.new.session c.turns.new.session c.ask.new.session b.0 b.1 t.0 t.1 c.requires b.2 b.3 b.4 c.in-Ok.ensures.distinct t.2 t.3 t.4 b.5 t.5
+    c.args.session.now c.begin.new.session c.turns.new.session c.ask.new.session b.0 b.1 t.0 t.1 c.requires b.2 b.3 b.4 t.2 t.3 t.4 b.5 t.5
     shown.faults shown.warnings shown.statuses a.0 a.1 a.2 a.3 a.4 a.5 a.6
 
 pub returns-in-Err-ask-clause-front : goal.returns-in-Err-ask-clause-front
@@ -40,5 +40,5 @@ returns-in-Err-ask-clause-front g c =
     let b = rw c.in-Ok-true.field-0-test at c.in-Ok-true.ensures.whole in
     let t = c.in-Ok.ensures.whole in
     front_of_asking (g.P.Prover.answers c.args.prover.now) (g.P.Prover.sure c.args.prover.now) c.args.parts.items
-    c.args.session.now c.begin.new.session c.turns.new.session c.ask.new.session b.0 b.1 t.0 t.1 c.requires b.2 b.3 b.4 c.in-Ok.ensures.distinct t.2 t.3 t.4 b.5 t.5
+    c.args.session.now c.begin.new.session c.turns.new.session c.ask.new.session b.0 b.1 t.0 t.1 c.requires b.2 b.3 b.4 t.2 t.3 t.4 b.5 t.5
     c.in-Err-ask.ensures.front

@@ -1,8 +1,8 @@
 use Rattle.std.proofs.Common.{[], ◌∷◌}
 use Rattle.std.specs.Prelude.{None}
 use Rattle.std.proofs.lemmas.Result.{err_from_is_err_and}
-use Rattle.status_core.specs.declared.Event.TheVariants.{Take, Finish}
-use Rattle.status_core.specs.declared.Reply.TheVariants.{Taken, Nothing}
+use Rattle.core_steps.specs.declared.Event.TheVariants.{Take, Finish}
+use Rattle.core_steps.specs.declared.Reply.TheVariants.{Taken, Nothing}
 use Rattle.rodin_cli.proofs.Sessions.{performed, unchanged, both}
 use Rattle.rodin_cli.proofs.Typed.{ticket_typed}
 use Rattle.rodin_cli.proofs.check.turn.Goals as goal

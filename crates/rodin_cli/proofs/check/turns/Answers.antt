@@ -1,17 +1,21 @@
-use Rattle.std.proofs.Common.{[], ◌∷◌, ◌++◌, arith}
-use Rattle.std.proofs.lemmas.List.{length-append}
+use Rattle.std.proofs.Common.{[], ◌∷◌, ◌++◌, map, subst, arith}
+use Rattle.std.proofs.lemmas.List.{length-append, length-map}
+use Rattle.std.specs.Arc.{arc_value}
 use Rattle.std.proofs.lemmas.Result.{err_from_is_err_and}
+use Rattle.build_core.specs.Tables.{IsTable}
 use Rattle.rodin_cli.proofs.Sessions.{both, AreTurns-both}
+use Rattle.rodin_cli.proofs.Sizes.{table_within}
 use Rattle.rodin_cli.proofs.Completing.{turns_bound}
 use Rattle.rodin_cli.proofs.check.turns.Goals as goal
 
 pub turn-requires : goal.turn-requires
 turn-requires g c =
     let before = c.loop-turn.invariant in
-    let count = c.obligation_count-obligations.ensures.count in
-    let bound = turns_bound (g.P.Prover.answers c.args.prover.now) (g.P.Prover.sure c.args.prover.now) before.0 count.0 c.args.session.now.core c.loop-turn.session.core c.loop-turn._turn
-    c.requires c.obligation_count-obligations.ensures.distinct count.1 before.1 before.2.0 before.3 in
-    omega (arith, bound.0, bound.1, count.2, c.obligation_count-obligations.ensures.small)
+    let table = map arc_value c.table-obligations.result.now in
+    let is = subst (λ p. IsTable p table) c.builder.ensures.builder c.table-obligations.ensures.table in
+    let bound = turns_bound (g.P.Prover.answers c.args.prover.now) (g.P.Prover.sure c.args.prover.now) before.0 table c.args.session.now.core c.loop-turn.session.core c.loop-turn._turn
+    c.requires is before.1 before.2.0 before.3 in
+    omega (arith, bound.0, bound.1, table_within table c.table-obligations.ensures.fits)
 
 pub returns-in_err-turn-clause-front : goal.returns-in_err-turn-clause-front
 returns-in_err-turn-clause-front g c =
@@ -39,7 +43,8 @@ loop-turn-preserved g c =
 pub unreachable-requires : goal.unreachable-requires
 unreachable-requires g c =
     let before = c.loop-turn.invariant in
-    let count = c.obligation_count-obligations.ensures.count in
-    let bound = turns_bound (g.P.Prover.answers c.args.prover.now) (g.P.Prover.sure c.args.prover.now) before.0 count.0 c.args.session.now.core c.loop-turn.session.core c.loop-turn._turn
-    c.requires c.obligation_count-obligations.ensures.distinct count.1 before.1 before.2.0 before.3 in
-    omega (arith, bound.0, count.2, c.loop-turn-test.false)
+    let table = map arc_value c.table-obligations.result.now in
+    let is = subst (λ p. IsTable p table) c.builder.ensures.builder c.table-obligations.ensures.table in
+    let bound = turns_bound (g.P.Prover.answers c.args.prover.now) (g.P.Prover.sure c.args.prover.now) before.0 table c.args.session.now.core c.loop-turn.session.core c.loop-turn._turn
+    c.requires is before.1 before.2.0 before.3 in
+    omega (arith, bound.0, length-map c.table-obligations.result.now arc_value, c.loop-turn-test.false)

@@ -1,5 +1,5 @@
 use Rattle.std.proofs.Common.{◌≡◌, ◌*◌, List, length}
-use Rattle.status_core.specs.Run.{Exchange}
+use Rattle.core_steps.specs.Run.{Exchange}
 use Rattle.rodin_cli.specs.Script.{AreTurns}
 use Rattle.rodin_cli.specs.Session.{Extends}
 use Rattle.rodin_cli.proofs.check.turns.Given as goal

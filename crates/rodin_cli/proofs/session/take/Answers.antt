@@ -1,7 +1,5 @@
-use Rattle.std.proofs.Common.{◌∙◌, ap, [], ◌∷◌, ◌++◌}
-use Rattle.std.specs.Prelude.{None}
-use Rattle.status_core.specs.declared.Event.TheVariants.{Take}
+use Rattle.rodin_cli.proofs.Typed.{took}
 use Rattle.rodin_cli.proofs.session.take.Goals as goal
 
-pub returns-clause-done : goal.returns-clause-done
-returns-clause-done c = (c.in_ok-taken.ensures.step, c.note.ensures ∙ ap (λ h. h ++ (0, Take None) ∷ []) c.reserve.ensures.items)
+pub returns-in-Ok-clause-done : goal.returns-in-Ok-clause-done
+returns-in-Ok-clause-done g c = took c.args.session.now c.perform.new.session c.in-Ok.reply c.ticket_of.result c.in-Ok.ensures.done c.ticket_of.ensures
