@@ -1,11 +1,15 @@
 //! Projects, cut into components, and what comes of each component.
+ghost use Rattle.std.specs.Prelude.{◌≡◌, ◌<◌, IsTrue};
+ghost use Rattle.build_core.specs.Projects.{IsBuildable};
 
 use crate::texts::add_fault;
+use build_core::Builder;
 use check_input::{InputError, parts_of};
-use formula_core::{Name, Text};
-use status_core::{Core, Durable};
+use formula_core::{Name, Steps, Text};
 use std::alloc::Global;
 use std::collections::BTreeMap;
+use std::marker::Brand;
+use std::sync::ledger::{Blank, Ledger};
 
 /// The most bytes of a project here.
 const MOST: usize = 65_536;
@@ -31,27 +35,46 @@ fn add_parts(alloc: Global, parts: Vec<(Name, Text)>, out: &mut String) -> Optio
     for (name, text) in parts {
         texts.insert(name, text).ok()?;
     }
-    add_components(alloc, &texts, out)
-}
-
-fn built(alloc: Global, texts: &BTreeMap<Name, Text>) -> Option<Core> {
-    let mut core = Core::start(alloc, Durable::empty(alloc)).ok()?;
-    for (name, text) in texts {
-        core.edit(name, text).ok()?;
+    if !are_buildable(&texts) {
+        return out.push_str("too long\n").ok();
     }
-    core.build().ok()?;
-    Some(core)
+    let builder = built::<Brand>(alloc, &texts, Blank::new(1))?;
+    add_components(&texts, &builder, out)
 }
 
-fn add_components(alloc: Global, texts: &BTreeMap<Name, Text>, out: &mut String) -> Option<()> {
-    let core = built(alloc, texts)?;
-    let (faults, _) = core.faults().ok()?;
+// Whether a builder takes the texts.
+fn are_buildable(texts: &BTreeMap<Name, Text>) -> bool
+    ensures { IsTrue result → IsBuildable texts.now.entries }
+{
+    if texts.len() > MOST {
+        return false;
+    }
+    for (_, text) in texts {
+        if text.as_text().len() > MOST {
+            return false;
+        }
+    }
+    true
+}
+
+// Builds from nothing, with a counter of steps that nobody reads.
+fn built<L: Ledger>(alloc: Global, texts: &BTreeMap<Name, Text>, blank: Blank) -> Option<Builder>
+    requires small { IsBuildable texts.now.entries }
+    requires name { blank.name ≡ L.name }
+    requires parts { blank.parts ≡ L.parts }
+    requires some { 0 < blank.parts }
+{
+    let mut steps = Steps::<L>::open(blank);
+    Builder::new(alloc, texts, &mut steps).ok()
+}
+
+fn add_components(texts: &BTreeMap<Name, Text>, builder: &Builder, out: &mut String) -> Option<()> {
     for (name, _) in texts {
-        match faults
-            .items()
+        let told = builder
+            .faults()
             .iter()
-            .find(|told| told.fault.component.same(name))
-        {
+            .find(|told| told.fault.component.same(name));
+        match told {
             Some(told) => add_fault(told, out).ok()?,
             None => writeln!(out, "{} is checked", name.as_text()).ok()?,
         }

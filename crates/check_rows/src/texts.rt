@@ -1,7 +1,7 @@
 //! What is printed of a fault.
 
+use build_core::FaultLine;
 use model_core::FaultKind;
-use status_core::FaultLine;
 use std::alloc::AllocError;
 
 fn front(kind: FaultKind) -> &'static str {
