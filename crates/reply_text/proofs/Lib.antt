@@ -1,0 +1,4 @@
+pub mod Hyps
+pub mod Joining
+pub mod Nodes
+pub mod ShownWell

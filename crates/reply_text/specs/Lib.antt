@@ -1,0 +1,5 @@
+pub mod Faults
+pub mod Laws
+pub mod Printing
+pub mod Replies
+pub mod Statuses

@@ -1,0 +1,14 @@
+//! The printed texts of the core's replies.
+#![tactic(auto)]
+
+mod faults;
+mod laws;
+mod pieces;
+mod replies;
+mod sequents;
+mod statuses;
+
+pub use faults::{add_faults, add_warnings};
+pub use laws::shows_well_formulas;
+pub use replies::reply_text;
+pub use statuses::add_statuses;
