@@ -8,11 +8,13 @@ pub mod Found
 pub mod Gathers
 pub mod Limits
 pub mod Lines
+pub mod Listed
 pub mod Moving
 pub mod Nothing
 pub mod Placing
 pub mod Referred
 pub mod Rounds
+pub mod SameNames
 pub mod Setting
 pub mod Tables
 pub mod Taken

@@ -1,5 +1,5 @@
 -- The project without texts, and what a builder answers.
-use Rattle.std.proofs.Common.{◌≡◌, ◌∙◌, sym, subst, ℕ, List, [], Option, Some, None, get_or, arith}
+use Rattle.std.proofs.Common.{◌≡◌, ◌∙◌, sym, subst, ℕ, true, false, List, [], Option, Some, None, get_or, arith}
 use Rattle.std.specs.Prelude.{Ok, Err}
 use Rattle.std.specs.List.{IsDistinct}
 use Rattle.model_core.specs.declared.fault.Fault.{Fault}
@@ -7,7 +7,7 @@ use Rattle.model_core.specs.declared.checked.Checked.{Checked}
 use Rattle.sequent_core.specs.declared.sequent.Obligation.{Obligation}
 use Rattle.build_core.specs.Projects.{Project, Checks}
 use Rattle.build_core.specs.Tables.{IsTable, IsOfName, IsPlaceOf}
-use Rattle.build_core.specs.Private.{Outcomes, found, IsJudged, AreOwnsOf}
+use Rattle.build_core.specs.Private.{Outcomes, found, AreListed, IsJudged, AreOwnsOf}
 use Rattle.build_core.proofs.Tables.{one_table}
 use Rattle.build_core.proofs.Taken.{verdict_found}
 use Rattle.build_core.proofs.Placing.{of_place}
@@ -24,6 +24,17 @@ nothing_judged = record {
   once = tt;
   verdicts = record { sound = λ n o e. none_some o e; whole = λ n text h. absurd (omega (arith, h.1)) };
 }
+
+pub nothing_listed : AreListed [] [] []
+unfolding IsDistinct
+nothing_listed = record {
+  once = tt;
+  read = λ c h. absurd (omega (arith, h.1));
+  indexed = record { place = λ name i e. none_some i e; all = λ name e. absurd (untrue e) };
+}
+  where
+    untrue : false ≡ true → ⊥
+    untrue e = cc
 
 pub nothing_owned : AreOwnsOf [] []
 nothing_owned name own e = none_some own e

@@ -71,6 +71,12 @@ pub record IsIndex (components : List RawComponent) (index : List (List ℕ × �
   pub place : (name : List ℕ) (i : ℕ) → found index name ≡ Some i → (i < length components) × HoldsAt (λ c. own_name c ≡ name) components i
   pub all : (name : List ℕ) → has components name ≡ true → IsSome (found index name)
 
+-- the components of a project that are read, with the place of each
+pub record AreListed (project : Project) (components : List RawComponent) (index : List (List ℕ × ℕ)) : Type 0 where
+  pub once : IsDistinct bytes_eq (keys_of project)
+  pub read : (c : RawComponent) → Contains components c → IsComponentIn project c
+  pub indexed : IsIndex components index
+
 -- CHECKING
 
 -- what is concluded of the references of a component
@@ -162,6 +168,9 @@ HaveComponents components outcomes = (name : List ℕ) (checked : Checked) → f
 pub record AreVerdicts (project : Project) (outcomes : Outcomes) : Type 0 where
   pub sound : (n : List ℕ) (o : Outcome) → found outcomes n ≡ Some o → Checks project n o
   pub whole : (n text : List ℕ) → Contains project (n, text) → IsSome (found outcomes n)
+
+abbrev pub obligation_names : List Obligation → List (List ℕ)
+obligation_names table = map (λ o. o.name) table
 
 -- the map has the place of each name
 abbrev pub HasPlaces : List Obligation → List (List ℕ × ℕ) → Type 0

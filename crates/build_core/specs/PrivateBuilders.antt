@@ -1,20 +1,22 @@
 -- What holds of a builder.
 use Rattle.std.specs.Prelude.{◌≤◌, ℕ, List}
+use Rattle.model_core.specs.declared.component.RawComponent.{RawComponent}
 use Rattle.sequent_core.specs.declared.sequent.Obligation.{Obligation}
 use Rattle.po_rules.specs.Gathering.{table_nodes, table_limit}
 use Rattle.build_core.specs.declared.fault_line.FaultLine.{FaultLine}
 use Rattle.build_core.specs.declared.owns.Own.{Own}
 use Rattle.build_core.specs.Projects.{Project}
 use Rattle.build_core.specs.Tables.{IsTable, AreFaults, AreWarnings}
-use Rattle.build_core.specs.Private.{Outcomes, IsJudged, AreOwnsOf, HasPlaces}
+use Rattle.build_core.specs.Private.{Outcomes, AreListed, IsJudged, AreOwnsOf, HasPlaces}
 
--- All that a builder keeps is that of its project: outcomes and obligations by name, the obligations with their places, lines of faults, and pairs of names.
-pub record IsBuilt (project : Project) (outcomes : Outcomes) (each : List (List ℕ × Own)) (obligations : List Obligation) (index : List (List ℕ × ℕ)) (lines : List FaultLine)
-    (pairs : List (List ℕ × List ℕ)) : Type 0 where
+-- All that a builder keeps is that of its project: components with their places, outcomes and obligations by name, the obligations with their places, lines of faults, and pairs of names.
+pub record IsBuilt (project : Project) (components : List RawComponent) (index : List (List ℕ × ℕ)) (outcomes : Outcomes) (each : List (List ℕ × Own)) (obligations : List Obligation)
+    (places : List (List ℕ × ℕ)) (lines : List FaultLine) (pairs : List (List ℕ × List ℕ)) : Type 0 where
+  pub listed : AreListed project components index
   pub judged : IsJudged project outcomes
   pub owns : AreOwnsOf project each
   pub table : IsTable project obligations
-  pub places : HasPlaces obligations index
+  pub placed : HasPlaces obligations places
   pub fits : table_nodes obligations ≤ table_limit
   pub faults : AreFaults project lines
   pub warnings : AreWarnings project pairs

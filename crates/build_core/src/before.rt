@@ -6,18 +6,26 @@ ghost use Rattle.std.specs.Option.{option_to_list};
 ghost use Rattle.static_check.specs.Settling.{own_name};
 ghost use Rattle.build_core.specs.Private.{all_kept, are_same, found, is_kept};
 
+use crate::components::Components;
 use crate::outcomes::Outcomes;
 use crate::owns::Own;
-use formula_core::{Name, Ref, Text};
+use formula_core::{Name, PoName, Ref, Text};
 use model_core::RawComponent;
+use sequent_core::Obligation;
 use std::collections::BTreeMap;
+use std::sync::Arc;
 
 /// The texts that were built before, and what they gave.
 #[derive(Clone, Copy)]
 pub struct Before<'a> {
     pub texts: &'a BTreeMap<Name, Text>,
+    pub components: &'a Components,
+    /// The place of each component, by its name.
+    pub index: &'a BTreeMap<Name, usize>,
     pub outcomes: &'a Outcomes,
     pub owns: &'a BTreeMap<Name, Own>,
+    pub table: &'a [Arc<Obligation>],
+    pub places: &'a Arc<BTreeMap<PoName, usize>>,
 }
 
 /// Whether the outcome of a name is known to be that of the build before.

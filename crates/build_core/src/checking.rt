@@ -10,9 +10,10 @@ ghost use Rattle.model_core.specs.Faults.{first_by_place};
 ghost use Rattle.check_rules.specs.Contexts.{Outcome};
 ghost use Rattle.build_core.specs.Moved.{HasFewSteps};
 ghost use Rattle.build_core.specs.Projects.{wanted_references};
-ghost use Rattle.build_core.specs.Private.{AreConcluded, AreJudged, AreSet, AreSteady, ConcludesIn, HaveNames, IsBegun, IsComponentIn, IsIndex, IsJudged, IsStepFor, IsSteady, IsToldCyclic, Sets, faults_at, found};
+ghost use Rattle.build_core.specs.Private.{AreConcluded, AreJudged, AreListed, AreSet, AreSteady, ConcludesIn, HaveNames, IsBegun, IsComponentIn, IsIndex, IsJudged, IsStepFor, IsSteady, IsToldCyclic, Sets, faults_at, found};
 
 use crate::before::{Before, stands};
+use crate::components::Components;
 use crate::index::{component_of, index_of};
 use crate::outcomes::Outcomes;
 use crate::parts::parts_of;
@@ -21,7 +22,7 @@ use crate::references::first_reference_fault;
 use crate::same::same_checked;
 use formula_core::{Name, OutOfMemory, Steps, Text};
 use model_core::{Checked, Fault, FaultKind, RawComponent, fault_at};
-use static_check::{CheckFault, check, order};
+use static_check::{CheckFault, check};
 use std::alloc::Global;
 use std::collections::BTreeMap;
 use std::sync::Arc;
@@ -250,7 +251,7 @@ fn conclude_sorted<L: Ledger>(
     alloc: Global,
     before: &Before<'_>,
     texts: &BTreeMap<Name, Text>,
-    components: &[RawComponent],
+    components: &Components,
     index: &BTreeMap<Name, usize>,
     sorted: &[Name],
     progress: &mut Progress,
@@ -279,7 +280,7 @@ fn conclude_sorted<L: Ledger>(
 fn tell_cyclic(
     alloc: Global,
     before: &Before<'_>,
-    components: &[RawComponent],
+    components: &Components,
     index: &BTreeMap<Name, usize>,
     cyclic: &[Name],
     progress: &mut Progress,
@@ -303,7 +304,7 @@ fn conclude_all<L: Ledger>(
     alloc: Global,
     before: &Before<'_>,
     texts: &BTreeMap<Name, Text>,
-    components: &[RawComponent],
+    components: &Components,
     index: &BTreeMap<Name, usize>,
     progress: &mut Progress,
     steps: &mut Steps<L>,
@@ -316,7 +317,7 @@ fn conclude_all<L: Ledger>(
     ensures steady { OnOk result (AreSteady before.now.outcomes.now progress.new.outcomes progress.new.kept.entries) }
     ensures steps { HasFewSteps before.now.texts.now.entries texts.now.entries steps.old steps.new }
 {
-    let order = order(alloc, components)?;
+    let order = components.order(alloc)?;
     let sorted = order.sorted.items();
     conclude_sorted(
         alloc, before, texts, components, index, sorted, progress, steps,
@@ -335,13 +336,13 @@ fn conclude_all<L: Ledger>(
 /// The components of a project, with the outcomes of all its texts.
 #[derive(Drop)]
 pub struct Judged {
-    pub components: Vec<RawComponent>,
+    pub components: Components,
     /// The place of each component, by its name.
     pub index: BTreeMap<Name, usize>,
     pub progress: Progress,
 }
 
-/// Reads the texts of a project, and checks its components beside those of before.
+/// Reads the texts of a project that aren't those of before, and checks its components beside those of before.
 pub fn judge<L: Ledger>(
     alloc: Global,
     before: &Before<'_>,
@@ -349,10 +350,11 @@ pub fn judge<L: Ledger>(
     steps: &mut Steps<L>,
 ) -> Result<Judged, OutOfMemory>
     requires small { AllByRecursion (λ entry. length entry.1 ≤ 65536) texts.now.entries }
+    requires listed { AreListed before.now.texts.now.entries before.now.components.now before.now.index.now.entries }
     requires before { IsJudged before.now.texts.now.entries before.now.outcomes.now }
     ensures judged { IfOk result (λ judged.
-        AreJudged texts.now.entries judged.components.items judged.progress.outcomes) }
-    ensures index { IfOk result (λ judged. IsIndex judged.components.items judged.index.entries) }
+        AreJudged texts.now.entries judged.components judged.progress.outcomes) }
+    ensures index { IfOk result (λ judged. IsIndex judged.components judged.index.entries) }
     ensures steady { IfOk result (λ judged.
         AreSteady before.now.outcomes.now judged.progress.outcomes judged.progress.kept.entries) }
     ensures steps { HasFewSteps before.now.texts.now.entries texts.now.entries steps.old steps.new }
@@ -360,7 +362,7 @@ pub fn judge<L: Ledger>(
     let Readings {
         components,
         outcomes,
-    } = read_all(alloc, texts)?;
+    } = read_all(alloc, before, texts)?;
     let index = index_of(alloc, &components)?;
     let mut progress = Progress {
         outcomes,

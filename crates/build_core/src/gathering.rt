@@ -155,14 +155,14 @@ fn own_of(
 ) -> Result<Own, BuildFault>
     requires before { IsJudged before.now.texts.now.entries before.now.outcomes.now }
     requires owns { AreOwnsOf before.now.texts.now.entries before.now.owns.now.entries }
-    requires judged { AreJudged texts.now.entries judged.now.components.items judged.now.progress.outcomes }
-    requires index { IsIndex judged.now.components.items judged.now.index.entries }
+    requires judged { AreJudged texts.now.entries judged.now.components judged.now.progress.outcomes }
+    requires index { IsIndex judged.now.components judged.now.index.entries }
     requires steady { AreSteady before.now.outcomes.now judged.now.progress.outcomes judged.now.progress.kept.entries }
     requires within { nodes ≤ table_limit }
-    ensures own { IfOk result (λ own. OwnsOf judged.now.components.items judged.now.progress.outcomes name.now own) }
+    ensures own { IfOk result (λ own. OwnsOf judged.now.components judged.now.progress.outcomes name.now own) }
     ensures fits { IfOk result (λ own. nodes + own.nodes ≤ table_limit) }
     ensures full { (n : ℕ) → IsErrOf result (BuildFault.TableFull n) → (list : List Obligation)
-        × IsOwn judged.now.components.items judged.now.progress.outcomes name.now list × PassesAt list nodes n }
+        × IsOwn judged.now.components judged.now.progress.outcomes name.now list × PassesAt list nodes n }
 {
     match judged.progress.outcomes.get(name) {
         Some(Ok(checked)) => {
@@ -213,8 +213,8 @@ pub fn collect(
 ) -> Result<Collected, BuildFault>
     requires before { IsJudged before.now.texts.now.entries before.now.outcomes.now }
     requires owns { AreOwnsOf before.now.texts.now.entries before.now.owns.now.entries }
-    requires judged { AreJudged texts.now.entries judged.now.components.items judged.now.progress.outcomes }
-    requires index { IsIndex judged.now.components.items judged.now.index.entries }
+    requires judged { AreJudged texts.now.entries judged.now.components judged.now.progress.outcomes }
+    requires index { IsIndex judged.now.components judged.now.index.entries }
     requires steady { AreSteady before.now.outcomes.now judged.now.progress.outcomes judged.now.progress.kept.entries }
     ensures table { IfOk result (λ out. IsTable texts.now.entries (map arc_value out.obligations.items)) }
     ensures fits { IfOk result (λ out. table_nodes (map arc_value out.obligations.items) ≤ table_limit) }

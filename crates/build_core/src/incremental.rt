@@ -9,20 +9,21 @@ ghost use Rattle.sequent_core.specs.declared.sequent.Obligation.{Obligation};
 ghost use Rattle.model_core.specs.declared.checked.Checked.{Checked};
 ghost use Rattle.po_rules.specs.Gathering.{table_limit, table_nodes};
 ghost use Rattle.build_core.specs.Moved.{HasFewSteps};
-ghost use Rattle.build_core.specs.Private.{AreOwnsOf, IsJudged};
+ghost use Rattle.build_core.specs.Private.{AreListed, AreOwnsOf, HasPlaces, IsJudged};
 ghost use Rattle.build_core.specs.Projects.{Checks, IsBuildable};
 ghost use Rattle.build_core.specs.Tables.{AreFaults, AreWarnings, IsOfName, IsPlaceOf, IsTable, IsTooLarge};
 
 use crate::before::Before;
 use crate::built::BuildFault;
-use crate::checking::{Progress, judge};
+use crate::checking::{Judged, Progress, judge};
+use crate::components::Components;
 use crate::copies::copy_texts;
 use crate::fault_line::FaultLine;
 use crate::gathering::{Collected, collect, faults_in, warnings_in};
 use crate::outcomes::Outcomes;
 use crate::owns::Own;
-use crate::places::places_of;
-use formula_core::{Name, PoName, Steps, Text};
+use crate::places::kept_places;
+use formula_core::{Name, OutOfMemory, PoName, Steps, Text};
 use model_core::Checked;
 use sequent_core::Obligation;
 use std::alloc::Global;
@@ -36,10 +37,12 @@ use std::sync::ledger::Ledger;
 #[derive(Drop)]
 pub struct Builder {
     texts: BTreeMap<Name, Text>,
+    components: Components,
+    index: BTreeMap<Name, usize>,
     outcomes: Outcomes,
     owns: BTreeMap<Name, Own>,
     table: Vec<Arc<Obligation>>,
-    places: BTreeMap<PoName, usize>,
+    places: Arc<BTreeMap<PoName, usize>>,
     faults: Vec<FaultLine>,
     warnings: Vec<(Name, Name)>,
 }
@@ -55,24 +58,27 @@ impl Model for Builder {
 
     ghost view = { λ b. b.texts.entries };
 
-    ghost invariant = { λ b. IsBuilt b.texts.entries b.outcomes b.owns.entries (map arc_value b.table.items)
-        b.places.entries b.faults.items b.warnings.items };
+    ghost invariant = { λ b. IsBuilt b.texts.entries b.components b.index.entries b.outcomes b.owns.entries
+        (map arc_value b.table.items) (arc_value b.places).entries b.faults.items b.warnings.items };
 }
 
 impl Builder {
     /// The builder of no texts.
-    fn empty(alloc: Global) -> Builder
-        ensures { result ≡ [] }
+    fn empty(alloc: Global) -> Result<Builder, OutOfMemory>
+        ensures { IfOk result (λ builder. builder ≡ []) }
     {
-        Builder {
+        let places = Arc::new(alloc, BTreeMap::new(alloc))?;
+        Ok(Builder {
             texts: BTreeMap::new(alloc),
+            components: Components::new(alloc),
+            index: BTreeMap::new(alloc),
             outcomes: Outcomes::new(alloc),
             owns: BTreeMap::new(alloc),
             table: Vec::new(alloc),
-            places: BTreeMap::new(alloc),
+            places,
             faults: Vec::new(alloc),
             warnings: Vec::new(alloc),
-        }
+        })
     }
 
     /// Builds the texts of a project: each is read once, and each component is checked at most once, which is a step of
@@ -87,12 +93,14 @@ impl Builder {
         ensures full { (n : ℕ) → IsErrOf result (BuildFault.TableFull n) → IsTooLarge project.now.entries n }
         ensures steps { steps.new ≤ steps.old + length project.now.entries }
     {
-        let nothing = Builder::empty(alloc);
+        let nothing = Builder::empty(alloc)?;
         nothing.build(alloc, project, steps)
     }
 
-    /// Builds other texts. A component is checked only if it may have moved, which is a step of the counter. What has
-    /// not moved is shared with this builder: neither a checked component nor an obligation of it is copied.
+    /// Builds other texts. A text is read only if it is new or differs, or had a fault. A component is checked only if it
+    /// may have moved, which is a step of the counter. What has not moved is shared with this builder: neither what a text
+    /// was read as nor a checked component nor an obligation of it is copied. The map of places is shared where all names
+    /// have their places of before.
     pub fn build<L: Ledger>(
         &self,
         alloc: Global,
@@ -106,8 +114,12 @@ impl Builder {
     {
         let before = Before {
             texts: &self.texts,
+            components: &self.components,
+            index: &self.index,
             outcomes: &self.outcomes,
             owns: &self.owns,
+            table: &self.table,
+            places: &self.places,
         };
         build_from(alloc, &before, project, steps)
     }
@@ -182,8 +194,10 @@ fn build_from<L: Ledger>(
     steps: &mut Steps<L>,
 ) -> Result<Builder, BuildFault>
     requires small { IsBuildable texts.now.entries }
+    requires listed { AreListed before.now.texts.now.entries before.now.components.now before.now.index.now.entries }
     requires before { IsJudged before.now.texts.now.entries before.now.outcomes.now }
     requires owns { AreOwnsOf before.now.texts.now.entries before.now.owns.now.entries }
+    requires placed { HasPlaces (map arc_value before.now.table.now) (arc_value before.now.places.now).entries }
     ensures built { IfOk result (λ builder. builder ≡ texts.now.entries) }
     ensures full { (n : ℕ) → IsErrOf result (BuildFault.TableFull n) → IsTooLarge texts.now.entries n }
     ensures steps { HasFewSteps before.now.texts.now.entries texts.now.entries steps.old steps.new }
@@ -194,16 +208,23 @@ fn build_from<L: Ledger>(
         obligations: table,
         ..
     } = collect(alloc, before, texts, &judged)?;
+    let Judged {
+        components,
+        index,
+        progress,
+    } = judged;
     let Progress {
         outcomes,
         kept: _kept,
-    } = judged.progress;
+    } = progress;
     let faults = faults_in(alloc, texts, &outcomes)?;
     let warnings = warnings_in(alloc, texts, &outcomes)?;
-    let places = places_of(alloc, &table)?;
+    let places = kept_places(alloc, before, &table)?;
     let texts = copy_texts(alloc, texts)?;
     Ok(Builder {
         texts,
+        components,
+        index,
         outcomes,
         owns,
         table,

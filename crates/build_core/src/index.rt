@@ -5,6 +5,7 @@ ghost use Rattle.std.specs.List.{Contains};
 ghost use Rattle.static_check.specs.Settling.{has, own_name};
 ghost use Rattle.build_core.specs.Private.{IsIndex, Sets};
 
+use crate::components::Components;
 use formula_core::{Name, OutOfMemory};
 use model_core::RawComponent;
 use std::alloc::Global;
@@ -26,20 +27,20 @@ fn add_place(
 /// The place of each component, by its name.
 pub fn index_of(
     alloc: Global,
-    components: &[RawComponent],
+    components: &Components,
 ) -> Result<BTreeMap<Name, usize>, OutOfMemory>
     ensures { IfOk result (λ index. IsIndex components.now index.entries) }
 {
     let mut index = BTreeMap::new(alloc);
-    for (place, component) in components.iter().enumerate() {
-        add_place(alloc, &mut index, component, place)?;
+    for place in 0..components.len() {
+        add_place(alloc, &mut index, components.at(place), place)?;
     }
     Ok(index)
 }
 
 /// The component of a name that one has.
 pub fn component_of<'a>(
-    components: &'a [RawComponent],
+    components: &'a Components,
     index: &BTreeMap<Name, usize>,
     name: &Name,
 ) -> &'a RawComponent
@@ -49,7 +50,7 @@ pub fn component_of<'a>(
     ensures named { own_name result.now ≡ name.now }
 {
     match index.get(name) {
-        Some(place) => &components[*place],
+        Some(place) => components.at(*place),
         None => unreachable!(),
     }
 }

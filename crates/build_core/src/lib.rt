@@ -6,6 +6,7 @@ mod before;
 mod builder;
 mod built;
 mod checking;
+mod components;
 mod copies;
 mod fault_line;
 mod gathering;

@@ -1,9 +1,10 @@
 //! The places of obligations, by their names.
 
-ghost use Rattle.std.specs.Prelude.{◌<◌, ◌+◌, length, map, take, IfOk, OnOk};
+ghost use Rattle.std.specs.Prelude.{◌≡◌, ◌↔◌, ◌<◌, ◌+◌, length, map, take, IfOk, IsTrue, OnOk};
 ghost use Rattle.std.specs.Arc.{arc_value};
-ghost use Rattle.build_core.specs.Private.{HasPlaces};
+ghost use Rattle.build_core.specs.Private.{HasPlaces, obligation_names};
 
+use crate::before::Before;
 use formula_core::{OutOfMemory, PoName};
 use sequent_core::Obligation;
 use std::alloc::Global;
@@ -32,7 +33,7 @@ fn note_place(
 }
 
 /// The place of the first obligation of each name.
-pub fn places_of(
+fn places_of(
     alloc: Global,
     obligations: &[Arc<Obligation>],
 ) -> Result<BTreeMap<PoName, usize>, OutOfMemory>
@@ -42,5 +43,39 @@ pub fn places_of(
     for at in 0..obligations.len() {
         note_place(alloc, &mut places, obligations, at)?;
     }
+    Ok(places)
+}
+
+/// Whether two tables have the same names at the same places.
+fn same_names(one: &[Arc<Obligation>], other: &[Arc<Obligation>]) -> bool
+    ensures { IsTrue result ↔
+        (obligation_names (map arc_value one.now) ≡ obligation_names (map arc_value other.now)) }
+{
+    if one.len() != other.len() {
+        return false;
+    }
+    for at in 0..one.len() {
+        if !one[at].name.same(&other[at].name) {
+            return false;
+        }
+    }
+    true
+}
+
+/// The places in a table: those of before where each has the name of before, or new ones.
+pub fn kept_places(
+    alloc: Global,
+    before: &Before<'_>,
+    table: &[Arc<Obligation>],
+) -> Result<Arc<BTreeMap<PoName, usize>>, OutOfMemory>
+    requires { HasPlaces (map arc_value before.now.table.now) (arc_value before.now.places.now).entries }
+    ensures { IfOk result (λ places. HasPlaces (map arc_value table.now) (arc_value places).entries) }
+{
+    if same_names(before.table, table) {
+        let places = Arc::try_clone(before.places)?;
+        return Ok(places);
+    }
+    let places = places_of(alloc, table)?;
+    let places = Arc::new(alloc, places)?;
     Ok(places)
 }

@@ -9,6 +9,7 @@ use Rattle.std.specs.Map.{lookup}
 use Rattle.std.specs.Option.{option_map, option_map_or}
 use Rattle.std.specs.Ordering.{nat_cmp}
 use Rattle.std.proofs.lemmas.Cmp.{nat_list_eq_equiv}
+use Rattle.std.proofs.lemmas.List.{map-append}
 use Rattle.std.proofs.lemmas.List.Folds.{list_any-append}
 use Rattle.std.proofs.lemmas.Map.Text.{btree_map_updates_str}
 use Rattle.std.proofs.lemmas.Slice.Eq.{bytes_eq-Decides}
@@ -46,13 +47,20 @@ open_more true false = refl
 open_more false true = refl
 open_more false false = refl
 
-pub one_more_open : (components : List RawComponent) (i : ℕ) (c : RawComponent) (w v : Waiters) (name : List ℕ) → i < length components → c ≡ get_or components i c → name ≡ own_name c →
-    ((x : List ℕ) → w x ≡ all_open (take i components) x) → ((x : List ℕ) → v x ≡ cond (bytes_eq x name) none_waits (w x)) → (x : List ℕ) → v x ≡ all_open (take (i + 1) components) x
+opened : (before : List RawComponent) (c : RawComponent) (w v : Waiters) (name : List ℕ) → name ≡ own_name c → ((x : List ℕ) → w x ≡ all_open before x) →
+    ((x : List ℕ) → v x ≡ cond (bytes_eq x name) none_waits (w x)) → (x : List ℕ) → v x ≡ all_open (before ++ c ∷ []) x
+opened before c w v name is there after x =
+    after x ∙ (λ j. cond (bytes_eq x (is j)) none_waits (there x j))
+    ∙ open_more (has before x) (bytes_eq x (own_name c))
+    ∙ ap (λ b. cond b none_waits None) (sym (list_any-append (λ d. bytes_eq x (own_name d)) before (c ∷ [])))
+
+-- one name of a component more is open
+pub one_more_open : (components : List (Bor RawComponent)) (i : ℕ) (c : Bor RawComponent) (w v : Waiters) (name : List ℕ) → i < length components → c ≡ get_or components i c →
+    name ≡ own_name c.now → ((x : List ℕ) → w x ≡ all_open (map (λ x. x.now) (take i components)) x) → ((x : List ℕ) → v x ≡ cond (bytes_eq x name) none_waits (w x)) →
+    (x : List ℕ) → v x ≡ all_open (map (λ x. x.now) (take (i + 1) components)) x
 one_more_open components i c w v name lt at is before after x =
-    after x ∙ (λ j. cond (bytes_eq x (is j)) none_waits (before x j))
-    ∙ open_more (has (take i components) x) (bytes_eq x (own_name c))
-    ∙ ap (λ b. cond b none_waits None) (sym (list_any-append (λ d. bytes_eq x (own_name d)) (take i components) (c ∷ [])))
-    ∙ ap (λ cs. all_open cs x) (sym (taken_more components i c lt at))
+    opened (map (λ x. x.now) (take i components)) c.now w v name is before after x
+    ∙ ap (λ cs. all_open cs x) (sym (ap (map (λ x. x.now)) (taken_more components i c lt at) ∙ map-append (λ (x : Bor RawComponent). x.now) (take i components) (c ∷ [])))
 
 -- it is sorted, and those that waited for it are pending
 pub sorted_now : (c : RawComponent) (m n : Open) (v : Vec Waiting Global) (name : List ℕ) (pending more : List RawComponent) (sorted longer : List (List ℕ)) → name ≡ own_name c →

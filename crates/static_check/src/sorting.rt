@@ -153,8 +153,9 @@ fn take_turn<'a>(
 }
 
 /// All names as open ones.
-fn all_open(alloc: Global, components: &[RawComponent]) -> Result<Open<'_>, OutOfMemory>
-    ensures { IfOk result (λ names. (x : Listed ℕ) → waiting_for names x ≡ all_open components.now x) }
+fn all_open<'a>(alloc: Global, components: &[&'a RawComponent]) -> Result<Open<'a>, OutOfMemory>
+    ensures { IfOk result (λ names. (x : Listed ℕ) →
+        waiting_for names x ≡ all_open (map (λ x. x.now) components.now) x) }
 {
     let mut names = BTreeMap::new(alloc);
     for component in components {
@@ -164,8 +165,11 @@ fn all_open(alloc: Global, components: &[RawComponent]) -> Result<Open<'_>, OutO
 }
 
 /// All components, the first one last.
-fn all_waiting(alloc: Global, components: &[RawComponent]) -> Result<Vec<Waiting<'_>>, OutOfMemory>
-    ensures { IfOk result (λ all. map component_of all.items ≡ reverse components.now) }
+fn all_waiting<'a>(
+    alloc: Global,
+    components: &[&'a RawComponent],
+) -> Result<Vec<Waiting<'a>>, OutOfMemory>
+    ensures { IfOk result (λ all. map component_of all.items ≡ reverse (map (λ x. x.now) components.now)) }
 {
     let mut all = Vec::new(alloc);
     for component in components {
@@ -178,10 +182,11 @@ fn all_waiting(alloc: Global, components: &[RawComponent]) -> Result<Vec<Waiting
 /// The names that are still open.
 fn left_open(
     alloc: Global,
-    components: &[RawComponent],
+    components: &[&RawComponent],
     names: &Open<'_>,
 ) -> Result<Vec<Name>, OutOfMemory>
-    ensures { IfOk result (λ left. left.items ≡ left_open components.now (waiting_for names.now)) }
+    ensures { IfOk result (λ left. left.items
+        ≡ left_open (map (λ x. x.now) components.now) (waiting_for names.now)) }
 {
     let mut left = Vec::new(alloc);
     for component in components {
@@ -194,8 +199,8 @@ fn left_open(
 
 /// The components in an order in which references come first, and those that are never settled. Each reference is looked
 /// up at most three times.
-pub fn order(alloc: Global, components: &[RawComponent]) -> Result<Order, OutOfMemory>
-    ensures { IfOk result (λ order. IsComponentOrder components.now order) }
+pub fn order(alloc: Global, components: &[&RawComponent]) -> Result<Order, OutOfMemory>
+    ensures { IfOk result (λ order. IsComponentOrder (map (λ x. x.now) components.now) order) }
 {
     let mut names = all_open(alloc, components)?;
     let mut pending = all_waiting(alloc, components)?;

@@ -13,7 +13,7 @@ use Rattle.build_core.proofs.gathering.collect.Goals as goal
 
 pub loop-name-preserved : goal.loop-name-preserved
 loop-name-preserved c =
-    let components = c.args.judged.now.components.items in
+    let components = c.args.judged.now.components in
     let outcomes = c.args.judged.now.progress.outcomes in
     let done = c.loop-name.invariant.done in
     let own = c.in_ok-own.own in
@@ -36,7 +36,7 @@ loop-name-preserved c =
 
 pub returns-in_err-own-clause-full : goal.returns-in_err-own-clause-full
 returns-in_err-own-clause-full c n is =
-    let components = c.args.judged.now.components.items in
+    let components = c.args.judged.now.components in
     let outcomes = c.args.judged.now.progress.outcomes in
     let done = c.loop-name.invariant.done in
     let now = map arc_value c.loop-name.out.obligations.items in
@@ -52,11 +52,11 @@ returns-in_err-own-clause-full c n is =
 
 pub returns-clause-table : goal.returns-clause-table
 returns-clause-table c =
-    let components = c.args.judged.now.components.items in
+    let components = c.args.judged.now.components in
     let outcomes = c.args.judged.now.progress.outcomes in
     whole_table c.args.texts.now.entries components outcomes c.requires.judged (map arc_value c.loop-name.out.obligations.items)
     (subst (λ es. AreOwn components outcomes es (map arc_value c.loop-name.out.obligations.items)) (done_all c.loop-name.invariant.done c.loop-name.name-iterator c.args.texts.now.entries c.in-None.ensures.steps.0 c.loop-name.invariant.all) c.loop-name.invariant.table)
 
 pub returns-clause-owns : goal.returns-clause-owns
 returns-clause-owns c =
-    whole_owns c.args.texts.now.entries c.args.judged.now.components.items c.args.judged.now.progress.outcomes c.requires.judged c.loop-name.out.owns.entries c.loop-name.invariant.owns
+    whole_owns c.args.texts.now.entries c.args.judged.now.components c.args.judged.now.progress.outcomes c.requires.judged c.loop-name.out.owns.entries c.loop-name.invariant.owns

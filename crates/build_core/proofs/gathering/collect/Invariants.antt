@@ -9,8 +9,8 @@ invariant-loop-name l =
     record {
       done : List (List ℕ × List ℕ);
       all : done ++ l.name-iterator ≡ l.texts.entries;
-      table : AreOwn l.judged.components.items l.judged.progress.outcomes done (map arc_value l.out.obligations.items);
+      table : AreOwn l.judged.components l.judged.progress.outcomes done (map arc_value l.out.obligations.items);
       nodes : l.out.nodes ≡ table_nodes (map arc_value l.out.obligations.items);
       within : l.out.nodes ≤ table_limit;
-      owns : HaveOwns l.judged.components.items l.judged.progress.outcomes l.texts.entries l.out.owns.entries;
+      owns : HaveOwns l.judged.components l.judged.progress.outcomes l.texts.entries l.out.owns.entries;
     }

@@ -5,4 +5,4 @@ use Rattle.build_core.proofs.reading.read_all.Given as goal
 abbrev pub invariant-loop-name : goal.invariant-loop-name
 invariant-loop-name l =
     (done : List (List ℕ × List ℕ)) × (done ++ l.name-iterator ≡ l.texts.entries)
-    × AreRead done l.readings.components.items l.readings.outcomes
+    × AreRead done l.readings.components l.readings.outcomes

@@ -6,4 +6,4 @@ use Rattle.build_core.proofs.incremental.Builder.new.Goals as goal
 pub returns-clause-steps : goal.returns-clause-steps
 returns-clause-steps g c =
     few_components c.args.project.now.entries c.args.steps.now c.build.new.steps
-    (subst (λ p. HasFewSteps p c.args.project.now.entries c.args.steps.now c.build.new.steps) c.empty-nothing.ensures c.build.ensures.steps)
+    (subst (λ p. HasFewSteps p c.args.project.now.entries c.args.steps.now c.build.new.steps) c.in_ok-nothing.ensures c.build.ensures.steps)
