@@ -15,7 +15,7 @@ use crate::gathered::Gathered;
 use crate::labelled::items_from;
 use crate::needed::{add_from_base, is_full, label_part};
 use crate::parts::SharedParts;
-use crate::predicates::{conjoined, for_every_of, for_some_of, not_empty, top};
+use crate::predicates::{conjoined, for_every_of, for_some_of, instead_of, not_empty, top};
 use formula_core::{Action, Formula, Label, Name, OutOfMemory, Ty};
 use std::alloc::Global;
 use well_defined::wd;
@@ -26,7 +26,10 @@ fn values_condition(alloc: Global, pairs: &[(Name, Formula)]) -> Result<Formula,
 {
     let mut all = top(alloc);
     for pair in pairs {
-        all = conjoined(alloc, all, wd(alloc, &pair.1)?)?;
+        let Ok(condition) = wd(alloc, &pair.1) else {
+            return instead_of(all, Err(OutOfMemory));
+        };
+        all = conjoined(alloc, all, condition)?;
     }
     Ok(all)
 }
@@ -41,7 +44,8 @@ fn action_condition(alloc: Global, action: &Action) -> Result<Formula, OutOfMemo
         Action::ChooseSuch(targets, predicate) => {
             let primed = with_primes(alloc, targets.items())?;
             let condition = wd(alloc, predicate)?;
-            for_every_of(alloc, &primed, &condition)
+            let all = for_every_of(alloc, &primed, &condition);
+            instead_of(condition, all)
         }
     }
 }

@@ -10,7 +10,7 @@ ghost use Rattle.po_rules.specs.Parts.{as_term, before_after, new_values, open_t
 ghost use Rattle.po_machine.specs.Private.{is_wanted, wanted_of};
 
 use crate::names::Names;
-use crate::predicates::of_two;
+use crate::predicates::{instead_of, of_two};
 use formula_core::{Action, Formula, Label, List, Name, Op, OutOfMemory, Ty};
 use std::alloc::Global;
 
@@ -173,8 +173,7 @@ fn add_open_value(
     ensures { OnOk result (out.new.items ≡ out.old.items ++ wanted_of wanted.entry.now ((name.entry.now, as_term (with_prime (name.entry.now, ty.entry.now))) ∷ [])) }
 {
     if is_wanted(wanted, name) {
-        let value = primed_term(alloc, name, ty)?;
-        out.push((name.copy(alloc)?, value))?;
+        out.push((name.copy(alloc)?, primed_term(alloc, name, ty)?))?;
     }
     Ok(())
 }
@@ -253,7 +252,10 @@ fn add_membership(
     let integer = Ty::Int;
     if let Some(ty) = member_type(set, &integer) {
         let value = primed_term(alloc, name, ty)?;
-        out.push(of_two(alloc, Op::Member, value, set.copy(alloc)?)?)?;
+        let Ok(set) = set.copy(alloc) else {
+            return instead_of(value, Err(OutOfMemory));
+        };
+        out.push(of_two(alloc, Op::Member, value, set)?)?;
     }
     Ok(())
 }

@@ -10,6 +10,7 @@ use crate::gathered::Gathered;
 use crate::hypotheses::{add_labelled, labelled_hypotheses, machine_hypotheses};
 use crate::needed::{add_one, is_full, is_idle, label_part};
 use crate::parts::SharedParts;
+use crate::predicates::instead_of;
 use formula_core::{Env, Formula, Label, Name, OutOfMemory, PoName};
 use model_core::{CheckedContext, CheckedMachine, Labelled};
 use std::alloc::Global;
@@ -68,9 +69,11 @@ fn add_at(
     ensures { OnOk result (view out.new ≡ gathered (view out.old) (needed_at site.entry.now (behind hyps.entry.now) label.entry.now kind.entry.now goal)) }
 {
     if is_idle(out, &goal) {
-        return Ok(());
+        return instead_of(goal, Ok(()));
     }
-    let name = name_at(alloc, site, label, kind)?;
+    let Ok(name) = name_at(alloc, site, label, kind) else {
+        return instead_of(goal, Err(OutOfMemory));
+    };
     add_one(alloc, out, name, site.env, hyps, goal)
 }
 

@@ -11,7 +11,7 @@ ghost use Rattle.po_machine.specs.Private.{added_within, behind, obligation_of};
 use crate::gathered::Gathered;
 use crate::hypotheses::{base_hypotheses, choice_hypotheses, witness_hypotheses};
 use crate::parts::SharedParts;
-use crate::predicates::is_top;
+use crate::predicates::{instead_of, is_top};
 use formula_core::{Env, Formula, Label, List, Name, OutOfMemory, PoName};
 use sequent_core::{Obligation, Sequent};
 use std::alloc::Global;
@@ -72,8 +72,12 @@ fn add_obligation(
 ) -> Result<(), OutOfMemory>
     ensures { OnOk result (obligations.new.items ≡ obligations.old.items ++ obligation_of name env.now (behind hyps.now) goal ∷ []) }
 {
-    let env = env.copy(alloc)?;
-    let hyps = copied(alloc, hyps)?;
+    let Ok(env) = env.copy(alloc) else {
+        return instead_of(goal, Err(OutOfMemory));
+    };
+    let Ok(hyps) = copied(alloc, hyps) else {
+        return instead_of(goal, Err(OutOfMemory));
+    };
     let sequent = Sequent { env, hyps, goal };
     obligations.push(Obligation { name, sequent })?;
     Ok(())
@@ -92,7 +96,7 @@ fn add_within(
     ensures { OnOk result (obligations.new.items ≡ added_within nodes obligations.old.items (obligation_of name env.now (behind hyps.now) goal)) }
 {
     if nodes > TABLE_LIMIT {
-        return Ok(());
+        return instead_of(goal, Ok(()));
     }
     add_obligation(alloc, obligations, name, env, hyps, goal)
 }
@@ -147,10 +151,15 @@ pub fn add_from_base(
     ensures { OnOk result (view out.new ≡ gathered (view out.old) (from_base (parts_in parts.now) (of_kind label.now kind.now) goal)) }
 {
     if is_idle(out, &goal) {
-        return Ok(());
+        return instead_of(goal, Ok(()));
     }
-    let name = PoName::of_event_part(alloc, &parts.machine.name, &parts.event.name, label, kind)?;
-    let hyps = base_hypotheses(alloc, parts)?;
+    let Ok(name) = PoName::of_event_part(alloc, &parts.machine.name, &parts.event.name, label, kind)
+    else {
+        return instead_of(goal, Err(OutOfMemory));
+    };
+    let Ok(hyps) = base_hypotheses(alloc, parts) else {
+        return instead_of(goal, Err(OutOfMemory));
+    };
     add_one(alloc, out, name, &parts.env, &hyps, goal)
 }
 
@@ -168,10 +177,15 @@ pub fn add_from_choices(
     ensures { OnOk result (view out.new ≡ gathered (view out.old) (from_choices (parts_in parts.now) (of_kind label.now kind.now) goal)) }
 {
     if is_idle(out, &goal) {
-        return Ok(());
+        return instead_of(goal, Ok(()));
     }
-    let name = PoName::of_event_part(alloc, &parts.machine.name, &parts.event.name, label, kind)?;
-    let hyps = choice_hypotheses(alloc, parts)?;
+    let Ok(name) = PoName::of_event_part(alloc, &parts.machine.name, &parts.event.name, label, kind)
+    else {
+        return instead_of(goal, Err(OutOfMemory));
+    };
+    let Ok(hyps) = choice_hypotheses(alloc, parts) else {
+        return instead_of(goal, Err(OutOfMemory));
+    };
     add_one(alloc, out, name, &parts.env, &hyps, goal)
 }
 
@@ -189,10 +203,15 @@ pub fn add_from_witnesses(
     ensures { OnOk result (view out.new ≡ gathered (view out.old) (from_witnesses (parts_in parts.now) (of_kind label.now kind.now) goal)) }
 {
     if is_idle(out, &goal) {
-        return Ok(());
+        return instead_of(goal, Ok(()));
     }
-    let name = PoName::of_event_part(alloc, &parts.machine.name, &parts.event.name, label, kind)?;
-    let hyps = witness_hypotheses(alloc, parts)?;
+    let Ok(name) = PoName::of_event_part(alloc, &parts.machine.name, &parts.event.name, label, kind)
+    else {
+        return instead_of(goal, Err(OutOfMemory));
+    };
+    let Ok(hyps) = witness_hypotheses(alloc, parts) else {
+        return instead_of(goal, Err(OutOfMemory));
+    };
     add_one(alloc, out, name, &parts.env, &hyps, goal)
 }
 
@@ -208,10 +227,14 @@ pub fn add_whole_from_base(
     ensures { OnOk result (view out.new ≡ gathered (view out.old) (from_base (parts_in parts.now) kind.now goal)) }
 {
     if is_idle(out, &goal) {
-        return Ok(());
+        return instead_of(goal, Ok(()));
     }
-    let name = PoName::of_event(alloc, &parts.machine.name, &parts.event.name, kind)?;
-    let hyps = base_hypotheses(alloc, parts)?;
+    let Ok(name) = PoName::of_event(alloc, &parts.machine.name, &parts.event.name, kind) else {
+        return instead_of(goal, Err(OutOfMemory));
+    };
+    let Ok(hyps) = base_hypotheses(alloc, parts) else {
+        return instead_of(goal, Err(OutOfMemory));
+    };
     add_one(alloc, out, name, &parts.env, &hyps, goal)
 }
 
@@ -227,9 +250,13 @@ pub fn add_whole_from_choices(
     ensures { OnOk result (view out.new ≡ gathered (view out.old) (from_choices (parts_in parts.now) kind.now goal)) }
 {
     if is_idle(out, &goal) {
-        return Ok(());
+        return instead_of(goal, Ok(()));
     }
-    let name = PoName::of_event(alloc, &parts.machine.name, &parts.event.name, kind)?;
-    let hyps = choice_hypotheses(alloc, parts)?;
+    let Ok(name) = PoName::of_event(alloc, &parts.machine.name, &parts.event.name, kind) else {
+        return instead_of(goal, Err(OutOfMemory));
+    };
+    let Ok(hyps) = choice_hypotheses(alloc, parts) else {
+        return instead_of(goal, Err(OutOfMemory));
+    };
     add_one(alloc, out, name, &parts.env, &hyps, goal)
 }

@@ -10,6 +10,7 @@ ghost use Rattle.po_machine.specs.Private.{primed_value, substituted_witness, wa
 
 use crate::changes::{Wanted, add_all_new_values, add_all_open_targets, choices_of, primed};
 use crate::names::Names;
+use crate::predicates::instead_of;
 use formula_core::{Action, Env, EnvFault, Formula, Label, Name, OutOfMemory, Ty};
 use model_core::{CheckedEvent, CheckedMachine};
 use std::alloc::Global;
@@ -218,9 +219,10 @@ fn primed_value(
 ) -> Result<(Name, Formula), OutOfMemory>
     ensures { IfOk result (λ pair. pair ≡ primed_value after.now variable.now) }
 {
+    let name = primed(alloc, &variable.0)?;
     let term = Formula::Free(variable.0.copy(alloc)?, variable.1.copy(alloc)?);
-    let value = term.substitute_any(alloc, after)?;
-    Ok((primed(alloc, &variable.0)?, value))
+    let value = term.substitute_any(alloc, after);
+    Ok((name, instead_of(term, value)?))
 }
 
 fn add_primed_values(

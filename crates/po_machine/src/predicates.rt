@@ -7,6 +7,13 @@ ghost use Rattle.po_rules.specs.Rows.{for_every_of, for_some_of, naturals};
 use formula_core::{Binder, Boxed, Formula, List, Name, Op, OutOfMemory, Ty};
 use std::alloc::Global;
 
+/// An answer with which a formula is no longer needed: the one place that drops it, as each such place is long to prove.
+pub(crate) fn instead_of<T>(_unneeded: Formula, answer: T) -> T
+    ensures { result ≡ answer }
+{
+    answer
+}
+
 pub(crate) fn is_top(formula: &Formula) -> bool
     ensures { result ≡ is_top formula.now }
 {
@@ -41,9 +48,7 @@ pub fn of_two(
 ) -> Result<Formula, OutOfMemory>
     ensures { IfOk result (λ f. f ≡ predicate op (first ∷ second ∷ [])) }
 {
-    let mut parts = Vec::new(alloc);
-    parts.push(first)?;
-    parts.push(second)?;
+    let parts = vec![in alloc; first, second]?;
     Ok(Formula::Node(op, List::of(parts), Ty::Truth))
 }
 
@@ -52,10 +57,10 @@ pub(crate) fn conjoined(alloc: Global, p: Formula, q: Formula) -> Result<Formula
     ensures { IfOk result (λ f. f ≡ conjoined p q) }
 {
     if is_top(&p) {
-        return Ok(q);
+        return Ok(instead_of(p, q));
     }
     if is_top(&q) {
-        return Ok(p);
+        return Ok(instead_of(q, p));
     }
     of_two(alloc, Op::And, p, q)
 }
@@ -91,8 +96,9 @@ pub fn for_some_of(
 ) -> Result<Formula, OutOfMemory>
     ensures { IfOk result (λ f. f ≡ for_some_of identifiers.now predicate.now) }
 {
+    let types = types_of(alloc, identifiers)?;
     let body = predicate.bind_free(alloc, identifiers)?;
-    quantified(alloc, Binder::Exists, types_of(alloc, identifiers)?, body)
+    quantified(alloc, Binder::Exists, types, body)
 }
 
 /// `∀x·P`, or ⊤ where P is.
@@ -100,7 +106,7 @@ fn for_every(alloc: Global, types: List<Ty>, body: Formula) -> Result<Formula, O
     ensures { IfOk result (λ f. f ≡ for_every types body) }
 {
     if is_top(&body) {
-        return Ok(top(alloc));
+        return Ok(instead_of(body, top(alloc)));
     }
     quantified(alloc, Binder::ForAll, types, body)
 }
@@ -113,8 +119,9 @@ pub(crate) fn for_every_of(
 ) -> Result<Formula, OutOfMemory>
     ensures { IfOk result (λ f. f ≡ for_every_of identifiers.now predicate.now) }
 {
+    let types = types_of(alloc, identifiers)?;
     let body = predicate.bind_free(alloc, identifiers)?;
-    for_every(alloc, types_of(alloc, identifiers)?, body)
+    for_every(alloc, types, body)
 }
 
 /// `S ≠ ∅`
@@ -123,8 +130,9 @@ pub(crate) fn not_empty(alloc: Global, set: &Formula) -> Result<Formula, OutOfMe
 {
     let integer = Ty::Int;
     let ty = set.type_of(&integer).copy(alloc)?;
+    let set = set.copy(alloc)?;
     let empty = Formula::Node(Op::EmptySet, List::of(Vec::new(alloc)), ty);
-    let equal = of_two(alloc, Op::Equal, set.copy(alloc)?, empty)?;
+    let equal = of_two(alloc, Op::Equal, set, empty)?;
     of_one(alloc, Op::Not, equal)
 }
 
@@ -132,7 +140,9 @@ pub(crate) fn not_empty(alloc: Global, set: &Formula) -> Result<Formula, OutOfMe
 pub(crate) fn natural(alloc: Global, number: &Formula) -> Result<Formula, OutOfMemory>
     ensures { IfOk result (λ f. f ≡ member number.now naturals) }
 {
-    let ty = Ty::Pow(Boxed::new(alloc, Ty::Int)?);
+    let integers = Boxed::new(alloc, Ty::Int)?;
+    let number = number.copy(alloc)?;
+    let ty = Ty::Pow(integers);
     let naturals = Formula::Node(Op::Naturals, List::of(Vec::new(alloc)), ty);
-    of_two(alloc, Op::Member, number.copy(alloc)?, naturals)
+    of_two(alloc, Op::Member, number, naturals)
 }

@@ -19,7 +19,7 @@ use crate::gathered::Gathered;
 use crate::hypotheses::machine_hypotheses;
 use crate::needed::{add_one, add_whole_from_base, add_whole_from_choices, is_full, is_idle};
 use crate::parts::SharedParts;
-use crate::predicates::{natural, of_one, of_two};
+use crate::predicates::{instead_of, natural, of_one, of_two};
 use formula_core::{Formula, Op, OutOfMemory, PoName, Ty};
 use model_core::{CheckedEvent, CheckedMachine, Convergence};
 use std::alloc::Global;
@@ -44,10 +44,14 @@ fn add_of_machine(
     ensures { OnOk result (view out.new ≡ gathered (view out.old) (needed (slash machine.now.name kind.now) machine.now.env (machine_hyps machine.now) goal)) }
 {
     if is_idle(out, &goal) {
-        return Ok(());
+        return instead_of(goal, Ok(()));
     }
-    let name = PoName::of_component(alloc, &machine.name, kind)?;
-    let hyps = machine_hypotheses(alloc, machine)?;
+    let Ok(name) = PoName::of_component(alloc, &machine.name, kind) else {
+        return instead_of(goal, Err(OutOfMemory));
+    };
+    let Ok(hyps) = machine_hypotheses(alloc, machine) else {
+        return instead_of(goal, Err(OutOfMemory));
+    };
     add_one(alloc, out, name, &machine.env, &hyps, goal)
 }
 
@@ -168,7 +172,10 @@ fn decrease(
     ensures { IfOk result (λ f. f ≡ decrease (is_integer (type_of before.now)) convergent after before.now) }
 {
     let op = relation(is_integer(before), convergent);
-    of_two(alloc, op, after, before.copy(alloc)?)
+    let Ok(before) = before.copy(alloc) else {
+        return instead_of(after, Err(OutOfMemory));
+    };
+    of_two(alloc, op, after, before)
 }
 
 /// Adds that a variant which is an integer is natural.

@@ -5,6 +5,7 @@ ghost use Rattle.formula_core.specs.Wellness.{type_of};
 ghost use Rattle.rule_table.specs.Rows.{adds, cases, cut};
 ghost use Rattle.rule_table.specs.Shapes.{negation};
 
+use crate::closing::instead_of;
 use formula_core::{Formula, List, OutOfMemory, Ty};
 use rule_table::{
     Antecedent, Body, adds_one, condition_first, forward, negation, proves, two_after,
@@ -27,9 +28,14 @@ pub fn cut(alloc: Global, p: &Formula) -> Result<Option<Body>, OutOfMemory>
     if !is_predicate(p) {
         return Ok(None);
     }
-    let condition = wd(alloc, p)?;
-    let proved = proves(alloc, p.copy(alloc)?);
     let added = adds_one(alloc, p.copy(alloc)?)?;
+    let Ok(again) = p.copy(alloc) else {
+        return instead_of(added, Err(OutOfMemory));
+    };
+    let proved = proves(alloc, again);
+    let Ok(condition) = wd(alloc, p) else {
+        return instead_of(added, instead_of(proved, Err(OutOfMemory)));
+    };
     let left = two_after(alloc, condition, proved, added)?;
     Ok(Some(forward(List::of(Vec::new(alloc)), left)))
 }

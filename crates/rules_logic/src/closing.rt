@@ -27,6 +27,28 @@ pub fn top(alloc: Global) -> Result<Option<Body>, OutOfMemory>
     }))
 }
 
+/// An answer with which something is no longer needed: what drops it is here alone, as each such place is long to prove.
+pub(crate) fn instead_of<T: Drop, A>(_unneeded: T, answer: A) -> A
+    ensures { result ≡ answer }
+{
+    answer
+}
+
+/// Copies of two formulas.
+pub(crate) fn two_copies(
+    alloc: Global,
+    p: &Formula,
+    q: &Formula,
+) -> Result<List<Formula>, OutOfMemory>
+    ensures { IfOk result (λ parts. parts ≡ p.now ∷ q.now ∷ []) }
+{
+    let p = p.copy(alloc)?;
+    let Ok(q) = q.copy(alloc) else {
+        return instead_of(p, Err(OutOfMemory));
+    };
+    Ok(two(alloc, p, q)?)
+}
+
 /// `⊥`
 pub(crate) fn bottom(alloc: Global) -> Formula
     ensures { result ≡ bottom }
@@ -47,7 +69,10 @@ pub fn contr(alloc: Global, p: &Formula) -> Result<Option<Body>, OutOfMemory>
     ensures row { IfOk result (λ o. o ≡ contr p.now) }
 {
     let denied = negation(alloc, p.copy(alloc)?)?;
-    let hyps = two(alloc, p.copy(alloc)?, denied)?;
+    let Ok(p) = p.copy(alloc) else {
+        return instead_of(denied, Err(OutOfMemory));
+    };
+    let hyps = two(alloc, p, denied)?;
     Ok(Some(forward(hyps, none_left(alloc))))
 }
 

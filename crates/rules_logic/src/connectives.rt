@@ -2,7 +2,7 @@
 ghost use Rattle.std.specs.Prelude.{◌≡◌, IfOk};
 ghost use Rattle.rule_table.specs.Rows.{and_l, and_r, contra, iff_l, iff_r, imp_l, imp_r, mp, not_l, not_r, or_l, or_r};
 
-use crate::closing::bottom;
+use crate::closing::{bottom, instead_of, two_copies};
 use formula_core::{Formula, Op, OutOfMemory};
 use rule_table::{
     Body, adds, adds_one, assumes, backward, forward, forward_one, negation, one_left, operand,
@@ -18,7 +18,10 @@ pub fn and_r(alloc: Global, g: &Formula) -> Result<Option<Body>, OutOfMemory>
         return Ok(None);
     };
     let first = proves(alloc, p.copy(alloc)?);
-    let second = proves(alloc, q.copy(alloc)?);
+    let Ok(q) = q.copy(alloc) else {
+        return instead_of(first, Err(OutOfMemory));
+    };
+    let second = proves(alloc, q);
     let left = two_left(alloc, first, second)?;
     Ok(Some(backward(alloc, g, left)?))
 }
@@ -30,7 +33,7 @@ pub fn and_l(alloc: Global, h: &Formula) -> Result<Option<Body>, OutOfMemory>
     let Some((p, q)) = two_operands(Op::And, h) else {
         return Ok(None);
     };
-    let added = adds(alloc, two(alloc, p.copy(alloc)?, q.copy(alloc)?)?);
+    let added = adds(alloc, two_copies(alloc, p, q)?);
     let left = one_left(alloc, added)?;
     Ok(Some(forward_one(alloc, h, left)?))
 }
@@ -43,7 +46,10 @@ pub fn or_r(alloc: Global, g: &Formula) -> Result<Option<Body>, OutOfMemory>
         return Ok(None);
     };
     let denied = negation(alloc, p.copy(alloc)?)?;
-    let assumed = assumes(alloc, denied, q.copy(alloc)?)?;
+    let Ok(q) = q.copy(alloc) else {
+        return instead_of(denied, Err(OutOfMemory));
+    };
+    let assumed = assumes(alloc, denied, q)?;
     let left = one_left(alloc, assumed)?;
     Ok(Some(backward(alloc, g, left)?))
 }
@@ -56,7 +62,12 @@ pub fn or_l(alloc: Global, h: &Formula) -> Result<Option<Body>, OutOfMemory>
         return Ok(None);
     };
     let first = adds_one(alloc, p.copy(alloc)?)?;
-    let second = adds_one(alloc, q.copy(alloc)?)?;
+    let Ok(q) = q.copy(alloc) else {
+        return instead_of(first, Err(OutOfMemory));
+    };
+    let Ok(second) = adds_one(alloc, q) else {
+        return instead_of(first, Err(OutOfMemory));
+    };
     let left = two_left(alloc, first, second)?;
     Ok(Some(forward_one(alloc, h, left)?))
 }
@@ -68,7 +79,11 @@ pub fn imp_r(alloc: Global, g: &Formula) -> Result<Option<Body>, OutOfMemory>
     let Some((p, q)) = two_operands(Op::Implies, g) else {
         return Ok(None);
     };
-    let assumed = assumes(alloc, p.copy(alloc)?, q.copy(alloc)?)?;
+    let p = p.copy(alloc)?;
+    let Ok(q) = q.copy(alloc) else {
+        return instead_of(p, Err(OutOfMemory));
+    };
+    let assumed = assumes(alloc, p, q)?;
     let left = one_left(alloc, assumed)?;
     Ok(Some(backward(alloc, g, left)?))
 }
@@ -81,7 +96,12 @@ pub fn imp_l(alloc: Global, h: &Formula) -> Result<Option<Body>, OutOfMemory>
         return Ok(None);
     };
     let first = proves(alloc, p.copy(alloc)?);
-    let second = adds_one(alloc, q.copy(alloc)?)?;
+    let Ok(q) = q.copy(alloc) else {
+        return instead_of(first, Err(OutOfMemory));
+    };
+    let Ok(second) = adds_one(alloc, q) else {
+        return instead_of(first, Err(OutOfMemory));
+    };
     let left = two_left(alloc, first, second)?;
     Ok(Some(forward_one(alloc, h, left)?))
 }
@@ -95,7 +115,7 @@ pub fn mp(alloc: Global, h: &Formula) -> Result<Option<Body>, OutOfMemory>
     };
     let added = adds_one(alloc, q.copy(alloc)?)?;
     let left = one_left(alloc, added)?;
-    let hyps = two(alloc, h.copy(alloc)?, p.copy(alloc)?)?;
+    let hyps = two_copies(alloc, h, p)?;
     Ok(Some(forward(hyps, left)))
 }
 
@@ -107,7 +127,10 @@ pub fn iff_r(alloc: Global, g: &Formula) -> Result<Option<Body>, OutOfMemory>
         return Ok(None);
     };
     let there = proves(alloc, predicate(alloc, Op::Implies, p, q)?);
-    let back = proves(alloc, predicate(alloc, Op::Implies, q, p)?);
+    let Ok(back) = predicate(alloc, Op::Implies, q, p) else {
+        return instead_of(there, Err(OutOfMemory));
+    };
+    let back = proves(alloc, back);
     let left = two_left(alloc, there, back)?;
     Ok(Some(backward(alloc, g, left)?))
 }
@@ -120,7 +143,9 @@ pub fn iff_l(alloc: Global, h: &Formula) -> Result<Option<Body>, OutOfMemory>
         return Ok(None);
     };
     let there = predicate(alloc, Op::Implies, p, q)?;
-    let back = predicate(alloc, Op::Implies, q, p)?;
+    let Ok(back) = predicate(alloc, Op::Implies, q, p) else {
+        return instead_of(there, Err(OutOfMemory));
+    };
     let added = adds(alloc, two(alloc, there, back)?);
     let left = one_left(alloc, added)?;
     Ok(Some(forward_one(alloc, h, left)?))

@@ -4,6 +4,7 @@ ghost use Rattle.rule_table.specs.LogicLaws.{bool_is_false, bool_is_true, double
 ghost use Rattle.rule_table.specs.LogicLaws.{negated_and, negated_equivalent, negated_exists, negated_for_all};
 ghost use Rattle.rule_table.specs.LogicLaws.{negated_implies, negated_or};
 
+use crate::closing::instead_of;
 use formula_core::{Binder, Formula, Op, OutOfMemory, copy_types};
 use rule_table::{
     binary, negation, one_bound, operand, operands, predicate, quantified, two_operands,
@@ -34,7 +35,12 @@ pub fn negated_and(alloc: Global, f: &Formula) -> Result<Option<Formula>, OutOfM
         return Ok(None);
     };
     let left = negation(alloc, p.copy(alloc)?)?;
-    let right = negation(alloc, q.copy(alloc)?)?;
+    let Ok(q) = q.copy(alloc) else {
+        return instead_of(left, Err(OutOfMemory));
+    };
+    let Ok(right) = negation(alloc, q) else {
+        return instead_of(left, Err(OutOfMemory));
+    };
     Ok(Some(binary(alloc, Op::Or, left, right)?))
 }
 
@@ -49,7 +55,12 @@ pub fn negated_or(alloc: Global, f: &Formula) -> Result<Option<Formula>, OutOfMe
         return Ok(None);
     };
     let left = negation(alloc, p.copy(alloc)?)?;
-    let right = negation(alloc, q.copy(alloc)?)?;
+    let Ok(q) = q.copy(alloc) else {
+        return instead_of(left, Err(OutOfMemory));
+    };
+    let Ok(right) = negation(alloc, q) else {
+        return instead_of(left, Err(OutOfMemory));
+    };
     Ok(Some(binary(alloc, Op::And, left, right)?))
 }
 
@@ -64,7 +75,10 @@ pub fn negated_implies(alloc: Global, f: &Formula) -> Result<Option<Formula>, Ou
         return Ok(None);
     };
     let right = negation(alloc, q.copy(alloc)?)?;
-    Ok(Some(binary(alloc, Op::And, p.copy(alloc)?, right)?))
+    let Ok(p) = p.copy(alloc) else {
+        return instead_of(right, Err(OutOfMemory));
+    };
+    Ok(Some(binary(alloc, Op::And, p, right)?))
 }
 
 /// A negated equivalence, `¬(P ⇔ Q)`: `P ⇔ ¬Q`.
@@ -78,7 +92,10 @@ pub fn negated_equivalent(alloc: Global, f: &Formula) -> Result<Option<Formula>,
         return Ok(None);
     };
     let right = negation(alloc, q.copy(alloc)?)?;
-    Ok(Some(binary(alloc, Op::Equivalent, p.copy(alloc)?, right)?))
+    let Ok(p) = p.copy(alloc) else {
+        return instead_of(right, Err(OutOfMemory));
+    };
+    Ok(Some(binary(alloc, Op::Equivalent, p, right)?))
 }
 
 /// A negated universal quantifier, `¬(∀x·P)`: `∃x·¬P`.
@@ -92,7 +109,9 @@ pub fn negated_for_all(alloc: Global, f: &Formula) -> Result<Option<Formula>, Ou
         return Ok(None);
     };
     let body = negation(alloc, p.copy(alloc)?)?;
-    let types = copy_types(alloc, types)?;
+    let Ok(types) = copy_types(alloc, types) else {
+        return instead_of(body, Err(OutOfMemory));
+    };
     Ok(Some(quantified(alloc, Binder::Exists, types, body)?))
 }
 
@@ -107,7 +126,9 @@ pub fn negated_exists(alloc: Global, f: &Formula) -> Result<Option<Formula>, Out
         return Ok(None);
     };
     let body = negation(alloc, p.copy(alloc)?)?;
-    let types = copy_types(alloc, types)?;
+    let Ok(types) = copy_types(alloc, types) else {
+        return instead_of(body, Err(OutOfMemory));
+    };
     Ok(Some(quantified(alloc, Binder::ForAll, types, body)?))
 }
 

@@ -6,6 +6,7 @@ ghost use Rattle.rule_table.specs.Rows.{named, new_goal, new_hyp, all_r, ex_l, h
 ghost use Rattle.formula_core.specs.Types.{same_type};
 ghost use Rattle.formula_core.specs.Wellness.{type_of};
 
+use crate::closing::instead_of;
 use formula_core::{Binder, Formula, List, Name, OutOfMemory, Ty};
 use rule_table::{
     Antecedent, Body, adds_one, backward, forward_one, one, one_after, one_bound, one_left, proves,
@@ -155,7 +156,12 @@ pub fn all_l(alloc: Global, terms: &[Formula], h: &Formula) -> Result<Option<Bod
         return Ok(None);
     }
     let condition = wd_of_all(alloc, terms)?;
-    let added = adds_one(alloc, p.instantiate_any(alloc, terms)?)?;
+    let Ok(made) = p.instantiate_any(alloc, terms) else {
+        return instead_of(condition, Err(OutOfMemory));
+    };
+    let Ok(added) = adds_one(alloc, made) else {
+        return instead_of(condition, Err(OutOfMemory));
+    };
     let left = one_after(alloc, condition, added)?;
     Ok(Some(forward_one(alloc, h, left)?))
 }
@@ -171,7 +177,10 @@ pub fn ex_r(alloc: Global, terms: &[Formula], g: &Formula) -> Result<Option<Body
         return Ok(None);
     }
     let condition = wd_of_all(alloc, terms)?;
-    let proved = proves(alloc, p.instantiate_any(alloc, terms)?);
+    let Ok(made) = p.instantiate_any(alloc, terms) else {
+        return instead_of(condition, Err(OutOfMemory));
+    };
+    let proved = proves(alloc, made);
     let left = one_after(alloc, condition, proved)?;
     Ok(Some(backward(alloc, g, left)?))
 }

@@ -13,9 +13,9 @@ ghost use Rattle.rule_table.specs.Shapes.{converse, equal, maplet, product, rela
 ghost use Rattle.rules_sets.specs.Private.{in_and_back, in_and_onto, in_and_total};
 ghost use Rattle.well_defined.specs.Predicates.{conjunction, member};
 
-use crate::words::{maplet, relation_types};
+use crate::words::{instead_of, maplet, relation_types, two_copies};
 use formula_core::{Binder, Boxed, Formula, List, Op, OutOfMemory, Ty};
-use rule_table::{binary, one, quantified, two, two_operands};
+use rule_table::{binary, one, quantified, two_operands};
 use std::alloc::Global;
 
 /// `ℙ(α×β)`
@@ -38,8 +38,8 @@ fn relations(
 ) -> Result<Formula, OutOfMemory>
     ensures { IfOk result (λ f. f ≡ relations arrow s.now t.now from.now to.now) }
 {
+    let parts = two_copies(alloc, s, t)?;
     let ty = Ty::Pow(Boxed::new(alloc, relation_type(alloc, from, to)?)?);
-    let parts = two(alloc, s.copy(alloc)?, t.copy(alloc)?)?;
     Ok(Formula::Node(arrow, parts, ty))
 }
 
@@ -56,7 +56,10 @@ fn is_in(
     ensures { IfOk result (λ f. f ≡ is_in arrow r.now s.now t.now from.now to.now) }
 {
     let set = relations(alloc, arrow, s, t, from, to)?;
-    binary(alloc, Op::Member, r.copy(alloc)?, set)
+    let Ok(r) = r.copy(alloc) else {
+        return instead_of(set, Err(OutOfMemory));
+    };
+    binary(alloc, Op::Member, r, set)
 }
 
 /// `dom(r) = S`
@@ -65,12 +68,11 @@ fn is_total(alloc: Global, r: &Formula, s: &Formula, from: &Ty) -> Result<Formul
 {
     let parts = one(alloc, r.copy(alloc)?)?;
     let ty = Ty::Pow(Boxed::new(alloc, from.copy(alloc)?)?);
-    binary(
-        alloc,
-        Op::Equal,
-        Formula::Node(Op::Domain, parts, ty),
-        s.copy(alloc)?,
-    )
+    let set = Formula::Node(Op::Domain, parts, ty);
+    let Ok(s) = s.copy(alloc) else {
+        return instead_of(set, Err(OutOfMemory));
+    };
+    binary(alloc, Op::Equal, set, s)
 }
 
 /// `ran(r) = T`
@@ -79,20 +81,20 @@ fn is_onto(alloc: Global, r: &Formula, t: &Formula, to: &Ty) -> Result<Formula, 
 {
     let parts = one(alloc, r.copy(alloc)?)?;
     let ty = Ty::Pow(Boxed::new(alloc, to.copy(alloc)?)?);
-    binary(
-        alloc,
-        Op::Equal,
-        Formula::Node(Op::Range, parts, ty),
-        t.copy(alloc)?,
-    )
+    let set = Formula::Node(Op::Range, parts, ty);
+    let Ok(t) = t.copy(alloc) else {
+        return instead_of(set, Err(OutOfMemory));
+    };
+    binary(alloc, Op::Equal, set, t)
 }
 
 /// `r∼`, of a relation between these types.
 fn converse(alloc: Global, r: &Formula, from: &Ty, to: &Ty) -> Result<Formula, OutOfMemory>
     ensures { IfOk result (λ f. f ≡ converse r.now from.now to.now) }
 {
+    let parts = one(alloc, r.copy(alloc)?)?;
     let ty = relation_type(alloc, to, from)?;
-    Ok(Formula::Node(Op::Converse, one(alloc, r.copy(alloc)?)?, ty))
+    Ok(Formula::Node(Op::Converse, parts, ty))
 }
 
 /// `r∼ ∈ T ⇸ S`
@@ -107,7 +109,8 @@ fn goes_back(
     ensures { IfOk result (λ f. f ≡ goes_back r.now s.now t.now from.now to.now) }
 {
     let back = converse(alloc, r, from, to)?;
-    is_in(alloc, Op::PartialFunctions, &back, t, s, to, from)
+    let made = is_in(alloc, Op::PartialFunctions, &back, t, s, to, from);
+    instead_of(back, made)
 }
 
 /// A relation, `r ∈ S ↔ T`: `r ⊆ S × T`.
@@ -124,7 +127,10 @@ pub fn member_of_relations(alloc: Global, f: &Formula) -> Result<Option<Formula>
         return Ok(None);
     };
     let whole = product(alloc, s, t, from, to)?;
-    Ok(Some(binary(alloc, Op::Subset, r.copy(alloc)?, whole)?))
+    let Ok(r) = r.copy(alloc) else {
+        return instead_of(whole, Err(OutOfMemory));
+    };
+    Ok(Some(binary(alloc, Op::Subset, r, whole)?))
 }
 
 /// `S × T`, of sets of these types.
@@ -137,8 +143,8 @@ fn product(
 ) -> Result<Formula, OutOfMemory>
     ensures { IfOk result (λ f. f ≡ product s.now t.now from.now to.now) }
 {
+    let parts = two_copies(alloc, s, t)?;
     let ty = relation_type(alloc, from, to)?;
-    let parts = two(alloc, s.copy(alloc)?, t.copy(alloc)?)?;
     Ok(Formula::Node(Op::Product, parts, ty))
 }
 
@@ -161,7 +167,9 @@ fn in_and_total(
         return Ok(None);
     };
     let left = is_in(alloc, within, r, s, t, from, to)?;
-    let right = is_total(alloc, r, s, from)?;
+    let Ok(right) = is_total(alloc, r, s, from) else {
+        return instead_of(left, Err(OutOfMemory));
+    };
     Ok(Some(binary(alloc, Op::And, left, right)?))
 }
 
@@ -184,7 +192,9 @@ fn in_and_onto(
         return Ok(None);
     };
     let left = is_in(alloc, within, r, s, t, from, to)?;
-    let right = is_onto(alloc, r, t, to)?;
+    let Ok(right) = is_onto(alloc, r, t, to) else {
+        return instead_of(left, Err(OutOfMemory));
+    };
     Ok(Some(binary(alloc, Op::And, left, right)?))
 }
 
@@ -207,7 +217,9 @@ fn in_and_back(
         return Ok(None);
     };
     let left = is_in(alloc, within, r, s, t, from, to)?;
-    let right = goes_back(alloc, r, s, t, from, to)?;
+    let Ok(right) = goes_back(alloc, r, s, t, from, to) else {
+        return instead_of(left, Err(OutOfMemory));
+    };
     Ok(Some(binary(alloc, Op::And, left, right)?))
 }
 
@@ -240,7 +252,9 @@ fn is_total_relation(
     ensures { IfOk result (λ f. f ≡ conjunction (is_in Op.Relations r.now s.now t.now from.now to.now) (is_total r.now s.now from.now)) }
 {
     let left = is_in(alloc, Op::Relations, r, s, t, from, to)?;
-    let right = is_total(alloc, r, s, from)?;
+    let Ok(right) = is_total(alloc, r, s, from) else {
+        return instead_of(left, Err(OutOfMemory));
+    };
     binary(alloc, Op::And, left, right)
 }
 
@@ -261,7 +275,9 @@ pub fn member_of_total_surjective_relations(
         return Ok(None);
     };
     let left = is_total_relation(alloc, r, s, t, from, to)?;
-    let right = is_onto(alloc, r, t, to)?;
+    let Ok(right) = is_onto(alloc, r, t, to) else {
+        return instead_of(left, Err(OutOfMemory));
+    };
     Ok(Some(binary(alloc, Op::And, left, right)?))
 }
 
@@ -281,8 +297,10 @@ fn are_equal(alloc: Global, to: &Ty) -> Result<Formula, OutOfMemory>
     ensures { IfOk result (λ f. f ≡ equal (Formula.Bound 1 to.now) (Formula.Bound 0 to.now)) }
 {
     let y = Formula::Bound(1, to.copy(alloc)?);
-    let z = Formula::Bound(0, to.copy(alloc)?);
-    binary(alloc, Op::Equal, y, z)
+    let Ok(to) = to.copy(alloc) else {
+        return instead_of(y, Err(OutOfMemory));
+    };
+    binary(alloc, Op::Equal, y, Formula::Bound(0, to))
 }
 
 /// `x ↦ y` below them, where the second has this index.
@@ -290,8 +308,10 @@ fn pair_at(alloc: Global, from: &Ty, to: &Ty, at: u32) -> Result<Formula, OutOfM
     ensures { IfOk result (λ f. f ≡ maplet (Formula.Bound 2 from.now) (Formula.Bound at to.now)) }
 {
     let x = Formula::Bound(2, from.copy(alloc)?);
-    let y = Formula::Bound(at, to.copy(alloc)?);
-    maplet(alloc, x, y)
+    let Ok(to) = to.copy(alloc) else {
+        return instead_of(x, Err(OutOfMemory));
+    };
+    maplet(alloc, x, Formula::Bound(at, to))
 }
 
 /// `x ↦ y ∈ r` below them.
@@ -305,7 +325,10 @@ fn pair_at_in(
     ensures { IfOk result (λ f. f ≡ member (maplet (Formula.Bound 2 from.now) (Formula.Bound at to.now)) (shifted 3 0 r.now)) }
 {
     let pair = pair_at(alloc, from, to, at)?;
-    binary(alloc, Op::Member, pair, r.shift(alloc, 3, 0)?)
+    let Ok(r) = r.shift(alloc, 3, 0) else {
+        return instead_of(pair, Err(OutOfMemory));
+    };
+    binary(alloc, Op::Member, pair, r)
 }
 
 /// `x ↦ y ∈ r ∧ x ↦ z ∈ r` below them.
@@ -313,7 +336,9 @@ fn lead_to_both(alloc: Global, r: &Formula, from: &Ty, to: &Ty) -> Result<Formul
     ensures { IfOk result (λ f. f ≡ conjunction (member (maplet (Formula.Bound 2 from.now) (Formula.Bound 1 to.now)) (shifted 3 0 r.now)) (member (maplet (Formula.Bound 2 from.now) (Formula.Bound 0 to.now)) (shifted 3 0 r.now))) }
 {
     let first = pair_at_in(alloc, from, to, 1, r)?;
-    let second = pair_at_in(alloc, from, to, 0, r)?;
+    let Ok(second) = pair_at_in(alloc, from, to, 0, r) else {
+        return instead_of(first, Err(OutOfMemory));
+    };
     binary(alloc, Op::And, first, second)
 }
 
@@ -322,8 +347,14 @@ fn is_functional(alloc: Global, r: &Formula, from: &Ty, to: &Ty) -> Result<Formu
     ensures { IfOk result (λ f. f ≡ is_functional r.now from.now to.now) }
 {
     let both = lead_to_both(alloc, r, from, to)?;
-    let body = binary(alloc, Op::Implies, both, are_equal(alloc, to)?)?;
-    quantified(alloc, Binder::ForAll, three(alloc, from, to)?, body)
+    let Ok(equal) = are_equal(alloc, to) else {
+        return instead_of(both, Err(OutOfMemory));
+    };
+    let body = binary(alloc, Op::Implies, both, equal)?;
+    let Ok(types) = three(alloc, from, to) else {
+        return instead_of(body, Err(OutOfMemory));
+    };
+    quantified(alloc, Binder::ForAll, types, body)
 }
 
 /// A partial function, `r ∈ S ⇸ T`: `r ∈ S ↔ T ∧ (∀x,y,z·x ↦ y ∈ r ∧ x ↦ z ∈ r ⇒ y = z)`.
@@ -343,7 +374,9 @@ pub fn member_of_partial_functions(
         return Ok(None);
     };
     let left = is_in(alloc, Op::Relations, r, s, t, from, to)?;
-    let right = is_functional(alloc, r, from, to)?;
+    let Ok(right) = is_functional(alloc, r, from, to) else {
+        return instead_of(left, Err(OutOfMemory));
+    };
     Ok(Some(binary(alloc, Op::And, left, right)?))
 }
 

@@ -7,10 +7,11 @@ ghost use Rattle.rule_table.specs.Shapes.{equal, false_value, true_value};
 ghost use Rattle.formula_core.specs.declared.Formula.{Formula};
 
 use crate::replace::replaced;
+use crate::words::two_copies;
 use formula_core::{Formula, List, Op, OutOfMemory, Ty};
 use rule_table::{
     Antecedent, Body, adds_one, binary, condition_first, forward, none_left, one, one_left,
-    predicate, proves, two, two_operands,
+    predicate, proves, two_operands,
 };
 use std::alloc::Global;
 use well_defined::wd;
@@ -38,9 +39,11 @@ pub(crate) fn both_of(
 ) -> Result<Body, OutOfMemory>
     ensures { IfOk result (λ b. b ≡ both goal.now (hyp.now ∷ []) left) }
 {
+    let hyps = one(alloc, hyp.copy(alloc)?)?;
+    let goal = goal.copy(alloc)?;
     Ok(Body {
-        goal: Some(goal.copy(alloc)?),
-        hyps: one(alloc, hyp.copy(alloc)?)?,
+        goal: Some(goal),
+        hyps,
         antecedents: left,
     })
 }
@@ -66,7 +69,7 @@ pub fn eq_hyp(alloc: Global, h: &Formula, k: &Formula) -> Result<Option<Body>, O
     };
     let new = replaced(alloc, e, f, k)?;
     let left = one_left(alloc, adds_one(alloc, new)?)?;
-    let hyps = two(alloc, h.copy(alloc)?, k.copy(alloc)?)?;
+    let hyps = two_copies(alloc, h, k)?;
     Ok(Some(forward(hyps, left)))
 }
 

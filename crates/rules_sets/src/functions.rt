@@ -11,7 +11,7 @@ ghost use Rattle.well_defined.specs.Predicates.{at_most, member, zero};
 use crate::equality::both_of;
 use crate::over::replaced_over;
 use crate::sets::finite;
-use crate::words::{in_domain, member_type, relation_types};
+use crate::words::{in_domain, instead_of, member_type, relation_types, two_copies};
 use formula_core::{Formula, List, Op, OutOfMemory, Ty};
 use rule_table::{
     Antecedent, Body, adds_one, binary, condition_first, forward, forward_one, one, one_left,
@@ -83,7 +83,7 @@ fn function_in(h: &Formula) -> Option<(&Formula, &Formula)>
 fn applied(alloc: Global, f: &Formula, e: &Formula, ty: &Ty) -> Result<Formula, OutOfMemory>
     ensures { IfOk result (λ g. g ≡ applied f.now e.now ty.now) }
 {
-    let parts = two(alloc, f.copy(alloc)?, e.copy(alloc)?)?;
+    let parts = two_copies(alloc, f, e)?;
     Ok(Formula::Node(Op::Apply, parts, ty.copy(alloc)?))
 }
 
@@ -98,7 +98,10 @@ fn value_in(
     ensures { IfOk result (λ g. g ≡ member (applied f.now e.now ty.now) t.now) }
 {
     let value = applied(alloc, f, e, ty)?;
-    binary(alloc, Op::Member, value, t.copy(alloc)?)
+    let Ok(t) = t.copy(alloc) else {
+        return instead_of(value, Err(OutOfMemory));
+    };
+    binary(alloc, Op::Member, value, t)
 }
 
 /// Whether a term has this type.
@@ -146,9 +149,16 @@ pub fn fun_eq(alloc: Global, h: &Formula, k: &Formula) -> Result<Option<Body>, O
         return Ok(None);
     };
     let value = applied(alloc, f, e, to)?;
-    let added = adds_one(alloc, binary(alloc, Op::Equal, value, v.copy(alloc)?)?)?;
+    let Ok(v) = v.copy(alloc) else {
+        return instead_of(value, Err(OutOfMemory));
+    };
+    let added = adds_one(alloc, binary(alloc, Op::Equal, value, v)?)?;
     let left = one_left(alloc, added)?;
-    let hyps = two(alloc, predicate(alloc, Op::Member, p, f)?, k.copy(alloc)?)?;
+    let pair = predicate(alloc, Op::Member, p, f)?;
+    let Ok(k) = k.copy(alloc) else {
+        return instead_of(pair, Err(OutOfMemory));
+    };
+    let hyps = two(alloc, pair, k)?;
     Ok(Some(forward(hyps, left)))
 }
 

@@ -7,8 +7,9 @@ ghost use Rattle.rule_table.specs.Rewriting.{replaced_over, without_override};
 ghost use Rattle.rule_table.specs.Shapes.{applied};
 
 use crate::replace::{add_binder, add_copy, add_node};
+use crate::words::two_copies;
 use formula_core::{Formula, List, Op, OutOfMemory, Ty};
-use rule_table::{operand, two, two_operands};
+use rule_table::{operand, two_operands};
 use std::alloc::Global;
 
 /// The formula with `f(z)` in the place of each outermost `(f <+ {x ↦ y})(z)`.
@@ -102,8 +103,8 @@ fn add_applied(
     ensures { OnOk result (out.new.items ≡ out.old.items ++ applied f.now z.now (type_of of.now) ∷ []) }
 {
     let integer = Ty::Int;
+    let parts = two_copies(alloc, f, z)?;
     let ty = of.type_of(&integer).copy(alloc)?;
-    let parts = two(alloc, f.copy(alloc)?, z.copy(alloc)?)?;
     out.push(Formula::Node(Op::Apply, parts, ty))?;
     Ok(())
 }

@@ -13,7 +13,9 @@ ghost use Rattle.rule_table.specs.SetLaws.{overridden_at};
 ghost use Rattle.rule_table.specs.Shapes.{negation};
 ghost use Rattle.well_defined.specs.Predicates.{conjunction, domain, member};
 
-use crate::words::{denied, in_domain, leads_from, leads_to, new_member, pair_in, relation_types};
+use crate::words::{
+    denied, in_domain, instead_of, leads_from, leads_to, new_member, pair_in, relation_types,
+};
 use formula_core::{Binder, Formula, Op, OutOfMemory, Ty};
 use rule_table::{binary, negation, operand, operands, predicate, quantified_one, two_operands};
 use std::alloc::Global;
@@ -32,7 +34,9 @@ pub fn member_of_product(alloc: Global, f: &Formula) -> Result<Option<Formula>, 
         return Ok(None);
     };
     let left = predicate(alloc, Op::Member, e, s)?;
-    let right = predicate(alloc, Op::Member, v, t)?;
+    let Ok(right) = predicate(alloc, Op::Member, v, t) else {
+        return instead_of(left, Err(OutOfMemory));
+    };
     Ok(Some(binary(alloc, Op::And, left, right)?))
 }
 
@@ -50,7 +54,10 @@ pub fn member_of_domain(alloc: Global, f: &Formula) -> Result<Option<Formula>, O
         return Ok(None);
     };
     let body = leads_from(alloc, e, to, r)?;
-    Ok(Some(quantified_one(alloc, Binder::Exists, to.copy(alloc)?, body)?))
+    let Ok(to) = to.copy(alloc) else {
+        return instead_of(body, Err(OutOfMemory));
+    };
+    Ok(Some(quantified_one(alloc, Binder::Exists, to, body)?))
 }
 
 /// A member of a range, `E ∈ ran(r)`: `∃x·x ↦ E ∈ r`.
@@ -67,7 +74,10 @@ pub fn member_of_range(alloc: Global, f: &Formula) -> Result<Option<Formula>, Ou
         return Ok(None);
     };
     let body = leads_to(alloc, from, e, r)?;
-    Ok(Some(quantified_one(alloc, Binder::Exists, from.copy(alloc)?, body)?))
+    let Ok(from) = from.copy(alloc) else {
+        return instead_of(body, Err(OutOfMemory));
+    };
+    Ok(Some(quantified_one(alloc, Binder::Exists, from, body)?))
 }
 
 /// A pair in a converse, `E ↦ F ∈ r∼`: `F ↦ E ∈ r`.
@@ -103,7 +113,9 @@ pub fn member_of_domain_restriction(
         return Ok(None);
     };
     let left = predicate(alloc, Op::Member, e, s)?;
-    let right = predicate(alloc, Op::Member, p, r)?;
+    let Ok(right) = predicate(alloc, Op::Member, p, r) else {
+        return instead_of(left, Err(OutOfMemory));
+    };
     Ok(Some(binary(alloc, Op::And, left, right)?))
 }
 
@@ -124,7 +136,9 @@ pub fn member_of_domain_subtraction(
         return Ok(None);
     };
     let left = denied(alloc, Op::Member, e, s)?;
-    let right = predicate(alloc, Op::Member, p, r)?;
+    let Ok(right) = predicate(alloc, Op::Member, p, r) else {
+        return instead_of(left, Err(OutOfMemory));
+    };
     Ok(Some(binary(alloc, Op::And, left, right)?))
 }
 
@@ -145,7 +159,9 @@ pub fn member_of_range_restriction(
         return Ok(None);
     };
     let left = predicate(alloc, Op::Member, p, r)?;
-    let right = predicate(alloc, Op::Member, v, s)?;
+    let Ok(right) = predicate(alloc, Op::Member, v, s) else {
+        return instead_of(left, Err(OutOfMemory));
+    };
     Ok(Some(binary(alloc, Op::And, left, right)?))
 }
 
@@ -166,7 +182,9 @@ pub fn member_of_range_subtraction(
         return Ok(None);
     };
     let left = predicate(alloc, Op::Member, p, r)?;
-    let right = denied(alloc, Op::Member, v, s)?;
+    let Ok(right) = denied(alloc, Op::Member, v, s) else {
+        return instead_of(left, Err(OutOfMemory));
+    };
     Ok(Some(binary(alloc, Op::And, left, right)?))
 }
 
@@ -182,7 +200,9 @@ fn kept(
 {
     let integer = Ty::Int;
     let inside = predicate(alloc, Op::Member, p, r)?;
-    let elsewhere = negation(alloc, in_domain(alloc, e, s, e.type_of(&integer))?)?;
+    let Ok(elsewhere) = negation(alloc, in_domain(alloc, e, s, e.type_of(&integer))?) else {
+        return instead_of(inside, Err(OutOfMemory));
+    };
     binary(alloc, Op::And, inside, elsewhere)
 }
 
@@ -200,7 +220,9 @@ pub fn member_of_overriding(alloc: Global, f: &Formula) -> Result<Option<Formula
         return Ok(None);
     };
     let new = predicate(alloc, Op::Member, p, s)?;
-    let old = kept(alloc, p, r, e, s)?;
+    let Ok(old) = kept(alloc, p, r, e, s) else {
+        return instead_of(new, Err(OutOfMemory));
+    };
     Ok(Some(binary(alloc, Op::Or, new, old)?))
 }
 
@@ -218,9 +240,14 @@ pub fn member_of_image(alloc: Global, f: &Formula) -> Result<Option<Formula>, Ou
         return Ok(None);
     };
     let inside = new_member(alloc, from, s)?;
-    let related = leads_to(alloc, from, v, r)?;
+    let Ok(related) = leads_to(alloc, from, v, r) else {
+        return instead_of(inside, Err(OutOfMemory));
+    };
     let body = binary(alloc, Op::And, inside, related)?;
-    Ok(Some(quantified_one(alloc, Binder::Exists, from.copy(alloc)?, body)?))
+    let Ok(from) = from.copy(alloc) else {
+        return instead_of(body, Err(OutOfMemory));
+    };
+    Ok(Some(quantified_one(alloc, Binder::Exists, from, body)?))
 }
 
 /// A pair in a composition, `E ↦ F ∈ p ; q`: `∃z·E ↦ z ∈ p ∧ z ↦ F ∈ q`.
@@ -240,9 +267,14 @@ pub fn member_of_composition(alloc: Global, f: &Formula) -> Result<Option<Formul
         return Ok(None);
     };
     let first = leads_from(alloc, e, to, p)?;
-    let second = leads_to(alloc, to, v, q)?;
+    let Ok(second) = leads_to(alloc, to, v, q) else {
+        return instead_of(first, Err(OutOfMemory));
+    };
     let body = binary(alloc, Op::And, first, second)?;
-    Ok(Some(quantified_one(alloc, Binder::Exists, to.copy(alloc)?, body)?))
+    let Ok(to) = to.copy(alloc) else {
+        return instead_of(body, Err(OutOfMemory));
+    };
+    Ok(Some(quantified_one(alloc, Binder::Exists, to, body)?))
 }
 
 /// A pair in a direct product, `E ↦ (F ↦ G) ∈ p ⊗ q`: `E ↦ F ∈ p ∧ E ↦ G ∈ q`.
@@ -262,7 +294,9 @@ pub fn member_of_direct_product(alloc: Global, f: &Formula) -> Result<Option<For
         return Ok(None);
     };
     let left = pair_in(alloc, e, v, p)?;
-    let right = pair_in(alloc, e, w, q)?;
+    let Ok(right) = pair_in(alloc, e, w, q) else {
+        return instead_of(left, Err(OutOfMemory));
+    };
     Ok(Some(binary(alloc, Op::And, left, right)?))
 }
 
@@ -289,7 +323,9 @@ pub fn member_of_parallel_product(
         return Ok(None);
     };
     let left = pair_in(alloc, e, g, p)?;
-    let right = pair_in(alloc, v, w, q)?;
+    let Ok(right) = pair_in(alloc, v, w, q) else {
+        return instead_of(left, Err(OutOfMemory));
+    };
     Ok(Some(binary(alloc, Op::And, left, right)?))
 }
 
@@ -367,7 +403,9 @@ pub fn equal_pairs(alloc: Global, f: &Formula) -> Result<Option<Formula>, OutOfM
         return Ok(None);
     };
     let left = predicate(alloc, Op::Equal, e, g)?;
-    let right = predicate(alloc, Op::Equal, v, w)?;
+    let Ok(right) = predicate(alloc, Op::Equal, v, w) else {
+        return instead_of(left, Err(OutOfMemory));
+    };
     Ok(Some(binary(alloc, Op::And, left, right)?))
 }
 

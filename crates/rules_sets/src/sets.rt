@@ -11,7 +11,7 @@ ghost use Rattle.rule_table.specs.Shapes.{empty, equal, negation};
 ghost use Rattle.rules_sets.specs.Private.{in_both};
 ghost use Rattle.well_defined.specs.Predicates.{finite};
 
-use crate::words::{bottom, denied, member_type, new_member};
+use crate::words::{bottom, denied, instead_of, member_type, new_member};
 use formula_core::{Binder, Formula, List, Op, OutOfMemory, Ty};
 use rule_table::{
     binary, negation, one, operand, operands, predicate, quantified_one, top, two_operands,
@@ -34,7 +34,9 @@ fn in_both(
         return Ok(None);
     };
     let left = predicate(alloc, Op::Member, e, s)?;
-    let right = predicate(alloc, Op::Member, e, t)?;
+    let Ok(right) = predicate(alloc, Op::Member, e, t) else {
+        return instead_of(left, Err(OutOfMemory));
+    };
     Ok(Some(binary(alloc, connective, left, right)?))
 }
 
@@ -63,7 +65,9 @@ pub fn member_of_difference(alloc: Global, f: &Formula) -> Result<Option<Formula
         return Ok(None);
     };
     let left = predicate(alloc, Op::Member, e, s)?;
-    let right = denied(alloc, Op::Member, e, t)?;
+    let Ok(right) = denied(alloc, Op::Member, e, t) else {
+        return instead_of(left, Err(OutOfMemory));
+    };
     Ok(Some(binary(alloc, Op::And, left, right)?))
 }
 
@@ -106,7 +110,9 @@ fn or_equal_to(
 {
     let mut any = first;
     for member in rest {
-        let equal = predicate(alloc, Op::Equal, e, member)?;
+        let Ok(equal) = predicate(alloc, Op::Equal, e, member) else {
+            return instead_of(any, Err(OutOfMemory));
+        };
         any = binary(alloc, Op::Or, any, equal)?;
     }
     Ok(any)
@@ -136,9 +142,14 @@ pub fn inclusion(alloc: Global, f: &Formula) -> Result<Option<Formula>, OutOfMem
         return Ok(None);
     };
     let inside = new_member(alloc, ty, s)?;
-    let also = new_member(alloc, ty, t)?;
+    let Ok(also) = new_member(alloc, ty, t) else {
+        return instead_of(inside, Err(OutOfMemory));
+    };
     let body = binary(alloc, Op::Implies, inside, also)?;
-    Ok(Some(quantified_one(alloc, Binder::ForAll, ty.copy(alloc)?, body)?))
+    let Ok(ty) = ty.copy(alloc) else {
+        return instead_of(body, Err(OutOfMemory));
+    };
+    Ok(Some(quantified_one(alloc, Binder::ForAll, ty, body)?))
 }
 
 /// Proper inclusion, `S ⊂ T`: `S ⊆ T ∧ ¬ S = T`.
@@ -149,7 +160,9 @@ pub fn proper_inclusion(alloc: Global, f: &Formula) -> Result<Option<Formula>, O
         return Ok(None);
     };
     let left = predicate(alloc, Op::Subset, s, t)?;
-    let right = denied(alloc, Op::Equal, s, t)?;
+    let Ok(right) = denied(alloc, Op::Equal, s, t) else {
+        return instead_of(left, Err(OutOfMemory));
+    };
     Ok(Some(binary(alloc, Op::And, left, right)?))
 }
 
@@ -164,7 +177,9 @@ pub fn equal_sets(alloc: Global, f: &Formula) -> Result<Option<Formula>, OutOfMe
         return Ok(None);
     };
     let left = predicate(alloc, Op::Subset, s, t)?;
-    let right = predicate(alloc, Op::Subset, t, s)?;
+    let Ok(right) = predicate(alloc, Op::Subset, t, s) else {
+        return instead_of(left, Err(OutOfMemory));
+    };
     Ok(Some(binary(alloc, Op::And, left, right)?))
 }
 
@@ -182,7 +197,10 @@ pub fn equal_to_empty(alloc: Global, f: &Formula) -> Result<Option<Formula>, Out
         return Ok(None);
     };
     let body = negation(alloc, new_member(alloc, ty, s)?)?;
-    Ok(Some(quantified_one(alloc, Binder::ForAll, ty.copy(alloc)?, body)?))
+    let Ok(ty) = ty.copy(alloc) else {
+        return instead_of(body, Err(OutOfMemory));
+    };
+    Ok(Some(quantified_one(alloc, Binder::ForAll, ty, body)?))
 }
 
 /// A set of members of S, `E ∈ ℙ(S)`: `E ⊆ S`.
@@ -205,7 +223,10 @@ fn is_not_empty(alloc: Global, e: &Formula) -> Result<Formula, OutOfMemory>
     let integer = Ty::Int;
     let ty = e.type_of(&integer).copy(alloc)?;
     let empty = Formula::Node(Op::EmptySet, List::of(Vec::new(alloc)), ty);
-    negation(alloc, binary(alloc, Op::Equal, e.copy(alloc)?, empty)?)
+    let Ok(e) = e.copy(alloc) else {
+        return instead_of(empty, Err(OutOfMemory));
+    };
+    negation(alloc, binary(alloc, Op::Equal, e, empty)?)
 }
 
 /// A set of members of S that has some, `E ∈ ℙ1(S)`: `E ⊆ S ∧ ¬ E = ∅`.
@@ -222,7 +243,9 @@ pub fn member_of_non_empty_power_set(
         return Ok(None);
     };
     let left = predicate(alloc, Op::Subset, e, s)?;
-    let right = is_not_empty(alloc, e)?;
+    let Ok(right) = is_not_empty(alloc, e) else {
+        return instead_of(left, Err(OutOfMemory));
+    };
     Ok(Some(binary(alloc, Op::And, left, right)?))
 }
 
@@ -235,7 +258,8 @@ pub fn member_of_whole(alloc: Global, f: &Formula) -> Result<Option<Formula>, Ou
     };
     let integer = Ty::Int;
     let whole = e.type_of(&integer).whole_set(alloc)?;
-    if !t.same(&whole) {
+    let same = t.same(&whole);
+    if !instead_of(whole, same) {
         return Ok(None);
     }
     Ok(Some(top(alloc)))
@@ -285,7 +309,9 @@ pub fn finite_union(alloc: Global, f: &Formula) -> Result<Option<Formula>, OutOf
         return Ok(None);
     };
     let left = finite(alloc, s)?;
-    let right = finite(alloc, t)?;
+    let Ok(right) = finite(alloc, t) else {
+        return instead_of(left, Err(OutOfMemory));
+    };
     Ok(Some(binary(alloc, Op::And, left, right)?))
 }
 

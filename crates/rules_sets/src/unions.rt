@@ -6,7 +6,7 @@ ghost use Rattle.rule_table.specs.SetLaws.{member_of_quantified_union, new};
 ghost use Rattle.rules_sets.specs.Private.{over_bound, over_members};
 ghost use Rattle.well_defined.specs.Predicates.{member};
 
-use crate::words::{below, below_all, member_type, new_member};
+use crate::words::{below, below_all, instead_of, member_type, new_member};
 use formula_core::{Binder, Formula, Op, OutOfMemory, Ty, copy_types};
 use rule_table::{binary, operand, quantified, quantified_one, two_bound, two_operands};
 use std::alloc::Global;
@@ -16,7 +16,10 @@ fn in_new(alloc: Global, e: &Formula, ty: &Ty) -> Result<Formula, OutOfMemory>
     ensures { IfOk result (λ f. f ≡ member (below e.now) (new ty.now)) }
 {
     let s = Formula::Bound(0, ty.copy(alloc)?);
-    binary(alloc, Op::Member, below(alloc, e)?, s)
+    let Ok(e) = below(alloc, e) else {
+        return instead_of(s, Err(OutOfMemory));
+    };
+    binary(alloc, Op::Member, e, s)
 }
 
 /// `E ∈ S`, where S is this operator on U: a quantifier over s, with `s ∈ U` and `E ∈ s` connected.
@@ -39,9 +42,14 @@ fn over_members(
         return Ok(None);
     };
     let one_of_them = new_member(alloc, ty, u)?;
-    let inside = in_new(alloc, e, ty)?;
+    let Ok(inside) = in_new(alloc, e, ty) else {
+        return instead_of(one_of_them, Err(OutOfMemory));
+    };
     let body = binary(alloc, connective, one_of_them, inside)?;
-    Ok(Some(quantified_one(alloc, quantifier, ty.copy(alloc)?, body)?))
+    let Ok(ty) = ty.copy(alloc) else {
+        return instead_of(body, Err(OutOfMemory));
+    };
+    Ok(Some(quantified_one(alloc, quantifier, ty, body)?))
 }
 
 /// A member of a general union, `E ∈ union(U)`: `∃s·s ∈ U ∧ E ∈ s`.
@@ -85,9 +93,17 @@ fn over_bound(
         return Ok(None);
     };
     let inner = below_all(alloc, types, e)?;
-    let related = binary(alloc, r, inner, g.copy(alloc)?)?;
-    let body = binary(alloc, connective, p.copy(alloc)?, related)?;
-    let types = copy_types(alloc, types)?;
+    let Ok(g) = g.copy(alloc) else {
+        return instead_of(inner, Err(OutOfMemory));
+    };
+    let related = binary(alloc, r, inner, g)?;
+    let Ok(p) = p.copy(alloc) else {
+        return instead_of(related, Err(OutOfMemory));
+    };
+    let body = binary(alloc, connective, p, related)?;
+    let Ok(types) = copy_types(alloc, types) else {
+        return instead_of(body, Err(OutOfMemory));
+    };
     Ok(Some(quantified(alloc, quantifier, types, body)?))
 }
 

@@ -37,6 +37,28 @@ pub(crate) fn relation_types(f: &Formula) -> Option<(&Ty, &Ty)>
     }
 }
 
+/// An answer with which a formula is no longer needed: the one place that drops it, as each such place is long to prove.
+pub(crate) fn instead_of<T>(_unneeded: Formula, answer: T) -> T
+    ensures { result ≡ answer }
+{
+    answer
+}
+
+/// Copies of two formulas.
+pub(crate) fn two_copies(
+    alloc: Global,
+    e: &Formula,
+    f: &Formula,
+) -> Result<List<Formula>, OutOfMemory>
+    ensures { IfOk result (λ parts. parts ≡ e.now ∷ f.now ∷ []) }
+{
+    let e = e.copy(alloc)?;
+    let Ok(f) = f.copy(alloc) else {
+        return instead_of(e, Err(OutOfMemory));
+    };
+    Ok(two(alloc, e, f)?)
+}
+
 /// `⊥`
 pub(crate) fn bottom(alloc: Global) -> Formula
     ensures { result ≡ bottom }
@@ -70,7 +92,9 @@ fn pair_type(alloc: Global, e: &Formula, f: &Formula) -> Result<Ty, OutOfMemory>
 pub(crate) fn maplet(alloc: Global, e: Formula, f: Formula) -> Result<Formula, OutOfMemory>
     ensures { IfOk result (λ g. g ≡ maplet e f) }
 {
-    let ty = pair_type(alloc, &e, &f)?;
+    let Ok(ty) = pair_type(alloc, &e, &f) else {
+        return instead_of(e, instead_of(f, Err(OutOfMemory)));
+    };
     Ok(Formula::Node(Op::Maplet, two(alloc, e, f)?, ty))
 }
 
@@ -83,8 +107,15 @@ pub(crate) fn pair_in(
 ) -> Result<Formula, OutOfMemory>
     ensures { IfOk result (λ g. g ≡ member (maplet e.now f.now) r.now) }
 {
-    let pair = maplet(alloc, e.copy(alloc)?, f.copy(alloc)?)?;
-    binary(alloc, Op::Member, pair, r.copy(alloc)?)
+    let e = e.copy(alloc)?;
+    let Ok(f) = f.copy(alloc) else {
+        return instead_of(e, Err(OutOfMemory));
+    };
+    let pair = maplet(alloc, e, f)?;
+    let Ok(r) = r.copy(alloc) else {
+        return instead_of(pair, Err(OutOfMemory));
+    };
+    binary(alloc, Op::Member, pair, r)
 }
 
 /// `E ∈ dom(f)`, where the arguments of f have this type.
@@ -98,12 +129,11 @@ pub(crate) fn in_domain(
 {
     let parts = one(alloc, f.copy(alloc)?)?;
     let ty = Ty::Pow(Boxed::new(alloc, from.copy(alloc)?)?);
-    binary(
-        alloc,
-        Op::Member,
-        e.copy(alloc)?,
-        Formula::Node(Op::Domain, parts, ty),
-    )
+    let domain = Formula::Node(Op::Domain, parts, ty);
+    let Ok(e) = e.copy(alloc) else {
+        return instead_of(domain, Err(OutOfMemory));
+    };
+    binary(alloc, Op::Member, e, domain)
 }
 
 /// A formula below one more bound identifier.
@@ -128,7 +158,10 @@ pub(crate) fn new_member(alloc: Global, ty: &Ty, s: &Formula) -> Result<Formula,
     ensures { IfOk result (λ f. f ≡ member (new ty.now) (below s.now)) }
 {
     let x = Formula::Bound(0, ty.copy(alloc)?);
-    binary(alloc, Op::Member, x, below(alloc, s)?)
+    let Ok(s) = below(alloc, s) else {
+        return instead_of(x, Err(OutOfMemory));
+    };
+    binary(alloc, Op::Member, x, s)
 }
 
 /// `x ↦ E ∈ r` for the new identifier x of a type.
@@ -141,8 +174,14 @@ pub(crate) fn leads_to(
     ensures { IfOk result (λ f. f ≡ member (maplet (new ty.now) (below e.now)) (below r.now)) }
 {
     let x = Formula::Bound(0, ty.copy(alloc)?);
-    let pair = maplet(alloc, x, below(alloc, e)?)?;
-    binary(alloc, Op::Member, pair, below(alloc, r)?)
+    let Ok(e) = below(alloc, e) else {
+        return instead_of(x, Err(OutOfMemory));
+    };
+    let pair = maplet(alloc, x, e)?;
+    let Ok(r) = below(alloc, r) else {
+        return instead_of(pair, Err(OutOfMemory));
+    };
+    binary(alloc, Op::Member, pair, r)
 }
 
 /// `E ↦ y ∈ r` for the new identifier y of a type.
@@ -155,6 +194,12 @@ pub(crate) fn leads_from(
     ensures { IfOk result (λ f. f ≡ member (maplet (below e.now) (new ty.now)) (below r.now)) }
 {
     let y = Formula::Bound(0, ty.copy(alloc)?);
-    let pair = maplet(alloc, below(alloc, e)?, y)?;
-    binary(alloc, Op::Member, pair, below(alloc, r)?)
+    let Ok(e) = below(alloc, e) else {
+        return instead_of(y, Err(OutOfMemory));
+    };
+    let pair = maplet(alloc, e, y)?;
+    let Ok(r) = below(alloc, r) else {
+        return instead_of(pair, Err(OutOfMemory));
+    };
+    binary(alloc, Op::Member, pair, r)
 }

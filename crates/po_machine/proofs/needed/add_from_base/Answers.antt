@@ -5,4 +5,4 @@ use Rattle.po_machine.proofs.Gathering.{idle}
 use Rattle.po_machine.proofs.needed.add_from_base.Goals as goal
 
 pub returns-then-is_idle : goal.returns-then-is_idle
-returns-then-is_idle c = idle (is_top c.args.goal) (view c.args.out.now) _ (sym c.is_idle.ensures ∙ c.if-is_idle.true)
+returns-then-is_idle c = rw c.instead_of.ensures (idle (is_top c.args.goal) (view c.args.out.now) _ (sym c.is_idle.ensures ∙ c.if-is_idle.true))
