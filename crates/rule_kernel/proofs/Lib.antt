@@ -1,5 +1,5 @@
 pub mod Appended
 pub mod Distinct
+pub mod Grown
 pub mod InOrder
-pub mod Nodes
 pub mod SoundParts

@@ -1,12 +1,11 @@
 -- What only private contracts cite.
-use Rattle.std.specs.Prelude.{◌≡◌, ◌≤◌, ℕ, ◌-◌, ◌^◌, min, map, Bool, not, is_some, List}
+use Rattle.std.specs.Prelude.{◌≡◌, ◌≤◌, ℕ, Bool, not, is_some, List}
 use Rattle.std.specs.List.{AllByRecursion}
 use Rattle.std.specs.Option.{option_to_list}
 use Rattle.formula_core.specs.declared.Ty.{Ty}
 use Rattle.formula_core.specs.declared.Ty.TheVariants.{Truth}
-use Rattle.formula_core.specs.declared.Formula.{Formula}
 use Rattle.formula_core.specs.Env.{HasDistinctNames, type_in}
-use Rattle.formula_core.specs.Sizes.{formula_nodes, type_nodes}
+use Rattle.formula_core.specs.Sizes.{type_nodes}
 use Rattle.formula_core.specs.Wellness.{type_of}
 use Rattle.rule_table.specs.declared.rule.Antecedent.{Antecedent}
 use Rattle.rule_table.specs.declared.rule.Rule.{Rule}
@@ -41,11 +40,3 @@ pub record HasSoundParts (r : Rule) : Type 0 where
   pub predicates : AllByRecursion (λ f. type_of f ≡ Truth) (needed_formulas (body_of r))
   pub added : AllByRecursion AddsSmallTypes r.antecedents
   pub distinct : AllByRecursion (λ a. HasDistinctNames a.idents) r.antecedents
-
--- a number up to the greatest `u64`
-abbrev pub counted : ℕ → ℕ
-counted n = min n (2 ^ 64 - 1)
-
--- the nodes of each formula
-abbrev pub node_counts : List Formula → List ℕ
-node_counts terms = map (λ f. counted (formula_nodes f)) terms

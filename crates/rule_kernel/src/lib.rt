@@ -1,7 +1,6 @@
 //! Whether a rule is one of the table.
 #![tactic(auto)]
 
-mod bounds;
 mod instances;
 mod laws;
 mod names;
@@ -9,11 +8,9 @@ mod parts;
 mod read;
 mod rewriting;
 mod same;
-mod sizes;
 mod sound;
 mod table;
 
-pub use bounds::is_surely_too_large;
 pub use instances::instance;
 pub use laws::right_side;
 pub use read::main_of;

@@ -1,6 +1,6 @@
 //! Whether a rule is one of the table.
-ghost use Rattle.std.specs.Prelude.{◌≡◌, ◌↔◌, IsTrue, IsSome, IfOk, IfSome};
-ghost use Rattle.rule_table.specs.Rows.{IsInstance};
+ghost use Rattle.std.specs.Prelude.{◌≡◌, ◌↔◌, IsTrue, IsSome, IfOk, IfSome, Some};
+ghost use Rattle.rule_table.specs.Rows.{IsInstance, instance};
 ghost use Rattle.rule_table.specs.Rules.{IsRule, IsSound, body_of, used_of};
 
 use crate::instances::instance;
@@ -9,7 +9,8 @@ use crate::read::main_of;
 use crate::same::same_body;
 use crate::sound::has_sound_parts;
 use formula_core::{List, Name, OutOfMemory, Ty, same_identifiers};
-use rule_table::Rule;
+use instance_size::{outgrows, room_of};
+use rule_table::{Main, Rule};
 use std::alloc::Global;
 
 /// Whether a rule is one of the table.
@@ -41,12 +42,32 @@ pub fn used_if_sound(alloc: Global, rule: &Rule) -> Result<Option<List<(Name, Ty
     Ok(Some(used_among(alloc, &names, rule)?))
 }
 
-/// Whether a rule is the instance of its kind for its main formulas.
+/// Whether a rule is the instance of its kind for its main formulas. An instance that would leave a larger formula than
+/// the rule does isn't built.
 pub fn is_instance(alloc: Global, rule: &Rule) -> Result<bool, OutOfMemory>
     ensures instance { IfOk result (λ is. IsTrue is ↔ IsInstance rule.now.kind (body_of rule.now)) }
 {
     let main = main_of(alloc, rule)?;
-    match instance(alloc, &rule.kind, &main)? {
+    is_instance_for(alloc, rule, &main)
+}
+
+/// Whether a rule is the instance of its kind for these main formulas.
+fn is_instance_for(alloc: Global, rule: &Rule, main: &Main) -> Result<bool, OutOfMemory>
+    ensures { IfOk result (λ is. IsTrue is ↔ (instance rule.now.kind main.now ≡ Some (body_of rule.now))) }
+{
+    let room = room_of(rule.antecedents.items());
+    let large = outgrows(alloc, &rule.kind, main, room)?;
+    if large {
+        return Ok(false);
+    }
+    is_built(alloc, rule, main)
+}
+
+/// As `is_instance_for`, by building the instance.
+fn is_built(alloc: Global, rule: &Rule, main: &Main) -> Result<bool, OutOfMemory>
+    ensures { IfOk result (λ is. IsTrue is ↔ (instance rule.now.kind main.now ≡ Some (body_of rule.now))) }
+{
+    match instance(alloc, &rule.kind, main)? {
         Some(body) => Ok(same_body(&body, rule)),
         None => Ok(false),
     }
