@@ -1,0 +1,33 @@
+//! A proof of at most so many rules, if the search finds one.
+ghost use Rattle.std.specs.Prelude.{◌≤◌, ◌↔◌, IsTrue, IfOk, IfSome};
+ghost use Rattle.sequent_core.specs.Trees.{Derives, rule_count};
+
+use crate::count::rule_count;
+use formula_core::OutOfMemory;
+pub use proof_search::Passes;
+use proof_search::searched;
+use proof_tree::derives;
+use sequent_core::{Sequent, Tree};
+use std::alloc::Global;
+use term_bank::Stop;
+
+/// A proof of the sequent that has at most `budget` rules, if the search finds one. It is counted and tested here.
+pub fn proof_within(
+    alloc: Global,
+    sequent: &Sequent,
+    budget: u32,
+    passes: Passes,
+) -> Result<Option<Tree>, OutOfMemory>
+    ensures rules { IfOk result (λ o. IfSome o (λ tree. rule_count tree ≤ budget)) }
+    ensures derives { IfOk result (λ o. IfSome o (λ tree. Derives tree sequent.now)) }
+{
+    let tree = match searched(alloc, sequent, budget, passes) {
+        Ok(Some(tree)) => tree,
+        Ok(None) | Err(Stop::Spent) => return Ok(None),
+        Err(Stop::NoMemory) => return Err(OutOfMemory),
+    };
+    if rule_count(&tree) > budget as u64 || !derives(&tree, alloc, sequent)? {
+        return Ok(None);
+    }
+    Ok(Some(tree))
+}

@@ -1,0 +1,655 @@
+//! Instances of universal hypotheses, found by matching, the best first.
+use formula_core::{Binder, Op};
+use search_facts::{Facts, Next, Plan, Trigger, Turn, Way, is_in};
+use search_steps::{Bank, Head, Id, Kind, NONE, Stop};
+use search_terms::{
+    Branch, Instance, Spread, assembled, filled, is_full, is_plain, matches, may_match, misses,
+    take_apart, unfilled,
+};
+
+/// The most candidates of one formula, and the most matches of one trigger.
+const MOST: usize = 100;
+
+const MOST_MATCHES: usize = 40;
+
+/// How many instances of one rank are used in a row.
+const MOST_AT_ONCE: u32 = 7;
+
+/// What is matched against: atoms and applications without bound identifiers.
+#[derive(Drop)]
+pub(crate) struct Ground {
+    pub atoms: Vec<Id>,
+    pub applications: Vec<Id>,
+}
+
+impl Ground {
+    /// What a trigger is matched against, by whether it is a term.
+    fn pool(&self, is_term: bool) -> &[Id] {
+        if is_term {
+            &self.applications
+        } else {
+            &self.atoms
+        }
+    }
+}
+
+fn ground_of(facts: &mut Facts, b: &Branch) -> Result<Ground, Stop> {
+    let mut ground = Ground {
+        atoms: Vec::new(facts.search.alloc()),
+        applications: Vec::new(facts.search.alloc()),
+    };
+    for i in 0..b.order.len() {
+        let h = b.at(i);
+        let f = if facts.search.bank.is(h, Op::Not) {
+            facts.search.bank.part(h, 0)
+        } else {
+            h
+        };
+        facts.search.look()?;
+        if b.is_live(h) {
+            facts.add_closed_applications(h, &mut ground.applications, 40)?;
+        }
+        if is_atom(facts, f) && (b.is_live(h) || facts.search.bank.is(f, Op::Member)) {
+            ground.atoms.push(f)?;
+        }
+        if b.is_live(h) && facts.search.bank.binds(h, Binder::ForAll) && !is_partner(facts, h) {
+            add_inner_atoms(facts, h, &mut ground.atoms)?;
+        }
+    }
+    Ok(ground)
+}
+
+/// Memberships of pairs inside a `∀`.
+fn add_inner_atoms(facts: &mut Facts, h: Id, out: &mut Vec<Id>) -> Result<(), Stop> {
+    let spread = take_apart(&mut facts.search.bank, h)?;
+    let triggers = facts.triggers(spread.body)?;
+    for trigger in &triggers {
+        let f = trigger.formula;
+        if facts.search.bank.is(f, Op::Member)
+            && facts
+                .search
+                .bank
+                .is(facts.search.bank.part(f, 0), Op::Maplet)
+            && facts.search.bank.is_closed(facts.search.bank.part(f, 1))
+            && !is_in(out, f)
+        {
+            out.push(f)?;
+        }
+    }
+    Ok(())
+}
+
+fn is_atom(facts: &Facts, f: Id) -> bool {
+    match facts.search.bank.operator(f) {
+        Some(op) => match op {
+            Op::Not | Op::And | Op::Or | Op::Implies | Op::Equivalent => false,
+            _ => true,
+        },
+        None => false,
+    }
+}
+
+/// `∀x·x ∈ S ⇒ (∃y·x ↦ y ∈ r)`, or with `y ↦ x`.
+pub fn is_partner(facts: &Facts, f: Id) -> bool {
+    let body = facts.search.bank.part(f, 0);
+    if !facts.search.bank.is(body, Op::Implies) || facts.search.bank.term(f).types.count != 1 {
+        return false;
+    }
+    let (left, right) = facts.search.bank.two(body);
+    let inner = facts.search.bank.part(right, 0);
+    is_index_in(facts, left)
+        && facts.search.bank.binds(right, Binder::Exists)
+        && facts.search.bank.is(inner, Op::Member)
+        && facts
+            .search
+            .bank
+            .is(facts.search.bank.part(inner, 0), Op::Maplet)
+        && facts
+            .search
+            .bank
+            .is_closed(facts.search.bank.part(inner, 1))
+}
+
+fn is_index(facts: &Facts, id: Id) -> bool {
+    match facts.search.bank.term(id).head {
+        Head::Bound(_) => true,
+        _ => false,
+    }
+}
+
+fn is_index_in(facts: &Facts, f: Id) -> bool {
+    facts.search.bank.is(f, Op::Member) && is_index(facts, facts.search.bank.part(f, 0))
+}
+
+/// Facts of functions, which are used forward alone: uniqueness, membership in a product, partners.
+fn is_structural(facts: &Facts, f: Id) -> bool {
+    if is_partner(facts, f) {
+        return true;
+    }
+    let body = facts.search.bank.part(f, 0);
+    if !facts.search.bank.is(body, Op::Implies) {
+        return false;
+    }
+    let (left, right) = facts.search.bank.two(body);
+    let count = facts.search.bank.term(f).types.count;
+    let is_unique = count == 3
+        && facts.search.bank.is(left, Op::And)
+        && facts.search.bank.is(right, Op::Equal);
+    let is_within = count == 1
+        && is_index_in(facts, left)
+        && facts.search.bank.is(right, Op::Member)
+        && facts
+            .search
+            .bank
+            .is(facts.search.bank.part(right, 1), Op::Product);
+    is_unique || is_within
+}
+
+/// A `∀` over a single literal that no law opens: an instance tells only its own literal.
+fn is_bare(facts: &mut Facts, f: Id) -> Result<bool, Stop> {
+    let mut body = facts.search.bank.part(f, 0);
+    if facts.search.bank.is(body, Op::Not) {
+        body = facts.search.bank.part(body, 0);
+    }
+    if !is_atom(facts, body) {
+        return Ok(false);
+    }
+    Ok(!is_plain(facts.law_for(body)?))
+}
+
+/// Whether a trigger's set is an identifier of the binder.
+fn is_loose_set(facts: &Facts, trigger: Trigger) -> bool {
+    let f = trigger.formula;
+    facts.search.bank.is(f, Op::Member) && is_index(facts, facts.search.bank.part(f, 1))
+}
+
+fn candidates(facts: &mut Facts, f: Id, ground: &Ground) -> Result<(Spread, Vec<Vec<Id>>), Stop> {
+    let spread = take_apart(&mut facts.search.bank, f)?;
+    let all = facts.triggers(spread.body)?;
+    let mut triggers = Vec::new(facts.search.alloc());
+    for trigger in &all {
+        if !is_loose_set(facts, *trigger) {
+            triggers.push(*trigger)?;
+        }
+    }
+    let mut found = Vec::new(facts.search.alloc());
+    let terms = unfilled(facts.search.alloc(), spread.count)?;
+    join(facts, &triggers, 0, &terms, ground, &mut found, 9)?;
+    if found.is_empty() && spread.count > 1 && spread.count <= 4 && triggers.len() <= 12 {
+        let back = reversed(facts, &triggers)?;
+        join(facts, &back, 0, &terms, ground, &mut found, 9)?;
+    }
+    Ok((spread, found))
+}
+
+fn reversed(facts: &Facts, triggers: &[Trigger]) -> Result<Vec<Trigger>, Stop> {
+    let mut back = Vec::new(facts.search.alloc());
+    for i in 0..triggers.len() {
+        back.push(triggers[triggers.len() - 1 - i])?;
+    }
+    Ok(back)
+}
+
+/// Goes on with the triggers from a place.
+#[cycle(join)]
+fn join(
+    facts: &mut Facts,
+    triggers: &[Trigger],
+    from: usize,
+    terms: &[Id],
+    ground: &Ground,
+    found: &mut Vec<Vec<Id>>,
+    levels: u32,
+) -> Result<(), Stop> {
+    if found.len() >= MOST || levels == 0 {
+        return Ok(());
+    }
+    if is_full(terms) {
+        let whole = Vec::from_slice(facts.search.alloc(), terms)?;
+        return add_once(found, whole);
+    }
+    if is_begun(terms) {
+        add_filled(facts, triggers, terms, found)?;
+    }
+    for i in from..triggers.len() {
+        let trigger = triggers[i];
+        if misses(
+            &facts.search.bank,
+            trigger.formula,
+            trigger.depth,
+            terms,
+            64,
+        ) {
+            join_matches(facts, triggers, i, terms, ground, found, levels - 1)?;
+        }
+    }
+    Ok(())
+}
+
+#[cycle(join)]
+fn join_matches(
+    facts: &mut Facts,
+    triggers: &[Trigger],
+    at: usize,
+    terms: &[Id],
+    ground: &Ground,
+    found: &mut Vec<Vec<Id>>,
+    levels: u32,
+) -> Result<(), Stop> {
+    if levels == 0 || at >= triggers.len() {
+        return Ok(());
+    }
+    let matches = matches_of(facts, triggers[at], terms, ground)?;
+    for more in &matches {
+        join(facts, triggers, at + 1, more, ground, found, levels - 1)?;
+    }
+    Ok(())
+}
+
+/// Terms with which a trigger is one of the ground formulas.
+fn matches_of(
+    facts: &mut Facts,
+    trigger: Trigger,
+    terms: &[Id],
+    ground: &Ground,
+) -> Result<Vec<Vec<Id>>, Stop> {
+    let mut found = Vec::new(facts.search.alloc());
+    let f = trigger.formula;
+    if trigger.depth == 0 {
+        let mut more = Vec::from_slice(facts.search.alloc(), terms)?;
+        if filled(&mut facts.search.bank, f, &mut more)? {
+            add_once(&mut found, more)?;
+        }
+    }
+    let is_term = !facts.is_predicate(f);
+    let pool = ground.pool(is_term);
+    facts.search.look_over(pool.len())?;
+    for other in pool {
+        if found.len() < MOST_MATCHES && may_match(&facts.search.bank, f, *other) {
+            facts.search.look()?;
+            add_match(facts, trigger, *other, terms, &mut found)?;
+            if facts.search.bank.is(f, Op::Equal) && facts.search.bank.is(*other, Op::Equal) {
+                let turned = facts.search.bank.turned(*other)?;
+                add_match(facts, trigger, turned, terms, &mut found)?;
+            }
+        }
+    }
+    Ok(found)
+}
+
+fn add_match(
+    facts: &Facts,
+    trigger: Trigger,
+    other: Id,
+    terms: &[Id],
+    found: &mut Vec<Vec<Id>>,
+) -> Result<(), Stop> {
+    let mut more = Vec::from_slice(facts.search.alloc(), terms)?;
+    if matches(
+        &facts.search.bank,
+        trigger.formula,
+        other,
+        trigger.depth,
+        &mut more,
+        32,
+    ) && more.as_slice() != terms
+    {
+        return add_once(found, more);
+    }
+    Ok(())
+}
+
+/// Whether an identifier has a term.
+fn is_begun(terms: &[Id]) -> bool {
+    for term in terms {
+        if *term != NONE {
+            return true;
+        }
+    }
+    false
+}
+
+/// Adds the terms with those that equations of the body give, if these are all.
+fn add_filled(
+    facts: &mut Facts,
+    triggers: &[Trigger],
+    terms: &[Id],
+    found: &mut Vec<Vec<Id>>,
+) -> Result<(), Stop> {
+    let mut full = Vec::from_slice(facts.search.alloc(), terms)?;
+    fill_all(facts, triggers, &mut full)?;
+    if is_full(&full) {
+        return add_once(found, full);
+    }
+    Ok(())
+}
+
+/// Fills identifiers by equations of the body.
+fn fill_all(facts: &mut Facts, triggers: &[Trigger], terms: &mut Vec<Id>) -> Result<(), Stop> {
+    for trigger in triggers {
+        if trigger.depth == 0 {
+            let _ = filled(&mut facts.search.bank, trigger.formula, terms)?;
+        }
+    }
+    Ok(())
+}
+
+/// The small terms of the branch for the one identifier of a `∀`, or for its two.
+fn small_terms(facts: &mut Facts, b: &Branch, f: Id) -> Result<Vec<Vec<Id>>, Stop> {
+    let mut found = Vec::new(facts.search.alloc());
+    let types = facts.search.bank.term(f).types;
+    if types.count == 0 || types.count > 2 {
+        return Ok(found);
+    }
+    let ty = facts.search.bank.at(types, 0);
+    let firsts = small_terms_of(facts, b, f, ty)?;
+    if types.count == 1 {
+        for first in &firsts {
+            let mut one = Vec::new(facts.search.alloc());
+            one.push(*first)?;
+            found.push(one)?;
+        }
+        return Ok(found);
+    }
+    let ty = facts.search.bank.at(types, 1);
+    let seconds = small_terms_of(facts, b, f, ty)?;
+    for first in &firsts {
+        for second in &seconds {
+            let mut two = Vec::new(facts.search.alloc());
+            two.push(*first)?;
+            two.push(*second)?;
+            found.push(two)?;
+        }
+    }
+    Ok(found)
+}
+
+/// The first five small terms of a type, those of the `∀` before those of the branch.
+fn small_terms_of(facts: &mut Facts, b: &Branch, f: Id, ty: Id) -> Result<Vec<Id>, Stop> {
+    let mut terms = Vec::new(facts.search.alloc());
+    facts.add_terms_of(f, ty, &mut terms, 40)?;
+    for i in 0..b.order.len() {
+        let h = b.at(i);
+        facts.search.look()?;
+        if b.is_live(h) && terms.len() < 24 {
+            facts.add_terms_of(h, ty, &mut terms, 40)?;
+        }
+    }
+    if terms.is_empty() {
+        add_plain_term(facts, ty, &mut terms)?;
+    }
+    for _ in 5..terms.len() {
+        let _ = terms.pop();
+    }
+    Ok(terms)
+}
+
+/// `TRUE` or 0, for a type of these.
+fn add_plain_term(facts: &mut Facts, ty: Id, out: &mut Vec<Id>) -> Result<(), Stop> {
+    if ty == Bank::BOOL {
+        out.push(facts.search.yes)?;
+    }
+    if ty == Bank::INT {
+        let zero = facts.search.bank.int(0)?;
+        out.push(zero)?;
+    }
+    Ok(())
+}
+
+/// The instances of a hypothesis that leave at most so many alternatives.
+fn add_instances(
+    facts: &mut Facts,
+    b: &Branch,
+    f: Id,
+    ground: &Ground,
+    most: u32,
+    out: &mut Vec<Instance>,
+) -> Result<(), Stop> {
+    let (spread, mut found) = candidates(facts, f, ground)?;
+    let is_split = spread.count == facts.search.bank.term(f).types.count;
+    if found.is_empty() && is_split {
+        found = small_terms(facts, b, f)?;
+    }
+    let is_bare = is_bare(facts, f)?;
+    for terms in &found {
+        let whole = assembled(&mut facts.search.bank, &spread.shapes, terms)?;
+        add_instance(facts, b, f, whole, most, is_bare, out)?;
+    }
+    Ok(())
+}
+
+fn add_instance(
+    facts: &mut Facts,
+    b: &Branch,
+    f: Id,
+    terms: Vec<Id>,
+    most: u32,
+    is_bare: bool,
+    out: &mut Vec<Instance>,
+) -> Result<(), Stop> {
+    let mut generation: u32 = 0;
+    let mut size: u32 = 0;
+    for term in &terms {
+        if !facts.search.bank.is_closed(*term) {
+            return Ok(());
+        }
+        generation = generation.max(facts.search.generation(*term));
+        size = size.saturating_add(facts.search.bank.size(*term));
+    }
+    if generation >= 4 || generation >= 2 && is_partner(facts, f) {
+        return Ok(());
+    }
+    let put = facts.put(f, &terms)?;
+    if b.note(put).done {
+        return Ok(());
+    }
+    let body = facts.normal(b, put)?;
+    if is_structural(facts, f) {
+        let condition = facts.search.bank.part(body, 0);
+        if facts.known(b, condition, 14)? != Some(true) {
+            return Ok(());
+        }
+    }
+    let Some(cost) = cost(facts, b, body, true, 24)? else {
+        return Ok(());
+    };
+    if cost > most || cost == 1 && is_bare && most == 1 {
+        return Ok(());
+    }
+    let far = if b.note(f).from_goal { 0 } else { 1 };
+    out.push(Instance {
+        of: f,
+        terms,
+        rank: (cost, far, facts.distance(body), size),
+    })?;
+    Ok(())
+}
+
+/// How many alternatives a formula leaves as a new hypothesis, or none where it tells nothing new.
+fn cost(
+    facts: &mut Facts,
+    b: &Branch,
+    f: Id,
+    holds: bool,
+    levels: u32,
+) -> Result<Option<u32>, Stop> {
+    if let Some(known) = facts.known(b, f, 14)? {
+        return Ok(if known != holds { Some(0) } else { None });
+    }
+    if levels == 0 {
+        return Ok(Some(1));
+    }
+    let (left, right) = facts.search.bank.two(f);
+    match facts.search.bank.operator(f) {
+        Some(Op::Not) => cost(facts, b, left, !holds, levels - 1),
+        Some(Op::And) => {
+            let first = cost(facts, b, left, holds, levels - 1)?;
+            let second = cost(facts, b, right, holds, levels - 1)?;
+            Ok(if holds {
+                least(first, second)
+            } else {
+                sum(first, second)
+            })
+        }
+        Some(Op::Or) => {
+            let first = cost(facts, b, left, holds, levels - 1)?;
+            let second = cost(facts, b, right, holds, levels - 1)?;
+            Ok(if holds {
+                sum(first, second)
+            } else {
+                least(first, second)
+            })
+        }
+        Some(Op::Implies) => {
+            let first = cost(facts, b, left, !holds, levels - 1)?;
+            let second = cost(facts, b, right, holds, levels - 1)?;
+            Ok(if holds {
+                sum(first, second)
+            } else {
+                least(first, second)
+            })
+        }
+        Some(_) => {
+            let law = facts.law_for(f)?;
+            if !is_plain(law) {
+                return Ok(Some(1));
+            }
+            let opened = facts.search.by_law(law, f)?;
+            if opened == NONE {
+                return Ok(Some(1));
+            }
+            cost(facts, b, opened, holds, levels - 1)
+        }
+        None => Ok(Some(1)),
+    }
+}
+
+/// The best instance that leaves at most so many alternatives. Others as good wait for the next turns.
+pub fn best_instance(facts: &mut Facts, b: &mut Branch, most: u32) -> Result<Next, Stop> {
+    for _ in 0..b.waiting.len() {
+        if let Some(waiting) = b.waiting.pop() {
+            if waiting.rank.0 <= most && is_still_good(facts, b, &waiting)? {
+                return use_instance(facts, b, &waiting);
+            }
+        }
+    }
+    let mut found: Vec<Instance> = Vec::new(facts.search.alloc());
+    let ground = ground_of(facts, b)?;
+    for i in 0..b.order.len() {
+        let f = b.at(i);
+        if b.is_live(f) && facts.search.bank.binds(f, Binder::ForAll) {
+            add_instances(facts, b, f, &ground, most, &mut found)?;
+        }
+    }
+    let Some(chosen) = take_best(&mut found) else {
+        return Ok(Next::Turn(Turn::Still));
+    };
+    for _ in 0..MOST_AT_ONCE {
+        let Some(next) = take_best(&mut found) else {
+            return use_instance(facts, b, &chosen);
+        };
+        if next.rank.0 == chosen.rank.0 && next.rank.1 == chosen.rank.1 {
+            b.waiting.insert(0, next)?;
+        }
+    }
+    use_instance(facts, b, &chosen)
+}
+
+/// Whether an instance that waited still tells something.
+fn is_still_good(facts: &mut Facts, b: &Branch, waiting: &Instance) -> Result<bool, Stop> {
+    if !b.is_live(waiting.of) {
+        return Ok(false);
+    }
+    let put = facts.put(waiting.of, &waiting.terms)?;
+    if b.note(put).done {
+        return Ok(false);
+    }
+    let body = facts.normal(b, put)?;
+    Ok(match cost(facts, b, body, true, 24)? {
+        Some(cost) => cost <= waiting.rank.0,
+        None => false,
+    })
+}
+
+fn use_instance(facts: &mut Facts, b: &mut Branch, best: &Instance) -> Result<Next, Stop> {
+    let put = facts.put(best.of, &best.terms)?;
+    let mut note = b.note(put);
+    note.done = true;
+    b.set(put, note)?;
+    let mut step = facts.on(Kind::AllL, best.of)?;
+    step.terms = facts.search.list(&best.terms)?;
+    let Some(step) = facts.search.made(step)? else {
+        return Ok(Next::Turn(Turn::Moved));
+    };
+    let ways = if facts.search.left_count(step) == 2 {
+        [Way::ASIDE, Way::Here, Way::Here]
+    } else {
+        [Way::Here, Way::Here, Way::Here]
+    };
+    Ok(Next::Plan(Plan {
+        step,
+        ways,
+        must: false,
+    }))
+}
+
+fn add_once(found: &mut Vec<Vec<Id>>, terms: Vec<Id>) -> Result<(), Stop> {
+    for other in found.iter() {
+        if other.as_slice() == terms.as_slice() {
+            return Ok(());
+        }
+    }
+    found.push(terms)?;
+    Ok(())
+}
+
+fn least(a: Option<u32>, b: Option<u32>) -> Option<u32> {
+    match (a, b) {
+        (Some(m), Some(n)) => Some(m.min(n)),
+        (Some(m), None) => Some(m),
+        (None, other) => other,
+    }
+}
+
+fn sum(a: Option<u32>, b: Option<u32>) -> Option<u32> {
+    match (a, b) {
+        (Some(m), Some(n)) => Some(m.saturating_add(n)),
+        _ => None,
+    }
+}
+
+/// Takes the best of these.
+fn take_best(found: &mut Vec<Instance>) -> Option<Instance> {
+    match best_of(found) {
+        Some(best) if best < found.len() => Some(found.swap_remove(best)),
+        _ => None,
+    }
+}
+
+/// The place of the best of these.
+fn best_of(found: &[Instance]) -> Option<usize> {
+    let mut best: Option<usize> = None;
+    for i in 0..found.len() {
+        let is_better = match best {
+            Some(other) => other < found.len() && is_before(found[i].rank, found[other].rank),
+            None => true,
+        };
+        if is_better {
+            best = Some(i);
+        }
+    }
+    best
+}
+
+fn is_before(a: (u32, u32, u32, u32), b: (u32, u32, u32, u32)) -> bool {
+    if a.0 != b.0 {
+        return a.0 < b.0;
+    }
+    if a.1 != b.1 {
+        return a.1 < b.1;
+    }
+    if a.2 != b.2 {
+        return a.2 < b.2;
+    }
+    a.3 < b.3
+}

@@ -1,0 +1,4 @@
+use Rattle.search_terms.proofs.apart.+add_leaves.Given as goal
+
+abbrev pub decreases-add_leaves : goal.decreases-add_leaves
+decreases-add_leaves l = l.levels
