@@ -5,12 +5,13 @@
 #![tactic(auto)]
 
 use outside::{MemorySink, MemorySource, NullDisk, OpenGate};
-use rodin_cli::{HypProver, run};
+use rodin_cli::run;
 use std::alloc::{AllocError, Global};
 use std::io;
 use std::io::{BufRead, BufReader};
 use std::sync::Wait;
 use std::thread::Threads;
+use strategy_core::AutoProver;
 
 /// The greatest number of bytes that the source gives at a time.
 const MOST: usize = 4_096;
@@ -40,7 +41,7 @@ fn answer<R: Threads + Wait + Sync>(
         &mut source,
         &mut sink,
         NullDisk::new(),
-        &HypProver::new(),
+        &AutoProver::new(400),
         &OpenGate,
     );
     let printed = match std::str::from_utf8(sink.taken()) {

@@ -1,10 +1,11 @@
 //! `rodin`: a static checker, proof obligation generator and proof manager for Event-B.
 #![tactic(auto)]
 
-use outside::{NullDisk, OpenGate, StreamSink, StreamSource};
-use rodin_cli::{HypProver, run};
+use outside::{FilePair, OpenGate, StreamSink, StreamSource};
+use rodin_cli::run;
 use std::process::ExitCode;
 use std::{env, io};
+use strategy_core::AutoProver;
 
 fn main(rt: HostRuntime) -> io::Result<ExitCode> {
     let mut words = Vec::new(rt.alloc());
@@ -19,8 +20,8 @@ fn main(rt: HostRuntime) -> io::Result<ExitCode> {
         &words,
         &mut input,
         &mut output,
-        NullDisk::new(),
-        &HypProver::new(),
+        FilePair::new(&rt),
+        &AutoProver::new(400),
         &OpenGate,
     );
     Ok(ExitCode::from(done.status))

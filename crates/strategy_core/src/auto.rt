@@ -1,4 +1,4 @@
-//! The automatic prover: short proofs.
+//! The automatic prover: short proofs, and else what the search finds.
 ghost use Rattle.std.specs.Prelude.{◌≡◌, ◌≤◌, ◌<◌, ◌^◌, ◌↔◌, IsSome, IfOk, IfSome};
 ghost use Rattle.sequent_core.specs.Members.{members_of};
 ghost use Rattle.sequent_core.specs.Provers.{AnswersWithin, IsGood};
@@ -6,10 +6,17 @@ ghost use Rattle.sequent_core.specs.Sequents.{IsSequent};
 ghost use Rattle.short_proofs.specs.Short.{IsShortIfFound, IsShortProof};
 ghost use Rattle.strategy_core.specs.Sure.{IsSure};
 
+use checked_search::{Passes, proof_within};
 use formula_core::OutOfMemory;
 use sequent_core::{Attempt, Prover, Sequent, Tree};
 use short_proofs::{proof_by_arithmetic, proof_by_logic};
 use std::alloc::Global;
+
+/// Every pass of the search.
+const ALL_PASSES: Passes = Passes {
+    unfolds: true,
+    reckons: true,
+};
 
 /// A prover of logic, sets and arithmetic, whose proofs have at most `budget` rules.
 #[derive(Debug, Clone, Copy)]
@@ -26,6 +33,19 @@ impl AutoProver {
         ensures budget { result.budget ≡ budget }
     {
         AutoProver { budget }
+    }
+
+    /// What the search finds for a sequent that isn't sure.
+    fn searched(&self, alloc: Global, sequent: &Sequent) -> Attempt
+        requires unsure { ¬ IsSure sequent.now }
+        ensures allowed { AnswersWithin self.now.budget (IsSure sequent.now) sequent.now result }
+        ensures few { members_of result < 2 ^ 32 }
+    {
+        match proof_within(alloc, sequent, self.budget, ALL_PASSES) {
+            Ok(Some(tree)) => Attempt::found(tree),
+            Ok(None) => Attempt::NoProof,
+            Err(_) => Attempt::NoMemory,
+        }
     }
 }
 
@@ -54,8 +74,8 @@ impl Prover for AutoProver {
         ensures short { IsSure sequent.now → IsShortIfFound result sequent.now }
     {
         match short_proof(alloc, sequent) {
-            Ok(Some(tree)) => Attempt::found(tree),
-            Ok(None) => Attempt::NoProof,
+            Ok(Some(short)) => Attempt::found(short),
+            Ok(None) => self.searched(alloc, sequent),
             Err(_) => Attempt::NoMemory,
         }
     }

@@ -1,0 +1,4 @@
+pub mod Alone
+pub mod Combining
+pub mod Grown
+pub mod NewNames
