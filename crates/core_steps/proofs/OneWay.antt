@@ -32,7 +32,7 @@ use Rattle.core_steps.specs.declared.events.Status.TheVariants.{Unattempted, Pen
 use Rattle.core_steps.specs.declared.events.Event.{Event}
 use Rattle.core_steps.specs.declared.events.Event.TheVariants.{Edit, Delete, Build, Step, Prune, Take, Finish, Purge, Ask}
 use Rattle.core_steps.specs.declared.events.Question.{Question}
-use Rattle.core_steps.specs.declared.events.Question.TheVariants.{Statuses as AskStatuses, Faults as AskFaults, Show, TreeOf, Idle as AskIdle}
+use Rattle.core_steps.specs.declared.events.Question.TheVariants.{Statuses as AskStatuses, Faults as AskFaults, Show, TreeOf, Digest as AskDigest, Idle as AskIdle}
 use Rattle.core_steps.specs.declared.events.Reply.{Reply}
 use Rattle.core_steps.specs.declared.events.Reply.TheVariants.{Built, TableFull, TreeFull, Now, Shown, NotOpen, NoTicket, Noted, NoMemory, Stored, Refused, Stale, Statuses, Faults}
 use Rattle.core_steps.specs.State.{State, entered}
@@ -339,6 +339,7 @@ module _ (laws : Laws) where
       u.4 ∙ (λ i. told s (Faults (faults i) (warnings i))) ∙ sym v.4
   tells s table (Show name path) x y u v = on_obligation s table name x y _ _ (λ q. shows_at s name path q x y) u v
   tells s table (TreeOf name) x y u v = on_obligation s table name x y _ _ (λ q. shows_tree s name q x y) u v
+  tells s table AskDigest x y u v = join _ u v
   tells s table AskIdle x y u v = where_one (join _) (join _) u v
 
   beside : (s : State) (table : List Obligation) (event : Event) (x y : Outcome) → IsOrderly s → ComesBeside s table event x → ComesBeside s table event y → x ≡ y

@@ -7,6 +7,8 @@ pub mod Private
 pub mod Proving
 pub mod Run
 pub mod State
+pub mod StateDigest
+pub mod StateEntries
 pub mod Status
 pub mod Step
 pub mod Table

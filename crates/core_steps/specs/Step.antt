@@ -7,15 +7,16 @@ use Rattle.proof_entries.specs.declared.Entry.{Entry}
 use Rattle.proof_entries.specs.declared.Origin.{Origin}
 use Rattle.core_steps.specs.declared.events.Status.{Status}
 use Rattle.core_steps.specs.declared.events.Question.{Question}
-use Rattle.core_steps.specs.declared.events.Question.TheVariants.{Statuses as AskStatuses, Faults as AskFaults, Show, TreeOf, Idle as AskIdle}
+use Rattle.core_steps.specs.declared.events.Question.TheVariants.{Statuses as AskStatuses, Faults as AskFaults, Show, TreeOf, Digest as AskDigest, Idle as AskIdle}
 use Rattle.core_steps.specs.declared.events.Event.{Event}
 use Rattle.core_steps.specs.declared.events.Event.TheVariants.{Edit, Delete, Build, Step, Prune, Take, Finish, Purge, Ask}
 use Rattle.core_steps.specs.declared.events.Reply.{Reply}
-use Rattle.core_steps.specs.declared.events.Reply.TheVariants.{Nothing, Taken, Statuses, Faults, Idle}
+use Rattle.core_steps.specs.declared.events.Reply.TheVariants.{Nothing, Taken, Statuses, Faults, Digest, Idle}
 use Rattle.core_steps.specs.Faults.{AreFaults, AreWarnings}
 use Rattle.core_steps.specs.Table.{IsTable}
 use Rattle.core_steps.specs.Status.{IsRebuilt}
 use Rattle.core_steps.specs.State.{State}
+use Rattle.core_steps.specs.StateDigest.{state_digest}
 use Rattle.core_steps.specs.Outcomes.{Outcome, told, Where}
 use Rattle.core_steps.specs.Editing.{Edits, Deletes, Builds, Purges}
 use Rattle.core_steps.specs.Proving.{OnObligation, StepsAt, PrunesAt, ShowsAt, ShowsTree}
@@ -29,6 +30,7 @@ Tells s table AskFaults x =
     × (x ≡ told s (Faults faults warnings))
 Tells s table (Show name path) x = OnObligation s table name (λ sequent. ShowsAt s name path sequent x) x
 Tells s table (TreeOf name) x = OnObligation s table name (λ sequent. ShowsTree s name sequent x) x
+Tells s table AskDigest x = x ≡ told s (Digest (state_digest s.durable))
 Tells s table AskIdle x = Where (IsIdle s table) (x ≡ told s (Idle true)) (x ≡ told s (Idle false))
 
 -- what comes of an event, beside the table of the built texts

@@ -5,7 +5,7 @@ ghost use Rattle.std.specs.FinMap.{is_sorted, find, put};
 ghost use Rattle.std.specs.FinMap.Entries.{where_key};
 ghost use Rattle.std.specs.Ordering.{eq_by_cmp};
 
-use crate::room::Room;
+use crate::room::{Room, make_room};
 use formula_core::OutOfMemory;
 use std::cmp::Ordering;
 
@@ -44,7 +44,7 @@ pub fn place_of<K: Ord, V>(entries: &[(K, V)], key: &K) -> Place
     }
 }
 
-/// Sets the value at the key, in room that was taken before. It takes no memory.
+/// Sets the value at the key, in the room that was taken before where the entries have none of their own. It takes no memory.
 pub fn put_in<K: Ord + Drop, V: Drop>(
     entries: &mut Vec<(K, V)>,
     room: Room<(K, V)>,
@@ -60,16 +60,11 @@ pub fn put_in<K: Ord + Drop, V: Drop>(
         entries[place.at].1 = value;
         return;
     }
-    let mut grown = room.into_items();
-    match grown.append(entries) {
+    make_room(entries, room);
+    match entries.insert(place.at, (key, value)) {
         Ok(()) => {}
         Err(_) => unreachable!(),
     }
-    match grown.insert(place.at, (key, value)) {
-        Ok(()) => {}
-        Err(_) => unreachable!(),
-    }
-    *entries = grown;
 }
 
 /// Sets the value at the key. The entries are unchanged after a refusal.

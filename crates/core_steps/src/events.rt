@@ -31,6 +31,8 @@ pub enum Question {
     Show(PoName, Option<Path>),
     /// The nodes of an obligation's tree.
     TreeOf(PoName),
+    /// The digest of what lasts.
+    Digest,
     /// Whether nothing is left to take and no ticket is out.
     Idle,
 }
@@ -107,5 +109,7 @@ pub enum Reply {
     Faults(List<FaultLine>, List<(Name, Name)>),
     Shown(PoName, Status, Sequent),
     Nodes(List<NodeLine>),
+    /// SHA-256 of the bytes of the state's entries.
+    Digest([u8; 32]),
     Idle(bool),
 }

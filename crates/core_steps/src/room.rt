@@ -31,7 +31,7 @@ impl<T: Drop> Room<T> {
         }
     }
 
-    /// Room for one element more than so many.
+    /// Room for one element more than so many, and for as many again, so that moves into it are few.
     pub fn above(alloc: Global, count: usize) -> Result<Room<T>, OutOfMemory>
         ensures { IfOk result (λ room. count < room) }
     {
@@ -39,7 +39,7 @@ impl<T: Drop> Room<T> {
             return Err(OutOfMemory);
         };
         let mut items = Vec::new(alloc);
-        items.reserve(more)?;
+        items.reserve(more.saturating_mul(2))?;
         Ok(Room { items })
     }
 
@@ -53,16 +53,28 @@ impl<T: Drop> Room<T> {
     }
 }
 
-/// Moves the elements into the room and adds one at the end. It takes no memory.
-pub fn push_in<T: Drop>(items: &mut Vec<T>, room: Room<T>, item: T)
+/// Moves the elements into the room where the vector has none of its own. It takes no memory.
+pub(crate) fn make_room<T: Drop>(items: &mut Vec<T>, room: Room<T>)
     requires { vec_len items.old < room }
-    ensures { items.new.items ≡ items.old.items ++ item ∷ [] }
+    ensures items { items.new.items ≡ items.old.items }
+    ensures room { vec_len items.new < vec_capacity items.new }
 {
+    if items.len() < items.capacity() {
+        return;
+    }
     let mut grown = room.into_items();
     match grown.append(items) {
         Ok(()) => {}
         Err(_) => unreachable!(),
     }
-    grown.push_reserved(item);
     *items = grown;
+}
+
+/// Adds one at the end, in the room where the vector has none of its own. It takes no memory.
+pub fn push_in<T: Drop>(items: &mut Vec<T>, room: Room<T>, item: T)
+    requires { vec_len items.old < room }
+    ensures { items.new.items ≡ items.old.items ++ item ∷ [] }
+{
+    make_room(items, room);
+    items.push_reserved(item);
 }

@@ -1,14 +1,16 @@
 // Stored proofs, with what they ask of a sequent.
-ghost use Rattle.std.specs.Prelude.{◌≡◌, ◌↔◌, IsTrue, IfOk, Some};
+ghost use Rattle.std.specs.Prelude.{◌≡◌, ◌↔◌, map, IsTrue, IfOk, Some};
+ghost use Rattle.sequent_core.specs.declared.Sequent.{Sequent};
 ghost use Rattle.sequent_core.specs.declared.Tree.{Tree};
 ghost use Rattle.sequent_core.specs.Sequents.{IsSequent};
 ghost use Rattle.sequent_core.specs.Trees.{Applies};
+ghost use Rattle.proof_deps.specs.Prints.{print_of};
 ghost use Rattle.core_steps.specs.Status.{IsTreeStatus, IsStatus, IsUnsettled, origin_of};
 ghost use Rattle.core_steps.specs.Private.{AreFactsOf, IsSettledAs};
 
 use crate::events::Status;
-use formula_core::OutOfMemory;
-use proof_deps::{Deps, fits, of};
+use formula_core::{List, OutOfMemory};
+use proof_deps::{Deps, fits, fits_by, of};
 use proof_entries::{Origin, Proof};
 use sequent_core::{Sequent, Tree};
 use std::alloc::Global;
@@ -81,18 +83,37 @@ pub fn applies(facts: &Facts, sequent: &Sequent) -> bool
     }
 }
 
+// The same, with the numbers of the hypotheses, by which they are looked for.
+fn applies_with(facts: &Facts, sequent: &Sequent, prints: &List<u64>) -> bool
+    requires sequent { IsSequent sequent.now }
+    requires prints { prints.now ≡ map print_of sequent.now.hyps }
+    ensures { (tree : Tree) → AreFactsOf tree facts.now → IsTrue result ↔ Applies tree sequent.now }
+{
+    match &facts.deps {
+        Some(deps) => fits_by(deps, sequent, prints),
+        None => false,
+    }
+}
+
+// The status of a tree that applies to a sequent, or doesn't.
+fn status_where(facts: &Facts, applies: bool) -> Status
+    ensures { (tree : Tree) (s : Sequent) → AreFactsOf tree facts.now → (IsTrue applies ↔ Applies tree s) → IsTreeStatus tree s result }
+{
+    if facts.settled == Status::Unattempted {
+        return Status::Unattempted;
+    }
+    if applies {
+        return facts.settled;
+    }
+    Status::Broken
+}
+
 /// The status of the tree for the sequent.
 pub fn status_by(facts: &Facts, sequent: &Sequent) -> Status
     requires { IsSequent sequent.now }
     ensures { (tree : Tree) → AreFactsOf tree facts.now → IsTreeStatus tree sequent.now result }
 {
-    if facts.settled == Status::Unattempted {
-        return Status::Unattempted;
-    }
-    if applies(facts, sequent) {
-        return facts.settled;
-    }
-    Status::Broken
+    status_where(facts, applies(facts, sequent))
 }
 
 impl StoredProof {
@@ -133,6 +154,15 @@ impl StoredProof {
         ensures { IsTreeStatus self.now.tree sequent.now result }
     {
         status_by(&self.facts, sequent)
+    }
+
+    /// The same, with the numbers of the sequent's hypotheses (`prints_of`), by which they are looked for.
+    pub fn status_with(&self, sequent: &Sequent, prints: &List<u64>) -> Status
+        requires sequent { IsSequent sequent.now }
+        requires prints { prints.now ≡ map print_of sequent.now.hyps }
+        ensures { IsTreeStatus self.now.tree sequent.now result }
+    {
+        status_where(&self.facts, applies_with(&self.facts, sequent, prints))
     }
 
     /// Who made the proof, unless its tree is a bare leaf.

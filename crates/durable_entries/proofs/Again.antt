@@ -13,7 +13,7 @@ use Rattle.proof_entries.specs.declared.Proof.{Proof}
 use Rattle.core_steps.specs.Durable.{text_cmp, ProjectMap}
 use Rattle.core_steps.specs.declared.durable.Durable.{Durable}
 use Rattle.core_steps.specs.State.{entered, after, no_texts}
-use Rattle.durable_entries.specs.StateEntries.{change_at, build_of, with_names, names_of, state_entries}
+use Rattle.core_steps.specs.StateEntries.{change_at, build_of, with_names, names_of, state_entries}
 use Rattle.durable_entries.proofs.Maps.{with_all, exact, itself, same_or_not, NotIn, here, there, all_again, none_in}
 
 -- the texts after a name's change

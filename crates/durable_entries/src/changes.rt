@@ -3,7 +3,7 @@ ghost use Rattle.std.specs.Prelude.{◌≡◌, ◌++◌, [], IfOk, OnOk};
 ghost use Rattle.std.specs.List.{flat_map};
 ghost use Rattle.std.specs.Option.{option_copied};
 ghost use Rattle.std.specs.FinMap as finite;
-ghost use Rattle.durable_entries.specs.StateEntries.{change_at, with_names, names_of};
+ghost use Rattle.core_steps.specs.StateEntries.{change_at, with_names, names_of};
 
 use core_steps::{Entry, Project, Texts};
 use formula_core::{Name, OutOfMemory, Text};

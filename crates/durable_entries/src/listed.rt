@@ -2,7 +2,7 @@
 ghost use Rattle.std.specs.Prelude.{◌≡◌, ◌++◌, ◌∷◌, [], map, OnOk, IfOk};
 ghost use Rattle.std.specs.FinMap as finite;
 ghost use Rattle.proof_entries.specs.declared.Entry.{Entry};
-ghost use Rattle.durable_entries.specs.StateEntries.{build_of, state_entries};
+ghost use Rattle.core_steps.specs.StateEntries.{build_of, state_entries};
 
 use crate::changes::add_changes;
 use core_steps::{Durable, Entry, PoMap, Project, StoredProof};

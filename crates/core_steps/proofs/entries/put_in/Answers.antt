@@ -1,5 +1,4 @@
-use Rattle.std.proofs.Common.{◌≡◌, ◌∙◌, sym, ap, subst, ℕ, ◌+◌, ◌<◌, List, [], ◌++◌, length, get_or, None, rules, arith}
-use Rattle.std.specs.Prelude.{vec_len}
+use Rattle.std.proofs.Common.{◌≡◌, ◌∙◌, sym, ap, subst, get_or, None}
 use Rattle.std.specs.List.{insert}
 use Rattle.std.specs.FinMap.{find}
 use Rattle.std.specs.declared.cmp.Ordering.TheVariants.{Equal}
@@ -16,34 +15,13 @@ returns-then-place g c =
     put_at g.K.Ord.cmp g.met.K.Ord.total c.args.key c.args.value es c.place_of-place.result.at e there.0 is before
     (subst (λ z. g.K.Ord.cmp c.args.key z.0 ≡ Equal) (sym is) (there.1 e))
 
-pub unreachable-requires : goal.unreachable-requires
-unreachable-requires g c =
+pub make_room-requires : goal.make_room-requires
+make_room-requires g c =
     let es = c.args.entries.now.items in
     let before = rw c.deref.ensures.value at c.place_of-place.ensures.before in
     let behind = rw c.deref.ensures.value at (c.place_of-place.ensures.behind c.if-place.false) in
     let none : find g.K.Ord.cmp c.args.key es ≡ None = not_found g.K.Ord.cmp g.met.K.Ord.total c.args.key es c.place_of-place.result.at behind.0 before behind.1 in
-    let fits = c.requires.room none in
-    let whole : vec_len c.into_items-grown.result ≡ length c.into_items-grown.result.items = search rules in
-    omega (arith, whole, ap length c.into_items-grown.ensures.items, c.into_items-grown.ensures.capacity, fits, c.in-Err.ensures.full)
-
-pub unreachable-requires-in-Err-insert : goal.unreachable-requires-in-Err-insert
-unreachable-requires-in-Err-insert g c =
-    let es = c.args.entries.now.items in
-    let before = rw c.deref.ensures.value at c.place_of-place.ensures.before in
-    let behind = rw c.deref.ensures.value at (c.place_of-place.ensures.behind c.if-place.false) in
-    let none : find g.K.Ord.cmp c.args.key es ≡ None = not_found g.K.Ord.cmp g.met.K.Ord.total c.args.key es c.place_of-place.result.at behind.0 before behind.1 in
-    let fits = c.requires.room none in
-    let whole : vec_len c.into_items-grown.result ≡ length c.into_items-grown.result.items = search rules in
-    omega (
-      arith,
-      whole,
-      ap length c.into_items-grown.ensures.items,
-      c.into_items-grown.ensures.capacity,
-      fits,
-      c.in-Ok.ensures.len,
-      c.in-Ok.ensures.capacity,
-      c.in-Err-insert.ensures.full,
-    )
+    c.requires.room none
 
 pub returns : goal.returns
 returns g c =
@@ -51,7 +29,6 @@ returns g c =
     let at = c.place_of-place.result.at in
     let before = rw c.deref.ensures.value at c.place_of-place.ensures.before in
     let behind = rw c.deref.ensures.value at (c.place_of-place.ensures.behind c.if-place.false) in
-    let whole : c.append.new.self.items ≡ es = c.in-Ok.ensures.items ∙ ap (λ xs. xs ++ es) c.into_items-grown.ensures.items in
-    c.in-Ok-insert.ensures.items
-    ∙ ap (λ xs. insert xs at (c.args.key, c.args.value)) whole
+    c.in-Ok.ensures.items
+    ∙ ap (λ xs. insert xs at (c.args.key, c.args.value)) c.make_room.ensures.items
     ∙ put_between g.K.Ord.cmp g.met.K.Ord.total c.args.key c.args.value es at behind.0 before behind.1

@@ -2,7 +2,7 @@ use Rattle.std.proofs.Common.{◌∙◌, sym, ap, ℕ, List, [], ◌∷◌, ◌+
 use Rattle.std.specs.List.{flat_map}
 use Rattle.std.specs.FinMap.{get}
 use Rattle.proof_entries.specs.declared.Entry.{Entry}
-use Rattle.durable_entries.specs.StateEntries.{change_at}
+use Rattle.core_steps.specs.StateEntries.{change_at}
 use Rattle.durable_entries.proofs.Walking.{map_one_more, flat_one_more}
 use Rattle.durable_entries.proofs.changes.add_each.Goals as goal
 

@@ -1,7 +1,7 @@
 use Rattle.std.proofs.Common.{◌≡◌, ◌++◌, ℕ, List, map}
 use Rattle.std.specs.List.{flat_map}
 use Rattle.std.specs.FinMap.{entries, get}
-use Rattle.durable_entries.specs.StateEntries.{change_at}
+use Rattle.core_steps.specs.StateEntries.{change_at}
 use Rattle.durable_entries.proofs.changes.add_each.Given as goal
 
 abbrev pub invariant-loop-name : goal.invariant-loop-name

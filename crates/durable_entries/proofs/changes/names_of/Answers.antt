@@ -1,7 +1,7 @@
 use Rattle.std.proofs.Common.{◌∙◌, sym, ap, ℕ, List, [], ◌∷◌, ◌++◌, take, append_assoc}
 use Rattle.std.specs.FinMap.{insert, empty, entries}
 use Rattle.core_steps.specs.Durable.{ProjectMap}
-use Rattle.durable_entries.specs.StateEntries.{with_names}
+use Rattle.core_steps.specs.StateEntries.{with_names}
 use Rattle.durable_entries.proofs.Walking.{with_one_more, take_one_more}
 use Rattle.durable_entries.proofs.changes.names_of.Goals as goal
 

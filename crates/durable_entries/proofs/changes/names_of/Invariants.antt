@@ -1,6 +1,6 @@
 use Rattle.std.proofs.Common.{◌≡◌, ◌++◌, ℕ, List, take}
 use Rattle.std.specs.FinMap.{entries, empty}
-use Rattle.durable_entries.specs.StateEntries.{with_names}
+use Rattle.core_steps.specs.StateEntries.{with_names}
 use Rattle.durable_entries.proofs.changes.names_of.Given as goal
 
 abbrev pub invariant-loop-name : goal.invariant-loop-name

@@ -1,0 +1,8 @@
+use Rattle.std.proofs.Common.{take}
+use Rattle.std.specs.List.{flat_map}
+use Rattle.sha2.specs.Hashers.{Holds256}
+use Rattle.proof_codec.specs.Entries.{entry_bytes}
+use Rattle.durable_entries.proofs.digest.digest_of.Given as goal
+
+abbrev pub invariant-loop-entry : goal.invariant-loop-entry
+invariant-loop-entry l = Holds256 l.hasher (flat_map entry_bytes (take l.entry-index l.entries))
