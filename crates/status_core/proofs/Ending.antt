@@ -17,8 +17,9 @@ use Rattle.core_steps.specs.declared.events.Status.TheVariants.{Discharged}
 use Rattle.core_steps.specs.State.{State}
 use Rattle.core_steps.specs.Outcomes.{Outcome, told, entering}
 use Rattle.core_steps.specs.Tickets.{IsPresentStatus, CanStore, Ends, tried_with, by_prover}
-use Rattle.status_core.specs.Prepared.{Ready, ComesAs, Prepares}
-use Rattle.status_core.specs.Parts.{Finds, IsTicketAt, without_at}
+use Rattle.prepared_events.specs.Prepared.{Ready, ComesAs, Prepares}
+use Rattle.table_lookup.specs.Tickets.{IsTicketAt}
+use Rattle.status_core.specs.Parts.{Finds, without_at}
 use Rattle.status_core.proofs.Made.{if_ok, as_made}
 use Rattle.status_core.proofs.Finished.{ends_stored, ends_stale, ends_refused, finish_found}
 

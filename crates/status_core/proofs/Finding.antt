@@ -1,6 +1,5 @@
 -- Present obligations, and obligations at a place.
-use Rattle.std.proofs.Common.{◌≡◌, ◌∙◌, sym, ap, subst, refl, inl, inr, ℕ, zero, suc, ◌+◌, ◌<◌, List, [], ◌∷◌, ◌++◌, take, drop, get_or, length, map, arith}
-use Rattle.std.proofs.Math.ListN.{get_or-map}
+use Rattle.std.proofs.Common.{◌≡◌, ◌∙◌, sym, ap, subst, refl, inl, inr, ℕ, zero, suc, ◌+◌, ◌<◌, List, [], ◌∷◌, ◌++◌, take, drop, get_or, length, arith}
 use Rattle.std.specs.Prelude.{Option, Some, None, IfSome, Bool, true, false, IsTrue, ◌↔◌}
 use Rattle.std.specs.Option.{option_map}
 use Rattle.std.specs.List.{AllByRecursion, HoldsAt}
@@ -20,17 +19,8 @@ use Rattle.core_steps.specs.declared.events.Reply.TheVariants.{Idle}
 use Rattle.core_steps.specs.Step.{Tells}
 use Rattle.core_steps.specs.Tickets.{IsOpen, IsPresentStatus}
 use Rattle.core_steps.proofs.Lists.{split}
+use Rattle.table_lookup.proofs.Places.{all_at}
 use Rattle.status_core.specs.Parts.{Finds, IsFirstOpen}
-
--- what holds of every element holds of the one at a place
-pub all_at : {X : Type 0} (P : X → Type 0) (xs : List X) (i : ℕ) (x : X) → i < length xs → x ≡ get_or xs i x → AllByRecursion P xs → P x
-all_at P [] i x lt is all = absurd (omega arith)
-all_at P (y ∷ xs) zero x lt is all = subst P (sym is) all.0
-all_at P (y ∷ xs) (suc i) x lt is all = all_at P xs i x (omega arith) is all.1
-
--- what stands at a place of a list stands there after a map
-pub map_at : {X Y : Type 0} (f : X → Y) (xs : List X) (i : ℕ) (x : X) → x ≡ get_or xs i x → f x ≡ get_or (map f xs) i (f x)
-map_at f xs i x is = ap f is ∙ sym (get_or-map f xs i x)
 
 -- the obligation at the place of a name is the present one
 pub present_at : (table : List Obligation) (name : List ℕ) (at : ℕ) (o : Obligation) → IsPlaceOf table name (Some at) → o ≡ get_or table at o →

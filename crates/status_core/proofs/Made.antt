@@ -8,7 +8,7 @@ use Rattle.core_steps.specs.State.{State}
 use Rattle.core_steps.specs.Outcomes.{Outcome, told}
 use Rattle.core_steps.specs.Table.{IsPresent}
 use Rattle.core_steps.specs.Step.{ComesBeside}
-use Rattle.status_core.specs.Prepared.{Ready, IsReady, ComesAs, Prepares, made}
+use Rattle.prepared_events.specs.Prepared.{Ready, IsReady, ComesAs, Prepares, made}
 use Rattle.status_core.specs.Parts.{Finds}
 
 -- what holds of a result where another does

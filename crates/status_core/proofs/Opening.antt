@@ -13,7 +13,7 @@ use Rattle.core_steps.specs.State.{State}
 use Rattle.core_steps.specs.Table.{IsTable}
 use Rattle.core_steps.specs.Tickets.{IsOpen}
 use Rattle.core_steps.proofs.NameMaps.{names_differ}
-use Rattle.status_core.specs.Closed.{AreClosedBefore}
+use Rattle.prepared_events.specs.Closed.{AreClosedBefore}
 use Rattle.status_core.specs.Parts.{IsFirstOpen}
 
 -- what is found in a table is its first open obligation

@@ -1,9 +1,8 @@
 -- What the parts of the core tell each other.
-use Rattle.std.specs.Prelude.{◌≡◌, ◌≢◌, ◌<◌, ◌≤◌, ℕ, List, length, take, Option, Some, None, Result, Ok, Err, true}
+use Rattle.std.specs.Prelude.{◌≡◌, ◌≢◌, ◌<◌, ◌≤◌, ℕ, List, length, take, Option, Some, None, Result, Ok, Err, true, false}
 use Rattle.std.specs.List.{AllByRecursion, HoldsAt}
 use Rattle.sequent_core.specs.declared.Sequent.{Sequent}
 use Rattle.sequent_core.specs.declared.Obligation.{Obligation}
-use Rattle.sequent_core.specs.declared.Ticket.{Ticket}
 use Rattle.sequent_core.specs.declared.Tree.{Tree}
 use Rattle.sequent_core.specs.Sequents.{IsSequent}
 use Rattle.sequent_core.specs.Trees.{Applies}
@@ -16,11 +15,15 @@ use Rattle.rule_making.specs.Make.{FitsAt}
 use Rattle.core_steps.specs.declared.events.Reply.{Reply}
 use Rattle.core_steps.specs.Outcomes.{told}
 use Rattle.core_steps.specs.Editing.{IsFullFor, Edits}
-use Rattle.core_steps.specs.Durable.{ProjectMap}
+use Rattle.core_steps.specs.Durable.{text_cmp, ProjectMap}
+use Rattle.core_steps.specs.Private.{AreFactsOf}
+use Rattle.proof_entries.specs.declared.Proof.{Proof}
+use Rattle.std.specs.FinMap.{FinMap, contains_key, len}
+use Rattle.status_core.specs.declared.proving.Held.{Held}
 use Rattle.core_steps.specs.Table.{IsTable, IsPresent}
 use Rattle.core_steps.specs.State.{State}
 use Rattle.core_steps.specs.Tickets.{IsOpen}
-use Rattle.status_core.specs.Prepared.{without}
+use Rattle.prepared_events.specs.Prepared.{without}
 
 -- the table of the project has the obligation of the name, whose sequent is well typed; or it has none
 abbrev pub Finds : ProjectMap → List ℕ → Option Obligation → Type 0
@@ -33,12 +36,6 @@ abbrev pub IsFirstOpen : State → List Obligation → Option ℕ → Type 0
 IsFirstOpen s table None = AllByRecursion (λ o. IsOpen s o → ⊥) table
 IsFirstOpen s table (Some at) =
     (at < length table) × AllByRecursion (λ o. IsOpen s o → ⊥) (take at table) × HoldsAt (λ o. IsOpen s o) table at
-
--- the place of the first ticket of a number
-abbrev pub IsTicketAt : List Ticket → ℕ → Option ℕ → Type 0
-IsTicketAt out number None = AllByRecursion (λ ticket. ticket.number ≢ number) out
-IsTicketAt out number (Some at) =
-    (at < length out) × AllByRecursion (λ ticket. ticket.number ≢ number) (take at out) × HoldsAt (λ ticket. ticket.number ≡ number) out at
 
 -- the sequent itself, or that at the leaf of the path, if the tree applies and has one there
 abbrev pub IsShownAt : Tree → Sequent → Option (List ℕ) → Option Sequent → Type 0
@@ -58,3 +55,8 @@ RefusesEdit texts name text (Some reply) = (s : State) → s.durable.texts ≡ t
 abbrev pub IsMade : Sequent → Result Rule RuleFault → Type 0
 IsMade leaf (Ok rule) = FitsAt rule leaf
 IsMade leaf (Err fault) = fault ≢ OutOfMemory
+
+-- what is held for the tree, which is to be stored under the name beside these proofs
+abbrev pub IsHeld : FinMap text_cmp Proof → List ℕ → Tree → Held → Type 0
+IsHeld proofs name tree held =
+    (held.told ≡ name) × (held.name ≡ name) × AreFactsOf tree held.facts × (contains_key proofs name ≡ false → len proofs < held.room)

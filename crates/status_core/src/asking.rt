@@ -9,18 +9,20 @@ ghost use Rattle.core_steps.specs.declared.events.Event.{Event};
 ghost use Rattle.core_steps.specs.declared.events.Question.{Question};
 ghost use Rattle.core_steps.specs.Status.{Shows};
 ghost use Rattle.core_steps.specs.Table.{IsTable};
-ghost use Rattle.status_core.specs.Prepared.{Prepares};
+ghost use Rattle.prepared_events.specs.Prepared.{Prepares};
 ghost use Rattle.status_core.specs.Parts.{IsFirstOpen};
+ghost use Rattle.table_lookup.specs.Prints.{prints_in};
 
 use crate::core_state::Core;
-use crate::lookup::{origin_of, status_of};
-use crate::prepared::Prepared;
 use core_steps::{FaultLine, PoMap, Reply, Status, StoredProof};
+use durable_entries::state_digest;
 use formula_core::{List, Name, OutOfMemory, PoName};
+use prepared_events::Prepared;
 use proof_entries::Origin;
 use sequent_core::{Obligation, Ticket};
 use std::alloc::Global;
 use std::sync::Arc;
+use table_lookup::{origin_of, status_with};
 use typed_tables::typed_tables;
 
 impl Core {
@@ -31,7 +33,12 @@ impl Core {
         typed_tables();
         let _texts = self.builder.texts();
         let table = self.builder.table();
-        let shown = shown_statuses(self.alloc, &self.durable.proofs, table)?;
+        let shown = shown_statuses(
+            self.alloc,
+            &self.durable.proofs,
+            table,
+            self.builder.prints(),
+        )?;
         Ok(self.tell(Reply::Statuses(List::of(shown))))
     }
 
@@ -44,6 +51,15 @@ impl Core {
         let warnings = copy_warnings(self.alloc, self.builder.warnings())?;
         let reply = Reply::Faults(List::of(faults), List::of(warnings));
         Ok(self.tell(reply))
+    }
+
+    /// What comes of the question for the digest.
+    pub(crate) fn prepare_digest(&self) -> Result<Prepared, OutOfMemory>
+        ensures { IfOk result (λ p. Prepares self.now (Event.Ask Question.Digest) p) }
+    {
+        self.has_table();
+        let digest = state_digest(self.alloc, &self.durable)?;
+        Ok(self.tell(Reply::Digest(digest)))
     }
 
     /// What comes of the question whether nothing is open and no ticket is out.
@@ -78,13 +94,15 @@ fn shown_statuses(
     alloc: Global,
     proofs: &PoMap<StoredProof>,
     table: &[Arc<Obligation>],
+    prints: &[List<u64>],
 ) -> Result<Vec<(PoName, Status, Option<Origin>)>, OutOfMemory>
-    requires { AreSequents (map arc_value table.now) }
+    requires sequents { AreSequents (map arc_value table.now) }
+    requires prints { prints.now ≡ map prints_in (map arc_value table.now) }
     ensures { IfOk result (λ shown. AllZip (Shows proofs.now) (map arc_value table.now) shown.items) }
 {
     let mut shown = Vec::new(alloc);
     for at in 0..table.len() {
-        shown.push(shown_status(alloc, proofs, &table[at])?)?;
+        shown.push(shown_status(alloc, proofs, &table[at], &prints[at])?)?;
     }
     Ok(shown)
 }
@@ -93,11 +111,13 @@ fn shown_status(
     alloc: Global,
     proofs: &PoMap<StoredProof>,
     obligation: &Obligation,
+    prints: &List<u64>,
 ) -> Result<(PoName, Status, Option<Origin>), OutOfMemory>
-    requires { IsSequent obligation.now.sequent }
+    requires sequent { IsSequent obligation.now.sequent }
+    requires prints { prints.now ≡ prints_in obligation.now }
     ensures { IfOk result (λ shown. Shows proofs.now obligation.now shown) }
 {
-    let status = status_of(proofs, &obligation.name, &obligation.sequent);
+    let status = status_with(proofs, obligation, prints);
     let origin = origin_of(proofs, &obligation.name);
     let name = obligation.name.copy(alloc)?;
     Ok((name, status, origin))

@@ -2,23 +2,23 @@
 ghost use Rattle.std.specs.Prelude.{◌≡◌, ◌<◌, ◌≤◌, ◌^◌, ◌+◌, ◌↔◌, List, length, IsTrue, IfOk, OnOk};
 ghost use Rattle.std.specs.FinMap as map;
 ghost use Rattle.sequent_core.specs.declared.Obligation.{Obligation};
-ghost use Rattle.build_core.specs.Moved.{HasFewSteps};
 ghost use Rattle.build_core.specs.Tables.{IsTable as IsTableOf};
 ghost use Rattle.proof_entries.specs.declared.Entry.{Entry};
 ghost use Rattle.core_steps.specs.declared.events.Event.{Event};
 ghost use Rattle.core_steps.specs.declared.events.Reply.{Reply};
 ghost use Rattle.core_steps.specs.Editing.{IsFullFor, lacking};
 ghost use Rattle.core_steps.specs.Outcomes.{entering};
-ghost use Rattle.status_core.specs.Prepared.{ComesAs, Prepares};
+ghost use Rattle.prepared_events.specs.Prepared.{BuildsInFewSteps, ComesAs, Prepares};
 ghost use Rattle.status_core.specs.Parts.{RefusesEdit};
 
 use crate::core_state::Core;
-use crate::prepared::{Built, Prepared};
-use build_core::{BuildFault, Builder, few_faults, one_table};
+use build_core::{BuildFault, few_faults, one_table};
 use core_steps::{PoMap, Project, Reply, StoredProof, Texts};
 use formula_core::{List, Name, OutOfMemory, PoName, Steps, Text};
+use prepared_events::{Built, Prepared};
 use std::alloc::Global;
 use std::sync::ledger::Ledger;
+use table_lookup::Numbered;
 
 /// The most bytes of a component's text.
 pub const TEXT_LIMIT: usize = 65_536;
@@ -101,7 +101,7 @@ impl Core {
         steps: &mut Steps<L>,
     ) -> Result<Prepared, OutOfMemory>
         ensures prepared { IfOk result (λ p. Prepares self.now Event.Build p) }
-        ensures steps { HasFewSteps (map.entries self.now.durable.built) (map.entries self.now.durable.texts) steps.old steps.new }
+        ensures steps { BuildsInFewSteps self.now.durable steps.old steps.new }
     {
         self.has_table();
         let project = Project::of(self.alloc, &self.durable.texts)?;
@@ -113,7 +113,7 @@ impl Core {
     }
 
     // The texts were built: the numbers of components, faulted ones and obligations are told.
-    fn built(&self, project: Project, builder: Builder) -> Prepared
+    fn built(&self, project: Project, builder: Numbered) -> Prepared
         requires project { project ≡ self.now.durable.texts }
         requires builder { builder ≡ map.entries project }
         ensures { Prepares self.now Event.Build result }
@@ -144,7 +144,7 @@ impl Core {
 fn names_lacking(
     alloc: Global,
     proofs: &PoMap<StoredProof>,
-    builder: &Builder,
+    builder: &Numbered,
 ) -> Result<Vec<PoName>, OutOfMemory>
     ensures names { IfOk result (λ names. (table : List Obligation) → IsTableOf builder.now table → names.items ≡ lacking proofs.now table) }
     ensures few { IfOk result (λ names. length names.items ≤ map.len proofs.now) }

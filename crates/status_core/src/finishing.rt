@@ -10,17 +10,19 @@ ghost use Rattle.core_steps.specs.declared.events.Status.{Status};
 ghost use Rattle.proof_entries.specs.declared.Entry.{Entry};
 ghost use Rattle.core_steps.specs.Outcomes.{entering};
 ghost use Rattle.core_steps.specs.Tickets.{Ends, IsPresentStatus, by_prover};
-ghost use Rattle.status_core.specs.Prepared.{ComesAs, Prepares};
-ghost use Rattle.status_core.specs.Parts.{IsTicketAt, without_at};
+ghost use Rattle.prepared_events.specs.Prepared.{ComesAs, Prepares};
+ghost use Rattle.table_lookup.specs.Tickets.{IsTicketAt};
+ghost use Rattle.status_core.specs.Parts.{IsHeld, without_at};
 
 use crate::core_state::Core;
-use crate::lookup::{can_store, present_status, ticket_at};
-use crate::prepared::Prepared;
-use core_steps::{Reply, Status, facts_of};
+use crate::proving::Held;
+use core_steps::{Reply, Status};
 use formula_core::{OutOfMemory, PoName};
+use prepared_events::{Prepared, Storing};
 use proof_entries::{Origin, Proof};
 use proof_tree::is_good;
 use sequent_core::{Attempt, Obligation, Tree};
+use table_lookup::{can_store, present_status, ticket_at};
 
 impl Core {
     /// What comes of a finish.
@@ -86,11 +88,36 @@ impl Core {
         ensures { IfOk result (λ p. ComesAs self.now (λ x. x ≡ entering (without_at self.now at) (Reply.Stored name (Some Status.Discharged))
             (Entry.SetProof name (by_prover tree.now))) p) }
     {
-        let facts = facts_of(self.alloc, tree)?;
-        let tree = tree.copy(self.alloc)?;
-        let origin = Origin::Prover;
-        let told = name.copy(self.alloc)?;
+        let held = self.hold(&name, tree)?;
+        let Ok(tree) = tree.copy(self.alloc) else {
+            drop(held);
+            return Err(OutOfMemory);
+        };
+        Ok(self.store_held(at, held, tree))
+    }
+
+    // The tree is stored as the prover's with what is held for it, and the ticket at the place comes in.
+    fn store_held(&self, at: usize, held: Held, tree: Tree) -> Prepared
+        requires within { at < length self.now.out }
+        requires held { IsHeld self.now.durable.proofs held.name tree held }
+        ensures { ComesAs self.now (λ x. x ≡ entering (without_at self.now at) (Reply.Stored held.name (Some Status.Discharged))
+            (Entry.SetProof held.name (by_prover tree))) result }
+    {
+        let Held {
+            told,
+            name,
+            facts,
+            room,
+        } = held;
         let reply = Reply::Stored(told, Some(Status::Discharged));
-        self.keep_in(reply, name, Proof { tree, origin }, facts, at)
+        let origin = Origin::Prover;
+        let proof = Proof { tree, origin };
+        let storing = Storing {
+            name,
+            proof,
+            facts,
+            room,
+        };
+        self.keep_in(reply, storing, at)
     }
 }

@@ -5,13 +5,13 @@ ghost use Rattle.sequent_core.specs.Sequents.{IsSequent};
 ghost use Rattle.core_steps.specs.declared.events.Event.{Event};
 ghost use Rattle.core_steps.specs.declared.events.Question.{Question};
 ghost use Rattle.core_steps.specs.Proving.{ShowsTree, goal_of, lines_below, node_lines};
-ghost use Rattle.status_core.specs.Prepared.{ComesAs, Prepares};
+ghost use Rattle.prepared_events.specs.Prepared.{ComesAs, Prepares};
 
 use crate::core_state::Core;
-use crate::prepared::Prepared;
 use crate::proving::{does_apply, tree_of};
 use core_steps::{NodeLine, Reply};
 use formula_core::{Formula, List, OutOfMemory, PoName};
+use prepared_events::Prepared;
 use sequent_core::{Antecedent, Path, Sequent, Tree};
 use std::alloc::Global;
 

@@ -9,18 +9,27 @@ ghost use Rattle.proof_steps.specs.Places.{HasLeaf};
 ghost use Rattle.core_steps.specs.declared.events.Event.{Event};
 ghost use Rattle.core_steps.specs.declared.events.Question.{Question};
 ghost use Rattle.core_steps.specs.Proving.{Keeps, Puts, StepsAt, StepsIn, PrunesAt, ShowsAt, stored_tree, tree_in};
-ghost use Rattle.status_core.specs.Prepared.{ComesAs, Prepares};
-ghost use Rattle.status_core.specs.Parts.{IsMade, IsShownAt};
+ghost use Rattle.prepared_events.specs.Prepared.{ComesAs, Prepares};
+ghost use Rattle.status_core.specs.Parts.{IsHeld, IsMade, IsShownAt};
 
 use crate::core_state::Core;
-use crate::lookup::status_of;
-use crate::prepared::Prepared;
-use core_steps::{Reply, StoredProof, facts_of, status_by};
+use core_steps::{Facts, Reply, Room, StoredProof, facts_of, status_by};
 use formula_core::{OutOfMemory, PoName};
+use prepared_events::{Prepared, Storing};
 use proof_entries::{Origin, Proof};
 use proof_steps::{StepFault, leaf, prune, step};
 use rule_making::{RuleFault, make};
 use sequent_core::{Hint, Path, Rule, Sequent, Tree};
+use table_lookup::status_of;
+
+/// What is held for a tree that is to be stored: its name, once to be told, what is known of it, and memory.
+#[derive(Drop)]
+pub struct Held {
+    pub told: PoName,
+    pub name: PoName,
+    pub facts: Facts,
+    pub room: Room<(PoName, StoredProof)>,
+}
 
 /// The stored tree, or this leaf.
 pub fn tree_of<'a>(stored: Option<&'a StoredProof>, leaf: &'a Tree) -> &'a Tree
@@ -154,11 +163,20 @@ impl Core {
         requires fits { HasLeaf path.now tree.now sequent.now (FitsAt rule) }
         ensures { IfOk result (λ p. ComesAs self.now (Puts self.now name.now sequent.now tree.now path.now (Ok rule)) p) }
     {
-        let mut tree = tree.copy(self.alloc)?;
+        let Ok(mut tree) = tree.copy(self.alloc) else {
+            drop(rule);
+            return Err(OutOfMemory);
+        };
         match step(&mut tree, self.alloc, sequent, path, rule) {
             Ok(()) => self.keep_tree(name, sequent, tree),
-            Err(StepFault::TreeFull) => Ok(self.tell(Reply::TreeFull)),
-            Err(StepFault::OutOfMemory) => Err(OutOfMemory),
+            Err(StepFault::TreeFull) => {
+                drop(tree);
+                Ok(self.tell(Reply::TreeFull))
+            }
+            Err(StepFault::OutOfMemory) => {
+                drop(tree);
+                Err(OutOfMemory)
+            }
             Err(StepFault::NoLeaf) => unreachable!(),
             Err(StepFault::NoFit) => unreachable!(),
         }
@@ -174,13 +192,52 @@ impl Core {
         requires { IsSequent sequent.now }
         ensures { IfOk result (λ p. ComesAs self.now (Keeps self.now name.now sequent.now tree) p) }
     {
-        let facts = facts_of(self.alloc, &tree)?;
-        let status = status_by(&facts, sequent);
+        let Ok(held) = self.hold(name, &tree) else {
+            drop(tree);
+            return Err(OutOfMemory);
+        };
+        Ok(self.keep_held(held, sequent, tree))
+    }
+
+    /// What is wanted for the tree to be stored under the name.
+    pub(crate) fn hold(&self, name: &PoName, tree: &Tree) -> Result<Held, OutOfMemory>
+        ensures { IfOk result (λ held. IsHeld self.now.durable.proofs name.now tree.now held) }
+    {
+        let room = self.durable.proofs.room_for(self.alloc, name)?;
         let told = name.copy(self.alloc)?;
         let name = name.copy(self.alloc)?;
+        let facts = facts_of(self.alloc, tree)?;
+        Ok(Held {
+            told,
+            name,
+            facts,
+            room,
+        })
+    }
+
+    // The tree is stored as the user's with what is held for it, and its status is told.
+    fn keep_held(&self, held: Held, sequent: &Sequent, tree: Tree) -> Prepared
+        requires sequent { IsSequent sequent.now }
+        requires held { IsHeld self.now.durable.proofs held.name tree held }
+        ensures { ComesAs self.now (Keeps self.now held.name sequent.now tree) result }
+    {
+        let Held {
+            told,
+            name,
+            facts,
+            room,
+        } = held;
+        let status = status_by(&facts, sequent);
         let origin = Origin::User;
         let reply = Reply::Now(told, status);
-        self.keep(reply, name, Proof { tree, origin }, facts)
+        let proof = Proof { tree, origin };
+        let storing = Storing {
+            name,
+            proof,
+            facts,
+            room,
+        };
+        self.keep(reply, storing)
     }
 
     /// What comes of a prune.
@@ -203,11 +260,23 @@ impl Core {
         requires { IsSequent sequent.now }
         ensures { IfOk result (λ p. ComesAs self.now (PrunesAt self.now name.now path.now sequent.now) p) }
     {
-        let bare = Tree::Leaf;
-        let mut tree = tree_of(self.durable.proofs.get(name), &bare).copy(self.alloc)?;
+        let mut tree = self.copy_tree(name)?;
         match prune(&mut tree, path) {
             Ok(()) => self.keep_tree(name, sequent, tree),
-            Err(_) => Ok(self.tell(Reply::NoNode)),
+            Err(_) => {
+                drop(tree);
+                Ok(self.tell(Reply::NoNode))
+            }
+        }
+    }
+
+    // The tree that is stored under the name, or a bare leaf, as a copy.
+    fn copy_tree(&self, name: &PoName) -> Result<Tree, OutOfMemory>
+        ensures { IfOk result (λ tree. tree ≡ stored_tree self.now.durable.proofs name.now) }
+    {
+        match self.durable.proofs.get(name) {
+            None => Ok(Tree::Leaf),
+            Some(stored) => stored.proof().tree.copy(self.alloc),
         }
     }
 

@@ -6,17 +6,17 @@ ghost use Rattle.core_steps.specs.declared.events.Event.{Event};
 ghost use Rattle.core_steps.specs.Table.{IsTable};
 ghost use Rattle.core_steps.specs.Outcomes.{Where};
 ghost use Rattle.core_steps.specs.Tickets.{CanTakeNamed, TellsNotOpen, taking, ticket_for};
-ghost use Rattle.status_core.specs.Prepared.{ComesAs, Prepares};
+ghost use Rattle.prepared_events.specs.Prepared.{ComesAs, Prepares};
 ghost use Rattle.status_core.specs.Parts.{IsFirstOpen};
 
 use crate::core_state::Core;
-use crate::lookup::{first_open, is_free, status_of};
-use crate::prepared::Prepared;
 use build_core::one_table;
 use core_steps::{Reply, Room};
 use formula_core::{OutOfMemory, PoName};
+use prepared_events::Prepared;
 use sequent_core::{Obligation, Ticket};
 use std::alloc::Global;
+use table_lookup::{first_open, is_free, status_of};
 use typed_tables::typed_tables;
 
 fn ticket_for(alloc: Global, number: u64, obligation: &Obligation) -> Result<Ticket, OutOfMemory>
@@ -58,6 +58,7 @@ impl Core {
             &self.out,
             &self.tried,
             table,
+            self.builder.prints(),
             self.closed,
         );
         let end = table.len();

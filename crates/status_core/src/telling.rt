@@ -1,19 +1,19 @@
 // What is prepared, with all that its commit wants.
-ghost use Rattle.std.specs.Prelude.{◌≡◌, ◌<◌, length, slice_get, IfOk, Some};
+ghost use Rattle.std.specs.Prelude.{◌≡◌, ◌<◌, length, slice_get, IfOk, Some, false};
+ghost use Rattle.std.specs.FinMap as map;
 ghost use Rattle.sequent_core.specs.declared.Ticket.{Ticket};
 ghost use Rattle.core_steps.specs.Outcomes.{told, entering};
 ghost use Rattle.core_steps.specs.Private.{AreFactsOf};
 ghost use Rattle.core_steps.specs.Tickets.{tried_with};
 ghost use Rattle.proof_entries.specs.declared.Entry.{Entry};
 ghost use Rattle.core_steps.specs.declared.events.Reply.{Reply};
-ghost use Rattle.status_core.specs.Prepared.{ComesAs};
+ghost use Rattle.prepared_events.specs.Prepared.{ComesAs};
 ghost use Rattle.status_core.specs.Parts.{without_at};
 
 use crate::core_state::Core;
-use crate::prepared::{Prepared, Storing};
-use core_steps::{Facts, Reply};
+use core_steps::Reply;
 use formula_core::{OutOfMemory, PoName};
-use proof_entries::Proof;
+use prepared_events::{Prepared, Storing};
 
 impl Core {
     /// The reply is told, and nothing changes.
@@ -31,25 +31,13 @@ impl Core {
         Ok(self.tell(Reply::NoObligation(name)))
     }
 
-    /// The proof is stored under the name.
-    pub(crate) fn keep(
-        &self,
-        reply: Reply,
-        name: PoName,
-        proof: Proof,
-        facts: Facts,
-    ) -> Result<Prepared, OutOfMemory>
-        requires { AreFactsOf proof.tree facts }
-        ensures { IfOk result (λ p. ComesAs self.now (λ x. x ≡ entering self.now reply (Entry.SetProof name proof)) p) }
+    /// The proof is stored under its name.
+    pub(crate) fn keep(&self, reply: Reply, storing: Storing) -> Prepared
+        requires facts { AreFactsOf storing.proof.tree storing.facts }
+        requires room { map.contains_key self.now.durable.proofs storing.name ≡ false → map.len self.now.durable.proofs < storing.room }
+        ensures { ComesAs self.now (λ x. x ≡ entering self.now reply (Entry.SetProof storing.name storing.proof)) result }
     {
-        let room = self.durable.proofs.room_for(self.alloc, &name)?;
-        let storing = Storing {
-            name,
-            proof,
-            facts,
-            room,
-        };
-        Ok(Prepared::keeping(self.alloc, reply, storing))
+        Prepared::keeping(self.alloc, reply, storing)
     }
 
     /// The ticket at the place comes in.
@@ -60,27 +48,15 @@ impl Core {
         Prepared::told(self.alloc, reply).taking_in(at)
     }
 
-    /// The ticket at the place comes in, and the proof is stored under the name.
-    pub(crate) fn keep_in(
-        &self,
-        reply: Reply,
-        name: PoName,
-        proof: Proof,
-        facts: Facts,
-        at: usize,
-    ) -> Result<Prepared, OutOfMemory>
-        requires facts { AreFactsOf proof.tree facts }
+    /// The ticket at the place comes in, and the proof is stored under its name.
+    pub(crate) fn keep_in(&self, reply: Reply, storing: Storing, at: usize) -> Prepared
+        requires facts { AreFactsOf storing.proof.tree storing.facts }
+        requires room { map.contains_key self.now.durable.proofs storing.name ≡ false → map.len self.now.durable.proofs < storing.room }
         requires within { at < length self.now.out }
-        ensures { IfOk result (λ p. ComesAs self.now (λ x. x ≡ entering (without_at self.now at) reply (Entry.SetProof name proof)) p) }
+        ensures { ComesAs self.now
+            (λ x. x ≡ entering (without_at self.now at) reply (Entry.SetProof storing.name storing.proof)) result }
     {
-        let room = self.durable.proofs.room_for(self.alloc, &name)?;
-        let storing = Storing {
-            name,
-            proof,
-            facts,
-            room,
-        };
-        Ok(Prepared::keeping(self.alloc, reply, storing).taking_in(at))
+        Prepared::keeping(self.alloc, reply, storing).taking_in(at)
     }
 
     /// The ticket at the place comes in, and its sequent is the last tried one of its name.
@@ -90,7 +66,10 @@ impl Core {
             IfOk result (λ p. ComesAs self.now (λ x. x ≡ told (tried_with (without_at self.now at) ticket) reply) p) }
     {
         let ticket = &self.out[at];
-        let room = self.tried.room_for(self.alloc, &ticket.name)?;
+        let Ok(room) = self.tried.room_for(self.alloc, &ticket.name) else {
+            drop(reply);
+            return Err(OutOfMemory);
+        };
         Ok(Prepared::trying(self.alloc, reply, at, room))
     }
 }

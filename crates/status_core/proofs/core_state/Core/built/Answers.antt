@@ -11,7 +11,7 @@ use Rattle.core_steps.specs.declared.events.Reply.TheVariants.{Built}
 use Rattle.core_steps.specs.Outcomes.{entering}
 use Rattle.core_steps.specs.State.{State}
 use Rattle.core_steps.proofs.Projects.{len_small}
-use Rattle.status_core.specs.Making.{building}
+use Rattle.prepared_events.specs.Making.{building}
 use Rattle.status_core.proofs.Made.{as_made}
 use Rattle.status_core.proofs.Readied.{comes_building}
 use Rattle.status_core.proofs.Sizes.{table_within}
@@ -49,7 +49,7 @@ returns c =
     let told : Built c.len-components.result (length faults) (length c.table.result.now) ≡ reply =
     ap (λ n. Built n (length faults) (length c.table.result.now)) (c.len-components.ensures ∙ ap len c.requires.project)
     ∙ ap (λ n. Built (len texts) (length faults) n) (sym (length-map c.table.result.now arc_value)) in
-    let is : c.building.result ≡ building reply texts = c.building.ensures ∙ ap (λ (r : Reply). building r project) told ∙ ap (building reply) c.requires.project in
+    let is : c.building.result ≡ building reply texts = c.building.ensures.prepared ∙ ap (λ (r : Reply). building r project) told ∙ ap (building reply) c.requires.project in
     let small = subst (λ (z : State). IsSmallProject z.durable.texts) c.self.view_is c.self.invariant.1 in
     let is_table = subst (λ (p : Project). IsTableOf p table) same c.table.ensures.table in
     let are_faults = subst (λ (p : Project). AreFaultsOf p faults) same c.faults.ensures.faults in

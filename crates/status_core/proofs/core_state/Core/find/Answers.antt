@@ -8,7 +8,8 @@ use Rattle.std.specs.FinMap.{entries}
 use Rattle.build_core.specs.Projects.{Project}
 use Rattle.build_core.specs.Tables.{IsTable as IsTableOf}
 use Rattle.core_steps.specs.State.{State}
-use Rattle.status_core.proofs.Finding.{found_at, map_at}
+use Rattle.table_lookup.proofs.Places.{map_at}
+use Rattle.status_core.proofs.Finding.{found_at}
 use Rattle.status_core.proofs.core_state.Core.find.Goals as goal
 
 pub returns-in-None : goal.returns-in-None

@@ -18,6 +18,7 @@ first_open-found-requires c =
     let of = subst (λ (p : Project). IsTableOf p table) c.self.invariant.0 c.table-table.ensures.table in
     record {
       sequents = c.typed_tables.ensures c.self.inside.builder c.texts-texts.ensures.distinct table c.table-table.ensures.table;
+      prints = c.prints.ensures.prints table c.table-table.ensures.table;
       closed = subst (λ (out : List Ticket). AllByRecursion (λ o. CanTake c.self.inside.durable.proofs out c.self.inside.tried o → ⊥) (take c.self.inside.closed table))
           (sym c.deref.ensures.value) (c.self.invariant.2 table of);
     }
@@ -26,7 +27,7 @@ pub invariant_of-self : goal.invariant_of-self
 invariant_of-self c =
     let s : State = record { durable = c.self.inside.durable; out = c.self.inside.out.items; tried = c.self.inside.tried; next = c.self.inside.next } in
     let table = map arc_value c.table-table.result.now in
-    let first = first_of s table c.deref.result.now c.first_open-found.result c.deref.ensures.value c.first_open-found.ensures in
+    let first = first_of s table c.deref.result.now c.first_open-found.result c.deref.ensures.value c.first_open-found.ensures.first in
     let closed = subst (λ (at : ℕ). AllByRecursion (λ o. IsOpen s o → ⊥) (take at table)) (sym c.unwrap_or-self-inside.ensures) (closed_until s table c.first_open-found.result _ first) in (
       c.self.invariant.0,
       c.self.invariant.1,
@@ -40,7 +41,7 @@ returns-clause-first c = λ other of.
     let s : State = record { durable = c.self.inside.durable; out = c.self.inside.out.items; tried = c.self.inside.tried; next = c.self.inside.next } in
     let table = map arc_value c.table-table.result.now in
     let found = c.first_open-found.result in
-    let first = first_of s table c.deref.result.now found c.deref.ensures.value c.first_open-found.ensures in
+    let first = first_of s table c.deref.result.now found c.deref.ensures.value c.first_open-found.ensures.first in
     let built = c.self.invariant.0 ∙ ap (λ (z : State). entries z.durable.built) c.self.view_is in
     let same = c.one_table.ensures c.self.inside.builder c.texts-texts.ensures.distinct table other c.table-table.ensures.table (subst (λ (p : Project). IsTableOf p other) (sym built) of) in
     subst (λ (os : List Obligation). IsFirstOpen c.args.self.now os found) same (subst (λ (z : State). IsFirstOpen z table found) c.self.view_is first)

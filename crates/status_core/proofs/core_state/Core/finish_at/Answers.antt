@@ -9,13 +9,13 @@ use Rattle.core_steps.specs.declared.events.Event.TheVariants.{Finish}
 use Rattle.core_steps.specs.State.{State}
 use Rattle.core_steps.specs.Tickets.{Ends, IsPresentStatus}
 use Rattle.status_core.specs.Parts.{without_at}
-use Rattle.status_core.specs.Prepared.{Prepares}
+use Rattle.prepared_events.specs.Prepared.{Prepares}
 use Rattle.status_core.proofs.Finding.{found_sequent}
 use Rattle.status_core.proofs.Ending.{result_as, noted_named, no_memory_named, finish_result}
 use Rattle.status_core.proofs.core_state.Core.finish_at.Goals as goal
 
 pub present_status-status-requires : goal.present_status-status-requires
-present_status-status-requires c = found_sequent _ _ (option_copied c.find-obligation.result) c.find-obligation.ensures
+present_status-status-requires c = record { sequent = found_sequent _ _ (option_copied c.find-obligation.result) c.find-obligation.ensures }
 
 pub returns-in-NoProof : goal.returns-in-NoProof
 returns-in-NoProof c =
@@ -27,7 +27,7 @@ returns-in-NoProof c =
     let ticket = c.index-ticket.result.now in
     let there = subst (λ (z : State). ticket ≡ get_or z.out at ticket) c.self.view_is c.index-ticket.ensures in
     let some = slice_get-get_or s.out at ticket c.requires.0 ∙ ap Some (sym there) in
-    let shown = subst (λ (z : State). IsPresentStatus z.durable.proofs ticket.name sequent status) c.self.view_is c.present_status-status.ensures in
+    let shown = subst (λ (z : State). IsPresentStatus z.durable.proofs ticket.name sequent status) c.self.view_is c.present_status-status.ensures.status in
     subst (λ (a : Attempt). IfOk c.try_in.result (λ p. Prepares s (Finish c.args.number a) p)) (sym c.in-NoProof.is)
     (finish_result s c.args.number at ticket found NoProof c.try_in.result c.find-obligation.ensures c.requires there
     (result_as s (Ends (without_at s at) ticket sequent NoProof) _ c.try_in.result (noted_named (without_at s at) ticket sequent status c.in_ok-name.name c.in_ok-name.ensures shown)
@@ -43,7 +43,7 @@ returns-in-NoMemory c =
     let ticket = c.index-ticket.result.now in
     let there = subst (λ (z : State). ticket ≡ get_or z.out at ticket) c.self.view_is c.index-ticket.ensures in
     let some = slice_get-get_or s.out at ticket c.requires.0 ∙ ap Some (sym there) in
-    let shown = subst (λ (z : State). IsPresentStatus z.durable.proofs ticket.name sequent status) c.self.view_is c.present_status-status.ensures in
+    let shown = subst (λ (z : State). IsPresentStatus z.durable.proofs ticket.name sequent status) c.self.view_is c.present_status-status.ensures.status in
     subst (λ (a : Attempt). IfOk c.try_in-in-NoMemory.result (λ p. Prepares s (Finish c.args.number a) p)) (sym c.in-NoMemory.is)
     (finish_result s c.args.number at ticket found NoMemory c.try_in-in-NoMemory.result c.find-obligation.ensures c.requires there
     (result_as s (Ends (without_at s at) ticket sequent NoMemory) _ c.try_in-in-NoMemory.result (no_memory_named (without_at s at) ticket sequent status c.in_ok-name.name c.in_ok-name.ensures shown)

@@ -20,7 +20,7 @@ returns-then-branch c = λ ticket there.
     let name = c.args.name in
     let sequent = option_map (λ o. o.sequent) (option_copied c.args.obligation) in
     let named = sym (c.requires.name ticket) ∙ ap (λ (t : Ticket). t.name) (sym (ticket_there s.out at ticket c.requires.within there)) in
-    let can = (c.in_ok-can_store.ensures s.durable.proofs name c.requires.status).0 c.if-branch.true in
+    let can = (c.in_ok-can_store.ensures.can s.durable.proofs name c.requires.status).0 c.if-branch.true in
     result_as s (Ends (without_at s at) ticket sequent (Found tree)) _ c.store.result (stored_named (without_at s at) ticket sequent c.args.status tree name named can) c.store.ensures
 
 pub returns-then-branch-2 : goal.returns-then-branch-2
@@ -35,7 +35,7 @@ returns-then-branch-2 c = λ ticket there.
     let lt = subst (λ (z : State). at < length z.out) (sym c.self.view_is) c.requires.within in
     let same = same_ticket c.self.inside.out.items at c.index.result.now ticket lt c.index.ensures some in
     let good = subst (λ (k : Ticket). IsGoodTree tree k.sequent) same (c.in_ok-is_good.ensures.good.0 c.if-branch-2.true) in
-    let cannot = isnt _ c.if-branch.false (c.in_ok-can_store.ensures s.durable.proofs name c.requires.status) in
+    let cannot = isnt _ c.if-branch.false (c.in_ok-can_store.ensures.can s.durable.proofs name c.requires.status) in
     as_made s (Ends (without_at s at) ticket sequent (Found tree)) c.take_in.result _ c.take_in.ensures
     (stale_named (without_at s at) ticket sequent c.args.status tree name named c.requires.status cannot good)
 
@@ -51,6 +51,6 @@ returns c = λ ticket there.
     let lt = subst (λ (z : State). at < length z.out) (sym c.self.view_is) c.requires.within in
     let same = same_ticket c.self.inside.out.items at c.index.result.now ticket lt c.index.ensures some in
     let bad = λ (g : IsGoodTree tree ticket.sequent). isnt _ c.if-branch-2.false c.in_ok-is_good.ensures.good (subst (λ (k : Ticket). IsGoodTree tree k.sequent) (sym same) g) in
-    let cannot = isnt _ c.if-branch.false (c.in_ok-can_store.ensures s.durable.proofs name c.requires.status) in
+    let cannot = isnt _ c.if-branch.false (c.in_ok-can_store.ensures.can s.durable.proofs name c.requires.status) in
     result_as s (Ends (without_at s at) ticket sequent (Found tree)) _ c.try_in.result
     (refused_named (without_at s at) ticket sequent c.args.status tree name named c.requires.status cannot bad) (c.try_in.ensures ticket there)

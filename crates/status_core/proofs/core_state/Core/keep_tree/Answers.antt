@@ -1,7 +1,8 @@
-use Rattle.status_core.proofs.Made.{if_ok, so_made}
+use Rattle.std.proofs.Common.{subst}
+use Rattle.core_steps.specs.Proving.{Keeps}
+use Rattle.prepared_events.specs.Prepared.{ComesAs}
 use Rattle.status_core.proofs.core_state.Core.keep_tree.Goals as goal
 
 pub returns : goal.returns
 returns c =
-    if_ok _ _ _ (λ p m. so_made _ _ _ p (λ x e. (c.status_by-status.result, c.status_by-status.ensures c.args.tree c.in_ok-facts.ensures, e)) m)
-    (rw (c.in_ok-told.ensures, c.in_ok-name.ensures) at c.keep.ensures)
+    subst (λ name. ComesAs c.args.self.now (Keeps c.args.self.now name c.args.sequent.now c.args.tree) c.keep_held.result) c.in-Ok.ensures.1 c.keep_held.ensures

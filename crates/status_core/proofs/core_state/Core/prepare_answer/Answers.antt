@@ -2,7 +2,7 @@ use Rattle.std.proofs.Common.{sym, subst}
 use Rattle.std.specs.Prelude.{IfOk}
 use Rattle.core_steps.specs.declared.events.Question.{Question}
 use Rattle.core_steps.specs.declared.events.Event.TheVariants.{Ask}
-use Rattle.status_core.specs.Prepared.{Prepares}
+use Rattle.prepared_events.specs.Prepared.{Prepares}
 use Rattle.status_core.proofs.core_state.Core.prepare_answer.Goals as goal
 
 pub returns-in-Statuses-clause-prepared : goal.returns-in-Statuses-clause-prepared
@@ -20,6 +20,10 @@ returns-in-Show-clause-prepared c =
 pub returns-in-TreeOf-clause-prepared : goal.returns-in-TreeOf-clause-prepared
 returns-in-TreeOf-clause-prepared c =
     subst (λ (q : Question). IfOk c.prepare_tree.result (λ p. Prepares c.args.self.now (Ask q) p)) (sym c.in-TreeOf.is) c.prepare_tree.ensures
+
+pub returns-in-Digest-clause-prepared : goal.returns-in-Digest-clause-prepared
+returns-in-Digest-clause-prepared c =
+    subst (λ (q : Question). IfOk c.prepare_digest.result (λ p. Prepares c.args.self.now (Ask q) p)) (sym c.in-Digest.is) c.prepare_digest.ensures
 
 pub returns-in-Idle-clause-prepared : goal.returns-in-Idle-clause-prepared
 returns-in-Idle-clause-prepared c =

@@ -10,7 +10,7 @@ use Rattle.core_steps.specs.Durable.{IsSmallProject}
 use Rattle.core_steps.specs.Editing.{lacking}
 use Rattle.core_steps.specs.Outcomes.{entering}
 use Rattle.core_steps.specs.State.{State}
-use Rattle.status_core.specs.Making.{purging}
+use Rattle.prepared_events.specs.Making.{purging}
 use Rattle.status_core.proofs.Made.{as_made}
 use Rattle.status_core.proofs.Readied.{comes_purging}
 use Rattle.status_core.proofs.core_state.Core.prepare_purge.Goals as goal
@@ -30,5 +30,5 @@ returns c =
     let whole : vec_len c.in_ok-names.names ≡ length c.in_ok-names.names.items = search rules in
     let told : Purged c.len.result ≡ Purged (length names) = ap Purged (c.len.ensures ∙ whole ∙ ap length names_is) in
     let is : p ≡ purging (Purged (length names)) names =
-    c.purging.ensures ∙ ap (λ (r : Reply). purging r c.of.result) told ∙ ap (purging (Purged (length names))) (c.of.ensures ∙ names_is) in
+    c.purging.ensures.prepared ∙ ap (λ (r : Reply). purging r c.of.result) told ∙ ap (purging (Purged (length names))) (c.of.ensures ∙ names_is) in
     as_made s _ p (entering s (Purged (length names)) (Purge names)) (comes_purging s p small (Purged (length names)) names is) (table, of, refl)

@@ -21,20 +21,18 @@ returns-in-Ok c =
     let name = c.args.name.now in
     let sequent = c.args.sequent.now in
     let path = c.args.path.now in
-    let is : c.in_ok-tree.tree ≡ stored_tree s.durable.proofs name =
-    c.in_ok-tree.ensures ∙ c.tree_of.ensures ∙ ap tree_in (c.get.ensures ∙ ap (λ (z : State). get z.durable.proofs name) c.self.view_is) in
+    let is : c.in_ok-tree.tree ≡ stored_tree s.durable.proofs name = c.in_ok-tree.ensures in
     let some = subst (λ t. rule_at path t ≡ None → ⊥) is (λ none. let no = c.in-Ok.ensures.no_node.1 none in cc) in
     let put_is = c.in-Ok.ensures.put ∙ ap (λ t. put path Leaf t) is in
     if_ok _ _ _ (λ p m. so_made _ _ _ p (λ x y. where_some (rule_at path (stored_tree s.durable.proofs name)) (x ≡ told s NoNode)
     (Keeps s name sequent (put path Leaf (stored_tree s.durable.proofs name)) x) some (subst (λ t. Keeps s name sequent t x) put_is y)) m) c.keep_tree.ensures
 
-pub returns : goal.returns
-returns c =
+pub returns-in-Err : goal.returns-in-Err
+returns-in-Err c =
     let s = c.args.self.now in
     let name = c.args.name.now in
     let path = c.args.path.now in
-    let is : c.in_ok-tree.tree ≡ stored_tree s.durable.proofs name =
-    c.in_ok-tree.ensures ∙ c.tree_of.ensures ∙ ap tree_in (c.get.ensures ∙ ap (λ (z : State). get z.durable.proofs name) c.self.view_is) in
+    let is : c.in_ok-tree.tree ≡ stored_tree s.durable.proofs name = c.in_ok-tree.ensures in
     let none = subst (λ t. rule_at path t ≡ None) is (c.in-Err.ensures.no_node.0 refl) in
     as_made _ _ c.tell.result _ c.tell.ensures
     (subst (λ (o : Option Rule). MatchOption o (told s NoNode ≡ told s NoNode) (λ r. Keeps s name c.args.sequent.now (put path Leaf (stored_tree s.durable.proofs name)) (told s NoNode))) (sym none) refl)

@@ -5,8 +5,8 @@ use Rattle.core_steps.specs.Editing.{IsFullFor}
 use Rattle.core_steps.specs.State.{State}
 use Rattle.core_steps.specs.Outcomes.{entering}
 use Rattle.core_steps.proofs.Projects.{put_small}
-use Rattle.status_core.specs.Making.{putting}
-use Rattle.status_core.specs.Prepared.{ComesAs}
+use Rattle.prepared_events.specs.Making.{putting}
+use Rattle.prepared_events.specs.Prepared.{ComesAs}
 use Rattle.status_core.proofs.Readied.{comes_putting}
 use Rattle.status_core.proofs.core_state.Core.put_text.Goals as goal
 
@@ -16,7 +16,7 @@ returns c =
     let name = c.args.name.now in
     let text = c.args.text.now in
     let room = c.in_ok-room.room in
-    let is : p ≡ putting (Edited name) name text room = c.putting.ensures ∙ rw (c.in_ok-edited.ensures, c.in_ok-name.ensures, c.in_ok-text.ensures) refl in
+    let is : p ≡ putting (Edited name) name text room = c.putting.ensures.prepared ∙ rw (c.in_ok-edited.ensures, c.in_ok-name.ensures, c.in_ok-text.ensures) refl in
     let full = subst (λ (s : State). IsFullFor s.durable.texts name → ⊥) (sym c.self.view_is) c.requires.room in
     let small = put_small c.self.inside.durable.texts name text c.self.invariant.1 c.requires.short full in
     subst (λ (s : State). ComesAs s (λ x. x ≡ entering s (Edited name) (Put name text)) p) c.self.view_is

@@ -13,5 +13,5 @@ returns c = record {
       let name = c.args.name.now in
       let status = c.present_status.result in
       found_rebuilt c.args.self.now.durable name found status c.find-obligation.ensures
-      (subst (λ (z : State). IsPresentStatus z.durable.proofs name (option_map (λ (o : Obligation). o.sequent) found) status) c.self.view_is c.present_status.ensures);
+      (subst (λ (z : State). IsPresentStatus z.durable.proofs name (option_map (λ (o : Obligation). o.sequent) found) status) c.self.view_is c.present_status.ensures.status);
 }

@@ -10,7 +10,7 @@ use Rattle.core_steps.specs.Tickets.{IsOpen}
 use Rattle.core_steps.proofs.Lists.{split}
 use Rattle.status_core.specs.Parts.{IsFirstOpen}
 use Rattle.status_core.proofs.Made.{if_ok, so_made, as_made}
-use Rattle.status_core.proofs.Finding.{map_at}
+use Rattle.table_lookup.proofs.Places.{map_at}
 use Rattle.status_core.proofs.core_state.Core.take_at.Goals as goal
 
 pub returns-in-None : goal.returns-in-None

@@ -2,8 +2,8 @@ use Rattle.std.proofs.Common.{◌≡◌, ◌∙◌, ◌+◌, ◌<◌, ◌^◌, l
 use Rattle.core_steps.specs.declared.events.Reply.TheVariants.{Taken}
 use Rattle.core_steps.specs.State.{State}
 use Rattle.core_steps.specs.Tickets.{taking, ticket_for}
-use Rattle.status_core.specs.Making.{sending}
-use Rattle.status_core.specs.Prepared.{ComesAs}
+use Rattle.prepared_events.specs.Making.{sending}
+use Rattle.prepared_events.specs.Prepared.{ComesAs}
 use Rattle.status_core.proofs.Readied.{comes_sending}
 use Rattle.status_core.proofs.core_state.Core.taking.Goals as goal
 
@@ -13,7 +13,7 @@ returns c =
     let o = c.args.obligation.now in
     let ticket = ticket_for c.self.inside.next o in
     let room = c.in_ok-room.room in
-    let is : p ≡ sending (Taken ticket) ticket room = c.sending.ensures ∙ rw (c.in_ok-told.ensures, c.in_ok-kept.ensures) refl in
+    let is : p ≡ sending (Taken ticket) ticket room = c.sending.ensures.prepared ∙ rw (c.in_ok-told.ensures, c.in_ok-kept.ensures) refl in
     let more : length c.self.inside.out.items < room = omega (arith, c.in_ok-room.ensures, c.len.ensures) in
     let next = subst (λ (s : State). s.next + 1 < 2 ^ 64) (sym c.self.view_is) c.requires in
     subst (λ (s : State). ComesAs s (λ x. x ≡ taking s o) p) c.self.view_is

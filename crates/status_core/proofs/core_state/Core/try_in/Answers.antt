@@ -3,7 +3,7 @@ use Rattle.std.specs.Prelude.{Some, slice_get}
 use Rattle.core_steps.specs.State.{State}
 use Rattle.core_steps.specs.Outcomes.{told}
 use Rattle.core_steps.specs.Tickets.{tried_with}
-use Rattle.status_core.specs.Prepared.{ComesAs}
+use Rattle.prepared_events.specs.Prepared.{ComesAs}
 use Rattle.status_core.specs.Parts.{without_at}
 use Rattle.status_core.proofs.Finished.{comes_trying, same_ticket}
 use Rattle.status_core.proofs.core_state.Core.try_in.Goals as goal
@@ -17,4 +17,4 @@ returns c = λ ticket there.
     let lt = subst (λ (s : State). at < length s.out) (sym c.self.view_is) c.requires in
     let same = same_ticket c.self.inside.out.items at c.index-ticket.result.now ticket lt c.index-ticket.ensures some in
     subst (λ (s : State). ComesAs s (λ x. x ≡ told (tried_with (without_at s at) ticket) reply) p) c.self.view_is
-    (comes_trying _ p c.self.invariant.1 reply at c.in_ok-room.room ticket c.trying.ensures lt some (rw same at c.in_ok-room.ensures))
+    (comes_trying _ p c.self.invariant.1 reply at c.in-Ok.room ticket c.trying.ensures.prepared lt some (rw same at c.in-Ok.ensures))

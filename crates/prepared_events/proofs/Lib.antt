@@ -1,0 +1,2 @@
+pub mod EnteredParts
+pub mod StillClosed

@@ -1,0 +1,10 @@
+use Rattle.std.proofs.Common.{subst}
+use Rattle.core_steps.specs.Status.{IsUnsettled}
+use Rattle.core_steps.proofs.OneWay.{one_status}
+use Rattle.table_lookup.proofs.lookup.is_unsettled_by.Goals as goal
+
+pub returns : goal.returns
+returns c = (
+  (λ t. (c.status_of.result, c.status_of.ensures.status, c.is_unsettled.ensures.0 t)),
+  (λ un. c.is_unsettled.ensures.1 (subst IsUnsettled (one_status _ _ un.0 c.status_of.result un.1 c.status_of.ensures.status) un.2)),
+)

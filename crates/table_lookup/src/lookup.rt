@@ -1,0 +1,208 @@
+// Looking for tickets, and for what is known of an obligation.
+ghost use Rattle.std.specs.Prelude.{◌≡◌, ◌≢◌, ◌<◌, ◌↔◌, ℕ, List, length, map, take, IsTrue, IfOk, IfSome, MatchOption, Some};
+ghost use Rattle.std.specs.Option.{option_copied, option_map};
+ghost use Rattle.std.specs.FinMap.{FinMap, get};
+ghost use Rattle.std.specs.List.{AllByRecursion, HoldsAt};
+ghost use Rattle.std.specs.Arc.{arc_value};
+ghost use Rattle.sequent_core.specs.Sequents.{IsSequent};
+ghost use Rattle.po_rules.specs.Sequents.{AreSequents};
+ghost use Rattle.proof_entries.specs.declared.Proof.{Proof};
+ghost use Rattle.core_steps.specs.Durable.{text_cmp};
+ghost use Rattle.core_steps.specs.Status.{IsStatus, IsUnsettledBy, origin_of};
+ghost use Rattle.core_steps.specs.Tickets.{CanTake, IsFor, IsPresentStatus, CanStore};
+ghost use Rattle.table_lookup.specs.Tickets.{IsTicketAt};
+ghost use Rattle.table_lookup.specs.Prints.{prints_in};
+
+use core_steps::{PoMap, Status, StoredProof, is_unsettled};
+use formula_core::{List, OutOfMemory, PoName};
+use proof_entries::Origin;
+use proof_tree::is_good;
+use sequent_core::{Obligation, Sequent, Ticket, Tree};
+use std::alloc::Global;
+use std::sync::Arc;
+
+fn is_for(ticket: &Ticket, obligation: &Obligation) -> bool
+    ensures { IsTrue result ↔ IsFor obligation.now ticket.now }
+{
+    ticket.name.same(&obligation.name) && ticket.sequent.same(&obligation.sequent)
+}
+
+// Whether no ticket for this obligation is out.
+fn is_not_out(out: &[Ticket], obligation: &Obligation) -> bool
+    ensures { IsTrue result ↔ AllByRecursion (λ ticket. IsFor obligation.now ticket → ⊥) out.now }
+{
+    for ticket in out {
+        if is_for(ticket, obligation) {
+            return false;
+        }
+    }
+    true
+}
+
+// Whether the sequent of this obligation isn't the last tried one of its name.
+fn is_not_tried(tried: &PoMap<Sequent>, obligation: &Obligation) -> bool
+    ensures { IsTrue result ↔ (get tried.now obligation.now.name ≢ Some obligation.now.sequent) }
+{
+    match tried.get(&obligation.name) {
+        None => true,
+        Some(sequent) => !sequent.same(&obligation.sequent),
+    }
+}
+
+/// The status of the proof that is stored under the name.
+pub fn status_of(proofs: &PoMap<StoredProof>, name: &PoName, sequent: &Sequent) -> Status
+    requires sequent { IsSequent sequent.now }
+    ensures status { IsStatus (get proofs.now name.now) sequent.now result }
+{
+    match proofs.get(name) {
+        None => Status::Unattempted,
+        Some(stored) => stored.status(sequent),
+    }
+}
+
+/// The same, with the numbers of the sequent's hypotheses, by which they are looked for.
+pub fn status_with(
+    proofs: &PoMap<StoredProof>,
+    obligation: &Obligation,
+    prints: &List<u64>,
+) -> Status
+    requires sequent { IsSequent obligation.now.sequent }
+    requires prints { prints.now ≡ prints_in obligation.now }
+    ensures status { IsStatus (get proofs.now obligation.now.name) obligation.now.sequent result }
+{
+    match proofs.get(&obligation.name) {
+        None => Status::Unattempted,
+        Some(stored) => stored.status_with(&obligation.sequent, prints),
+    }
+}
+
+/// Who made the proof that is stored under the name.
+pub fn origin_of(proofs: &PoMap<StoredProof>, name: &PoName) -> Option<Origin>
+    ensures origin { result ≡ origin_of (get proofs.now name.now) }
+{
+    match proofs.get(name) {
+        None => None,
+        Some(stored) => stored.origin(),
+    }
+}
+
+// Whether the obligation is unattempted or broken.
+fn is_unsettled_by(proofs: &PoMap<StoredProof>, obligation: &Obligation) -> bool
+    requires { IsSequent obligation.now.sequent }
+    ensures { IsTrue result ↔ IsUnsettledBy proofs.now obligation.now }
+{
+    is_unsettled(status_of(proofs, &obligation.name, &obligation.sequent))
+}
+
+// The same, with the numbers of its hypotheses.
+fn is_unsettled_with(
+    proofs: &PoMap<StoredProof>,
+    obligation: &Obligation,
+    prints: &List<u64>,
+) -> bool
+    requires sequent { IsSequent obligation.now.sequent }
+    requires prints { prints.now ≡ prints_in obligation.now }
+    ensures { IsTrue result ↔ IsUnsettledBy proofs.now obligation.now }
+{
+    is_unsettled(status_with(proofs, obligation, prints))
+}
+
+/// Whether the obligation is unattempted or broken, and no ticket for it is out.
+pub fn is_free(proofs: &PoMap<StoredProof>, out: &[Ticket], obligation: &Obligation) -> bool
+    requires sequent { IsSequent obligation.now.sequent }
+    ensures free { IsTrue result ↔ (IsUnsettledBy proofs.now obligation.now × AllByRecursion (λ ticket. IsFor obligation.now ticket → ⊥) out.now) }
+{
+    is_unsettled_by(proofs, obligation) && is_not_out(out, obligation)
+}
+
+// Whether the obligation is open.
+fn can_take(
+    proofs: &PoMap<StoredProof>,
+    out: &[Ticket],
+    tried: &PoMap<Sequent>,
+    obligation: &Obligation,
+    prints: &List<u64>,
+) -> bool
+    requires sequent { IsSequent obligation.now.sequent }
+    requires prints { prints.now ≡ prints_in obligation.now }
+    ensures { IsTrue result ↔ CanTake proofs.now out.now tried.now obligation.now }
+{
+    is_not_out(out, obligation)
+        && is_not_tried(tried, obligation)
+        && is_unsettled_with(proofs, obligation, prints)
+}
+
+/// The place of the first open obligation, where none before `from` is open.
+pub fn first_open(
+    proofs: &PoMap<StoredProof>,
+    out: &[Ticket],
+    tried: &PoMap<Sequent>,
+    table: &[Arc<Obligation>],
+    prints: &[List<u64>],
+    from: usize,
+) -> Option<usize>
+    requires sequents { AreSequents (map arc_value table.now) }
+    requires prints { prints.now ≡ map prints_in (map arc_value table.now) }
+    requires closed { AllByRecursion (λ o. CanTake proofs.now out.now tried.now o → ⊥) (take from (map arc_value table.now)) }
+    ensures first { MatchOption result
+        (AllByRecursion (λ o. CanTake proofs.now out.now tried.now o → ⊥) (map arc_value table.now))
+        (λ at. (at < length (map arc_value table.now)) × AllByRecursion (λ o. CanTake proofs.now out.now tried.now o → ⊥) (take at (map arc_value table.now))
+        × HoldsAt (λ o. CanTake proofs.now out.now tried.now o) (map arc_value table.now) at) }
+{
+    for at in from..table.len() {
+        if can_take(proofs, out, tried, &table[at], &prints[at]) {
+            return Some(at);
+        }
+    }
+    None
+}
+
+/// The place of the first ticket of this number.
+pub fn ticket_at(out: &[Ticket], number: u64) -> Option<usize>
+    ensures place { IsTicketAt out.now number result }
+{
+    for (at, ticket) in out.iter().enumerate() {
+        if ticket.number == number {
+            return Some(at);
+        }
+    }
+    None
+}
+
+/// The status of the name for its present sequent.
+pub fn present_status(
+    proofs: &PoMap<StoredProof>,
+    name: &PoName,
+    obligation: Option<&Obligation>,
+) -> Option<Status>
+    requires sequent { IfSome (option_copied obligation) (λ o. IsSequent o.sequent) }
+    ensures status { IsPresentStatus proofs.now name.now (option_map (λ o. o.sequent) (option_copied obligation.entry)) result }
+{
+    match obligation {
+        None => None,
+        Some(obligation) => Some(status_of(proofs, name, &obligation.sequent)),
+    }
+}
+
+/// Whether the tree may be stored for the present sequent of a name, whose status this is.
+pub fn can_store(
+    alloc: Global,
+    status: Option<Status>,
+    obligation: Option<&Obligation>,
+    tree: &Tree,
+) -> Result<bool, OutOfMemory>
+    ensures can { (proofs : FinMap text_cmp Proof) (name : List ℕ) →
+        IsPresentStatus proofs name (option_map (λ o. o.sequent) (option_copied obligation.entry)) status →
+        IfOk result (λ can. IsTrue can ↔ CanStore proofs name (option_map (λ o. o.sequent) (option_copied obligation.entry)) tree.now) }
+{
+    let Some(obligation) = obligation else {
+        return Ok(false);
+    };
+    let Some(status) = status else {
+        return Ok(false);
+    };
+    if !is_unsettled(status) {
+        return Ok(false);
+    }
+    is_good(tree, alloc, &obligation.sequent)
+}
