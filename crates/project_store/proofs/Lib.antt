@@ -1,0 +1,13 @@
+pub mod Moments
+pub mod Further
+pub mod Shorts
+pub mod Replays
+pub mod Starting
+pub mod Keeping
+pub mod Preparing
+pub mod Bodies
+pub mod Versions
+pub mod Applying
+pub mod Logs
+pub mod Taking
+pub mod Works

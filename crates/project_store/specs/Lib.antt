@@ -1,0 +1,5 @@
+pub mod Records
+pub mod Opening
+pub mod Store
+pub mod Private
+pub mod Marks

@@ -1,0 +1,55 @@
+// What entries make of a project.
+ghost use Rattle.std.specs.Prelude.{◌≡◌, OnOk};
+ghost use Rattle.core_steps.specs.State.{entered, without_all};
+ghost use Rattle.project_store.specs.Records.{after_all};
+
+use core_steps::{Durable, PoMap, Project, StoredProof};
+use formula_core::{OutOfMemory, PoName};
+use proof_entries::Entry;
+use std::alloc::Global;
+
+/// The durable after these entries. After a refusal it is of no use.
+pub(crate) fn enter_all(
+    alloc: Global,
+    durable: &mut Durable,
+    entries: Vec<Entry>,
+) -> Result<(), OutOfMemory>
+    ensures { OnOk result (durable.new ≡ after_all durable.old entries.items) }
+{
+    for entry in entries {
+        enter(alloc, durable, entry)?;
+    }
+    Ok(())
+}
+
+fn enter(alloc: Global, durable: &mut Durable, entry: Entry) -> Result<(), OutOfMemory>
+    ensures { OnOk result (durable.new ≡ entered durable.old entry) }
+{
+    match entry {
+        Entry::Put(name, text) => durable.texts.put(name, text),
+        Entry::Drop(name) => {
+            durable.texts.remove(&name);
+            Ok(())
+        }
+        Entry::Build => {
+            durable.built = Project::of(alloc, &durable.texts)?;
+            Ok(())
+        }
+        Entry::SetProof(name, proof) => {
+            let stored = StoredProof::of(alloc, proof)?;
+            durable.proofs.put(name, stored)
+        }
+        Entry::Purge(names) => {
+            remove_all(&mut durable.proofs, names.items());
+            Ok(())
+        }
+    }
+}
+
+fn remove_all(proofs: &mut PoMap<StoredProof>, names: &[PoName])
+    ensures { proofs.new ≡ without_all proofs.old names.now }
+{
+    for name in names {
+        proofs.remove(name);
+    }
+}
