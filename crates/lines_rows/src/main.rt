@@ -8,9 +8,10 @@ use session_lines::{Command, Input};
 use std::alloc::Global;
 use std::io;
 
-// Blank lines and comments, a carriage return before a line feed, words that no edit has, texts, and an edit that is cut off.
+// Blank lines and comments, U+00A0 as a blank, a carriage return before a line feed, words that no edit has, texts, and an edit that is cut off.
 const INPUT: &[u8] =
     b"build\r\n\n  // a comment that does not begin the line\n// a comment\n \t\nedit c0\ncontext c0\r\nend\n.\n\
+\xc2\xa0 \n\xc2\xa0edit\xc2\xa0m1\n.\n\
 edit\nedit a b\n edit  m0 \n..\n . \n\n.\nedits x\nshow c0/thm1/THM -\nquit\nedit z\nlast";
 
 fn text_of(bytes: &[u8]) -> &str {

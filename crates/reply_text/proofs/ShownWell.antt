@@ -264,6 +264,7 @@ module _ (s : State) (x : Outcome) (table : List Obligation) (sequents : AreSequ
   told_well ask.Faults a = right _ tt a.4
   told_well (ask.Show name path) a = on_obligation name _ (λ q w. shows_at name path q w) a
   told_well (ask.TreeOf name) a = on_obligation name _ (λ q w. shows_tree name q w) a
+  told_well ask.Digest a = right _ tt a
   told_well ask.Idle a = where_any (right _ tt) (right _ tt) a
 
   well_beside : (e : Event) → ComesBeside s table e x → Right x

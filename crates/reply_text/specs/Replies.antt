@@ -11,6 +11,7 @@ use Rattle.core_steps.specs.declared.NodeLine.{NodeLine}
 use Rattle.core_steps.specs.declared.Status.{Status}
 use Rattle.core_steps.specs.declared.Reply.{Reply}
 use Rattle.core_steps.specs.declared.Reply.TheVariants as reply
+use Rattle.reply_text.specs.Digests.{hex_text}
 use Rattle.reply_text.specs.Faults.{faults_text}
 use Rattle.reply_text.specs.Printing.{sequent_text, tree_line}
 use Rattle.reply_text.specs.Statuses.{line, status_word, named_status, statuses_text}
@@ -70,6 +71,7 @@ reply_text (reply.Statuses shown) = statuses_text shown
 reply_text (reply.Faults told warned) = faults_text told warned
 reply_text (reply.Shown name status sequent) = line (named_status name status) ++ sequent_text sequent
 reply_text (reply.Nodes nodes) = flat_map tree_line nodes
+reply_text (reply.Digest digest) = line (hex_text digest)
 reply_text (reply.Idle true) = line (codes "idle")
 reply_text (reply.Idle false) = []
 

@@ -1,6 +1,7 @@
 //! The printed texts of the core's replies.
 #![tactic(auto)]
 
+mod digests;
 mod faults;
 mod laws;
 mod pieces;

@@ -5,6 +5,7 @@ ghost use Rattle.formula_core.specs.Substitution.{AreWell};
 ghost use Rattle.reply_text.specs.Replies.{refused, rule_fault_words, status_or_gone, attempt_line, reply_text, shown_formulas};
 ghost use Rattle.reply_text.specs.Statuses.{line, named_status};
 
+use crate::digests::add_digest;
 use crate::faults::add_all_faults;
 use crate::pieces::{add_line, add_number, add_words};
 use crate::sequents::{add_nodes, add_sequent};
@@ -181,6 +182,7 @@ fn add_reply(alloc: Global, out: &mut String, reply: &Reply) -> Result<(), OutOf
             add_sequent(alloc, out, sequent)
         }
         Reply::Nodes(nodes) => add_nodes(alloc, out, nodes.items()),
+        Reply::Digest(digest) => add_digest(out, digest),
         Reply::Idle(is_idle) => add_idle(out, *is_idle),
     }
 }

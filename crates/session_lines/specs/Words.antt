@@ -1,17 +1,18 @@
--- Words of a line, which blanks separate.
-use Rattle.std.specs.Prelude.{ℕ, Bool, not, ◌||◌, ◌==◌, List, take, drop}
-use Rattle.std.specs.List.{prefix_len}
-
--- a space, a tab or a carriage return
-abbrev pub is_separator : ℕ → Bool
-is_separator c = c == 32 || (c == 9 || c == 13)
+-- Words of a line, which blanks separate. The blanks are those of formulas: space, tab, carriage return, line feed, which no line has, and U+00A0,
+-- whose two bytes are 194 and 160.
+use Rattle.std.specs.Prelude.{ℕ, ◌+◌, ◌&&◌, ◌==◌, List, [], ◌∷◌, take, drop, if◌then◌else◌}
+use Rattle.formula_core.specs.Texts.{is_ascii_blank, begins_with_blank}
 
 -- what follows the blanks at the front
 abbrev pub after_blanks : List ℕ → List ℕ
-after_blanks line = drop (prefix_len is_separator line) line
+after_blanks [] = []
+after_blanks (c ∷ []) = if is_ascii_blank c then [] else c ∷ []
+after_blanks (c ∷ d ∷ line) = if is_ascii_blank c then after_blanks (d ∷ line) else (if c == 194 && d == 160 then after_blanks line else c ∷ d ∷ line)
 
+-- how many bytes stand before the first blank
 abbrev pub word_length : List ℕ → ℕ
-word_length line = prefix_len (λ c. not (is_separator c)) line
+word_length [] = 0
+word_length (c ∷ line) = if begins_with_blank (c ∷ line) then 0 else 1 + word_length line
 
 -- the bytes before the first blank
 abbrev pub first_word : List ℕ → List ℕ

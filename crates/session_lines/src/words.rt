@@ -1,32 +1,39 @@
-ghost use Rattle.std.specs.Prelude.{◌≡◌};
-ghost use Rattle.std.specs.List.{prefix_len};
-ghost use Rattle.session_lines.specs.Words.{is_separator, after_blanks, word_length, first_word, behind_word};
+ghost use Rattle.std.specs.Prelude.{◌≡◌, ◌≤◌, length};
+ghost use Rattle.formula_core.specs.Texts.{begins_with_blank};
+ghost use Rattle.session_lines.specs.Words.{after_blanks, word_length, first_word, behind_word};
 
-/// Whether a byte separates words: a space, a tab or a carriage return.
-fn is_separator(byte: u8) -> bool
-    ensures { result ≡ is_separator byte }
-{
-    byte == b' ' || byte == b'\t' || byte == b'\r'
-}
+use math_tokens::blank_length;
 
 /// What follows the blanks at the front of a line.
 pub fn after_blanks(line: &[u8]) -> &[u8]
     ensures { result.now ≡ after_blanks line.now }
 {
-    line.split_at(blank_length(line)).1
+    let mut rest = line;
+    let mut blank = blank_length(rest);
+    while 0 < blank {
+        rest = &rest[blank..];
+        blank = blank_length(rest);
+    }
+    rest
 }
 
-/// How many blanks a line begins with.
-fn blank_length(line: &[u8]) -> usize
-    ensures { result ≡ prefix_len is_separator line.now }
+fn begins_with_blank(line: &[u8]) -> bool
+    ensures { result ≡ begins_with_blank line.now }
 {
-    line.iter().take_while(|c| is_separator(**c)).count()
+    blank_length(line) > 0
 }
 
+/// How many bytes stand before the first blank of a line.
 fn word_length(line: &[u8]) -> usize
-    ensures { result ≡ word_length line.now }
+    ensures place { result ≡ word_length line.now }
+    ensures within { result ≤ length line.now }
 {
-    line.iter().take_while(|c| !is_separator(**c)).count()
+    for at in 0..line.len() {
+        if begins_with_blank(&line[at..]) {
+            return at;
+        }
+    }
+    line.len()
 }
 
 /// The bytes before the first blank of a line.

@@ -1,0 +1,5 @@
+pub mod Calls
+pub mod Names
+pub mod OneWay
+pub mod Readings
+pub mod Saying

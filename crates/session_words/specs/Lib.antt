@@ -1,0 +1,4 @@
+pub mod Lines
+pub mod Private
+pub mod Reading
+pub mod Says
