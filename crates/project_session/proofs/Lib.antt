@@ -1,0 +1,6 @@
+mod CrossingBuilds
+mod CrossingFormulas
+mod CrossingModels
+mod CrossingParts
+mod CrossingRules
+mod CrossingStore

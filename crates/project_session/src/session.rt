@@ -1,0 +1,116 @@
+//! `session WORKERS`, from the opening of the project to the status.
+ghost use Rattle.std.specs.Prelude.{◌≡◌, ◌≤◌, [], None};
+ghost use Rattle.outside.specs.Cause.{Rose};
+ghost use Rattle.core_steps.specs.State.{opened};
+ghost use Rattle.prover_pool.specs.Shift.{fair};
+ghost use Rattle.session_streams.specs.Streams.{reading, writing};
+ghost use Rattle.session_ends.specs.Sessions.{Sessions, IsSession, Opens};
+ghost use Rattle.session_ends.specs.Statuses.{IsSessionStatus};
+
+use outside::{Disk, Gate, Sink, Source};
+use project_store::Store;
+use sequent_core::Prover;
+use session_ends::{Ended, end_played, end_unplayed, open_store, refuse};
+use session_play::play;
+use std::alloc::Global;
+use std::marker::Brand;
+use std::sync::Wait;
+use std::sync::ledger::Blank;
+use std::thread::Threads;
+
+// Plays a session on an opened store.
+fn run_opened<
+    R: Threads + Wait + Sync,
+    I: Source,
+    O: Sink,
+    D: Disk + Send,
+    P: Prover + Sync,
+    G: Gate + Sync,
+>(
+    rt: &R,
+    alloc: Global,
+    workers: u32,
+    store: Store<D>,
+    input: &mut I,
+    output: &mut O,
+    prover: &P,
+    gate: &G,
+) -> Ended<D>
+    requires workers { workers ≤ 8 }
+    requires begun { (store.core ≡ opened store.base) × (store.history ≡ []) × (store.kept ≡ None) }
+    ensures { (old : D) → Opens D.told D.bytes_of D.images D.faults old store →
+        IsSession D.told D.bytes_of D.images D.faults
+        (fair (P.answers prover.now) (P.sure prover.now)) (P.sure prover.now) workers old result.disk
+        (reading (I.left input.old) (I.left input.new) (I.faults input.old) (I.faults input.new))
+        (writing (O.written output.old) (O.written output.new) (O.faults output.old) (O.faults output.new))
+        result.status result.history.items result.last }
+{
+    match play(rt, alloc, workers, store, input, output, prover, gate) {
+        Ok((store, ending)) => end_played(store, ending, output, prover),
+        Err(store) => end_unplayed(store, output, prover),
+    }
+}
+
+// Opens the project on the disk, and plays a session on it.
+fn open_and_run<
+    R: Threads + Wait + Sync,
+    I: Source,
+    O: Sink,
+    D: Disk + Send,
+    P: Prover + Sync,
+    G: Gate + Sync,
+>(
+    rt: &R,
+    alloc: Global,
+    workers: u32,
+    input: &mut I,
+    output: &mut O,
+    disk: D,
+    prover: &P,
+    gate: &G,
+) -> Ended<D>
+    requires workers { workers ≤ 8 }
+    ensures { Sessions D.told D.bytes_of D.images D.faults
+        (fair (P.answers prover.now) (P.sure prover.now)) (P.sure prover.now) workers disk result.disk
+        (reading (I.left input.old) (I.left input.new) (I.faults input.old) (I.faults input.new))
+        (writing (O.written output.old) (O.written output.new) (O.faults output.old) (O.faults output.new))
+        result.status result.history.items result.last }
+{
+    match open_store::<Brand, D>(alloc, disk, Blank::new(1)) {
+        Ok(store) => run_opened(rt, alloc, workers, store, input, output, prover, gate),
+        Err((disk, fault)) => refuse(alloc, output, disk, fault),
+    }
+}
+
+/// `session WORKERS`: opens the project on the disk, reads the commands of the source and writes the answers to the
+/// sink, while so many workers prove beside it, until the commands end.
+pub fn run_session<
+    R: Threads + Wait + Sync,
+    I: Source,
+    O: Sink,
+    D: Disk + Send,
+    P: Prover + Sync,
+    G: Gate + Sync,
+>(
+    rt: &R,
+    alloc: Global,
+    workers: u32,
+    input: &mut I,
+    output: &mut O,
+    disk: D,
+    prover: &P,
+    gate: &G,
+) -> Ended<D>
+    requires workers { workers ≤ 8 }
+    ensures session { Sessions D.told D.bytes_of D.images D.faults
+        (fair (P.answers prover.now) (P.sure prover.now)) (P.sure prover.now) workers disk result.disk
+        (reading (I.left input.old) (I.left input.new) (I.faults input.old) (I.faults input.new))
+        (writing (O.written output.old) (O.written output.new) (O.faults output.old) (O.faults output.new))
+        result.status result.history.items result.last }
+    ensures known { IsSessionStatus result.status }
+    ensures read_fault { result.status ≡ 3 → Rose (I.faults input.old) (I.faults input.new) }
+    ensures write_fault { result.status ≡ 4 → Rose (O.faults output.old) (O.faults output.new) }
+    ensures disk_fault { result.status ≡ 5 → Rose (D.faults disk) (D.faults result.disk) }
+{
+    open_and_run(rt, alloc, workers, input, output, disk, prover, gate)
+}

@@ -1,0 +1,196 @@
+-- A whole session on an opened store, from what its play and its store tell.
+use Rattle.std.proofs.Common.{◌≡◌, inr, ◌∙◌, sym, ap, subst, refl, ℕ, ◌≤◌, true, false, List, [], ◌∷◌, ◌++◌, map, arith}
+use Rattle.std.specs.Prelude.{Option, Some, None}
+use Rattle.std.specs.Option.{option_map}
+use Rattle.outside.specs.Disk.{Sides}
+use Rattle.sequent_core.specs.declared.Sequent.{Sequent}
+use Rattle.sequent_core.specs.declared.Attempt.{Attempt}
+use Rattle.core_steps.specs.declared.Durable.{Durable}
+use Rattle.core_steps.specs.declared.Event.{Event}
+use Rattle.core_steps.specs.Laws.{EntersAll, TellsTheRebuilt, TellsRebuilt}
+use Rattle.core_steps.specs.State.{State, opened, after}
+use Rattle.core_steps.specs.Run.{Exchange, Run}
+use Rattle.store_log.specs.declared.Logged.{Logged}
+use Rattle.store_log.specs.declared.StoreBase.{StoreBase}
+use Rattle.store_log.specs.History.{exchanges_of, events_of}
+use Rattle.store_log.specs.StoreLog.{done, marks, chair_of, store_meaning, IsStoreLog}
+use Rattle.project_store.specs.declared.fault.KeptFault.{KeptFault}
+use Rattle.project_store.specs.Opening.{durable}
+use Rattle.project_store.specs.Records.{Recovers}
+use Rattle.project_store.specs.Store.{StoreState, IsSound, logged, mark_in, log_in, base_in}
+use Rattle.session_run.specs.Dialogue.{begins}
+use Rattle.session_run.specs.OneHistory.{OneHistory, CompleteWhenIdle, MakesHistory}
+use Rattle.session_run.specs.Workers.{begins as none_yet}
+use Rattle.session_run.proofs.Runs.{CoreLaws, run_cut}
+use Rattle.session_streams.specs.Streams.{Reading, Writing, reading, writing}
+use Rattle.session_streams.proofs.Known.{Appends-nothing, Consumes-nothing}
+use Rattle.session_talk.specs.declared.Ending.{Ending}
+use Rattle.session_ends.specs.Ends.{IsClean, HasHistory, EndsWithoutMemory}
+use Rattle.session_play.specs.Playing.{IsPlayed}
+use Rattle.session_ends.specs.Private.{PlaysEnd}
+use Rattle.session_ends.specs.Sessions.{EndsBy, IsSession, Opens}
+use Rattle.session_ends.specs.Statuses.{status_at, line_at}
+use Rattle.session_ends.specs.Written.{WritesOrFails}
+use Rattle.session_ends.proofs.Closing.{Came, came, users, then_nothing}
+use Rattle.session_ends.proofs.Endings.{by_none, by_some}
+
+-- THE RUN
+
+-- what lasts is the fold of the entries
+folds : EntersAll → (xs : List Exchange) (s t : State) → Run s xs t → t.durable ≡ after s.durable (map (λ x. x.entry) xs)
+folds law [] s t run = ap (λ z. z.durable) run
+folds law (x ∷ xs) s t (m, step, rest) = folds law xs m t rest ∙ ap (λ d. after d (map (λ y. y.entry) xs)) (law s x.event x.reply x.entry m step)
+
+-- the statuses in replies are those of clean rebuilds
+clean : TellsTheRebuilt → (d : Durable) (xs : List Exchange) → IsClean d xs
+clean law d xs before x behind s cut run =
+    let c = run_cut (opened d) s before (x ∷ []) run in
+    subst (λ (z : State). TellsRebuilt z.durable x.reply) (sym c.2.2) (law c.0 x.event x.reply x.entry c.2.0 c.2.1)
+
+-- the log of a store, by the exchanges of its history
+log_is : (history : List (ℕ × Event)) (xs : List (ℕ × Exchange)) (m : List Logged) → history ≡ events_of xs → map logged history ++ m ≡ map done xs ++ m
+log_is history xs m is = ap (λ h. map logged h ++ m) is ∙ same xs where
+  same : (ys : List (ℕ × Exchange)) → map logged (events_of ys) ++ m ≡ map done ys ++ m
+  same [] = refl
+  same (y ∷ ys) = ap (λ l. done y ∷ l) (same ys)
+
+module _ {D : Type 0} (told : Type 0) (bytes_of : D → Sides) (images : D → Sides → Type 0) (faults : D → ℕ)
+    (laws : CoreLaws) (enters : EntersAll) (rebuilt : TellsTheRebuilt) (fair : Sequent → Attempt → Type 0) (sure : Sequent → Type 0)
+    (history_law : OneHistory fair) (complete_law : CompleteWhenIdle fair sure) (workers : ℕ)
+    (first st : StoreState D) (same : base_in st ≡ base_in first) (sound : IsSound told bytes_of images faults st)
+    (source : Reading) (before after_ last : Option (List ℕ)) (f g h : ℕ) (high : g ≤ h) (ending : Ending)
+    (played : IsPlayed chair_of store_meaning fair workers (base_in first) (log_in st) source (writing before after_ f g) ending)
+    (wrote : WritesOrFails (writing after_ last g h) (line_at ending (option_map (λ k. k.fault) st.kept))) where
+  store : IsStoreLog (base_in st) (log_in st) sound.exchanges (mark_in st.kept) st.core
+  store = record { entries = log_is st.history sound.exchanges (marks (mark_in st.kept)) sound.run.events; run = sound.run.run }
+
+  p : IsPlayed chair_of store_meaning fair workers (base_in st) (log_in st) source (writing before after_ f g) ending
+  p = subst (λ b. IsPlayed chair_of store_meaning fair workers b (log_in st) source (writing before after_ f g) ending) (sym same) played
+
+  abbrev comes : Came laws fair (base_in st) (log_in st) sound.exchanges (mark_in st.kept) st.core store p.seen p.has_seen source (writing before after_ f g)
+      p.converses.taken p.converses.ended p.converses.lines p.converses.left p.converses.text p.converses.read
+  comes = came laws fair (base_in st) (log_in st) sound.exchanges (mark_in st.kept) st.core store p.seen p.has_seen source (writing before after_ f g)
+      p.converses.taken p.converses.ended p.converses.lines p.converses.left p.converses.text p.converses.read ending p.converses.over
+
+  makes : MakesHistory fair (base_in st) sound.exchanges (mark_in st.kept) st.core workers comes.reach.begun
+  makes = history_law (base_in st) (log_in st) sound.exchanges (mark_in st.kept) st.core workers comes.reach.lines comes.reach.begun comes.reach.text (record {
+    store = store;
+    served = p.served;
+    unmade = p.unmade;
+    users = users fair source sound.exchanges comes.reach;
+    reached = comes.reach.reached;
+    own_mark = comes.own_mark;
+  })
+
+  has_history : HasHistory fair sure workers st.base st.history st.core.durable sound.exchanges st.core
+  has_history = record {
+    run = sound.run.run;
+    legal = makes.legal;
+    events = sound.run.events;
+    lasts = refl;
+    folds = folds enters (exchanges_of sound.exchanges) (opened st.base) st.core sound.run.run;
+    clean = clean rebuilt st.base (exchanges_of sound.exchanges);
+    worked = makes.worked;
+    complete = complete_law st.base (exchanges_of sound.exchanges) st.core makes.fair_run;
+  }
+
+  by : (kept : Option KeptFault) → st.kept ≡ kept → EndsBy fair workers (status_at ending (option_map (λ k. k.fault) kept)) st.kept source (writing before last f h) sound.exchanges st.core
+  by None is = by_none laws fair workers (base_in st) (log_in st) sound.exchanges st.kept st.core store p.seen p.has_seen source before after_ last f g h p.converses.sink_later high
+      p.converses.taken p.converses.ended p.converses.lines p.converses.left p.converses.text p.converses.read is (makes.finished (ap mark_in is)) ending p.converses.over makes.failed
+      (subst (λ k. WritesOrFails (writing after_ last g h) (line_at ending (option_map (λ z. z.fault) k))) is wrote)
+  by (Some k) is = by_some laws fair workers (base_in st) (log_in st) sound.exchanges st.kept st.core store p.seen p.has_seen source before after_ last f g h p.converses.sink_later high
+      p.converses.taken p.converses.ended p.converses.lines p.converses.left p.converses.text p.converses.read k is ending p.converses.over makes.failed
+      (subst (λ z. WritesOrFails (writing after_ last g h) (line_at ending (option_map (λ y. y.fault) z))) is wrote)
+
+  abbrev at_first : (old : D) → Opens told bytes_of images faults old first → Opens told bytes_of images faults old st
+  at_first old o = record {
+    stood = λ t. subst (λ (b : StoreBase). Recovers (bytes_of old) b.durable) (sym same) (o.stood t);
+    exactly = λ t meaning stands. o.exactly t meaning stands ∙ ap (λ (b : StoreBase). durable b.durable) (sym same);
+    counted = ap (λ (b : StoreBase). b.faults) same ∙ o.counted;
+  }
+
+  -- the whole session
+  pub whole : (old : D) → Opens told bytes_of images faults old first →
+      IsSession told bytes_of images faults fair sure workers old st.journal.disk source (writing before last f h) (status_at ending (option_map (λ k. k.fault) st.kept)) st.history st.core.durable
+  whole old o = record {
+    store = st;
+    disk = refl;
+    opens = at_first old o;
+    xs = sound.exchanges;
+    plays = has_history;
+    stops = sound.stops;
+    later = subst (λ n. n ≤ faults st.journal.disk) (at_first old o).counted sound.counted;
+    cause = sound.cause;
+    ends = by st.kept refl;
+  }
+
+none_cut : {X : Type 0} (before : List X) (x : X) (behind : List X) → [] ≡ before ++ x ∷ behind → ⊥
+none_cut [] x behind e = cc
+none_cut (y ∷ before) x behind e = cc
+
+-- memory ran out before anything was done
+module _ {D : Type 0} (told : Type 0) (bytes_of : D → Sides) (images : D → Sides → Type 0) (faults : D → ℕ)
+    (fair : Sequent → Attempt → Type 0) (sure : Sequent → Type 0) (workers : ℕ) (st : StoreState D) (sound : IsSound told bytes_of images faults st)
+    (begun : st.core ≡ opened st.base) (empty : st.history ≡ []) (open_ : st.kept ≡ None)
+    (left : Option (List ℕ)) (lost : ℕ) (before last : Option (List ℕ)) (f h : ℕ) (wrote : WritesOrFails (writing before last f h) []) (low : f ≤ h) where
+  unread : EndsWithoutMemory fair workers (reading left left lost lost) (writing before last f h) [] None st.core
+  unread = record {
+    reached = record {
+      taken = [];
+      ended = false;
+      lines = [];
+      left = [];
+      text = [];
+      begun = None;
+      read = record {
+        takes = Consumes-nothing left;
+        most = omega arith;
+        at_end = λ is. let wrong : false ≡ true = is in absurd cc;
+        within = λ is. omega arith;
+        given = [];
+        in_order = refl;
+        say = tt;
+      };
+      next = tt;
+      reached = begins;
+    };
+    done = tt;
+    failed = tt;
+    written = then_nothing before before last f f h (omega arith) low [] (Appends-nothing before) wrote;
+  }
+
+  pub nothing_played : (old : D) → Opens told bytes_of images faults old st →
+      IsSession told bytes_of images faults fair sure workers old st.journal.disk (reading left left lost lost) (writing before last f h) 9 st.history st.core.durable
+  nothing_played old o = record {
+    store = st;
+    disk = refl;
+    opens = o;
+    xs = [];
+    plays = record {
+      run = begun;
+      legal = tt;
+      events = empty;
+      lasts = refl;
+      folds = ap (λ z. z.durable) begun;
+      clean = λ xs x behind s cut run. absurd (none_cut xs x behind cut);
+      worked = record { each = λ k low_ high. (None, none_yet); others = λ k high. refl };
+      complete = λ xs x behind s cut run e r. absurd (none_cut xs x behind cut);
+    };
+    stops = sound.stops;
+    later = subst (λ n. n ≤ faults st.journal.disk) o.counted sound.counted;
+    cause = sound.cause;
+    ends = subst (λ k. EndsBy fair workers 9 k (reading left left lost lost) (writing before last f h) [] st.core) (sym open_) (inr (inr (inr (inr (inr (inr (refl, unread)))))));
+  }
+
+pub plays_end : {D : Type 0} (told : Type 0) (bytes_of : D → Sides) (images : D → Sides → Type 0) (faults : D → ℕ) (fair : Sequent → Attempt → Type 0) (sure : Sequent → Type 0) →
+    CoreLaws → EntersAll → TellsTheRebuilt → OneHistory fair → CompleteWhenIdle fair sure → PlaysEnd told bytes_of images faults fair sure
+plays_end told bytes_of images faults fair sure laws enters rebuilt one complete workers first last source before between after_ f g h ending old opens same sound played wrote high =
+    whole told bytes_of images faults laws enters rebuilt fair sure one complete workers first last same sound source before between after_ f g h high ending played wrote old opens
+
+-- the same session, told of what it left
+pub moved : {D : Type 0} (told : Type 0) (bytes_of : D → Sides) (images : D → Sides → Type 0) (faults : D → ℕ) (fair : Sequent → Attempt → Type 0) (sure : Sequent → Type 0) (workers : ℕ)
+    (old disk new : D) (source : Reading) (sink : Writing) (status now : ℕ) (history events : List (ℕ × Event)) (last lasts : Durable) →
+    new ≡ disk → now ≡ status → events ≡ history → lasts ≡ last →
+    IsSession told bytes_of images faults fair sure workers old disk source sink status history last → IsSession told bytes_of images faults fair sure workers old new source sink now events lasts
+moved {D} told bytes_of images faults fair sure workers old disk new source sink status now history events last lasts a b c d s =
+    subst (λ (z : D × ℕ × List (ℕ × Event) × Durable). IsSession told bytes_of images faults fair sure workers old z.0 source sink z.1 z.2 z.3) (λ i. (sym a i, sym b i, sym c i, sym d i)) s

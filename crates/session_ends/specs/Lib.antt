@@ -1,0 +1,5 @@
+pub mod Ends
+pub mod Private
+pub mod Sessions
+pub mod Statuses
+pub mod Written

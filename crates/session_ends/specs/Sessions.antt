@@ -1,0 +1,83 @@
+-- What `session WORKERS` does, whole.
+use Rattle.std.specs.Prelude.{◌≡◌, ◌⊎◌, ◌≤◌, ℕ, List, [], Option, Some, None, IfSome}
+use Rattle.std.specs.Option.{option_map}
+use Rattle.sequent_core.specs.declared.Sequent.{Sequent}
+use Rattle.sequent_core.specs.declared.Attempt.{Attempt}
+use Rattle.outside.specs.Cause.{Rose}
+use Rattle.outside.specs.Disk.{Sides}
+use Rattle.core_steps.specs.declared.durable.Durable.{Durable}
+use Rattle.core_steps.specs.declared.events.Event.{Event}
+use Rattle.core_steps.specs.State.{State, no_texts}
+use Rattle.core_steps.specs.Run.{Exchange}
+use Rattle.project_store.specs.declared.fault.KeptFault.{KeptFault}
+use Rattle.project_store.specs.declared.fault.OpenFault.{OpenFault}
+use Rattle.project_store.specs.declared.fault.OpenFault.TheVariants.{DiskFault}
+use Rattle.project_store.specs.Opening.{Meaning, StandsFor, durable, IsCause, IsAnswerFor, StandsAsSome}
+use Rattle.project_store.specs.Records.{Recovers}
+use Rattle.project_store.specs.Store.{StoreState, IsImage, HasCauseOf}
+use Rattle.session_streams.specs.Streams.{Reading, Writing, WritesNothing}
+use Rattle.session_ends.specs.Ends.{HasHistory, EndsWell, EndsInsideEdit, EndsAtReadFault, EndsAtWriteFault}
+use Rattle.session_ends.specs.Ends.{EndsWithFullInput, EndsAtStoreFault, EndsWithoutMemory}
+use Rattle.session_ends.specs.Statuses.{fault_status, fault_line, opening_status, opening_line}
+use Rattle.session_ends.specs.Written.{WritesOrFails}
+
+module _ (fair : Sequent → Attempt → Type 0) (workers : ℕ) where
+  -- How an opened session ended: by its status, and the first fault of the store, if it met one. A fault of the store
+  -- goes before all but want of memory of the commands.
+  abbrev pub EndsBy : ℕ → Option KeptFault → Reading → Writing → List (ℕ × Exchange) → State → Type 0
+  EndsBy status kept source sink xs s =
+      ((status ≡ 0) × (kept ≡ None) × EndsWell fair workers source sink xs)
+      ⊎ ((status ≡ 1) × (kept ≡ None) × EndsInsideEdit fair workers source sink xs)
+      ⊎ ((status ≡ 3) × (kept ≡ None) × EndsAtReadFault fair workers source sink xs)
+      ⊎ ((status ≡ 4) × (kept ≡ None) × EndsAtWriteFault fair workers source sink xs)
+      ⊎ ((status ≡ 7) × (kept ≡ None) × EndsWithFullInput fair workers source sink xs)
+      ⊎ ((k : KeptFault) × (kept ≡ Some k) × (status ≡ fault_status k.fault)
+      × EndsAtStoreFault fair workers source sink xs k.act.1 (fault_line k.fault) s)
+      ⊎ ((status ≡ 9) × EndsWithoutMemory fair workers source sink xs (option_map (λ k. k.act.1) kept) s)
+
+module _ {D : Type 0} (told : Type 0) (bytes_of : D → Sides) (images : D → Sides → Type 0) (faults : D → ℕ) where
+  -- The project on the disk was opened: its sides stand for the base, and for nothing else.
+  pub record Opens (old : D) (store : StoreState D) : Type 0 where
+    pub stood : told → Recovers (bytes_of old) store.base
+    pub exactly : told → (meaning : Meaning) → StandsFor (bytes_of old) meaning → meaning ≡ durable store.base
+    pub counted : store.count ≡ faults old
+
+  -- It isn't opened, for a cause that its sides have, or a fault of the disk in the call, or want of memory; and what a
+  -- stop leaves now stands for what a stop would have left at first.
+  pub record Refuses (old new : D) (fault : OpenFault) : Type 0 where
+    pub cause : told → IsCause (bytes_of old) fault
+    pub exactly : told → (meaning : Meaning) → StandsFor (bytes_of old) meaning → IsAnswerFor meaning fault
+    pub disk_fault : fault ≡ DiskFault → Rose (faults old) (faults new)
+    pub stands : told → (c : Sides) → images new c → StandsAsSome (images old) c
+
+  -- A refused opening: nothing was read or done, and the last line alone is written. Memory may run out over it.
+  pub record IsRefused
+      (old new : D) (source : Reading) (sink : Writing) (status : ℕ) (history : List (ℕ × Event)) (last : Durable) :
+      Type 0 where
+    pub fault : OpenFault
+    pub refuses : Refuses old new fault
+    pub nothing : (history ≡ []) × (last ≡ no_texts)
+    pub unread : (source.left_then ≡ source.left) × (source.faults_then ≡ source.faults)
+    pub ends :
+        ((status ≡ opening_status fault) × WritesOrFails sink (opening_line fault))
+        ⊎ ((status ≡ 9) × WritesNothing sink)
+
+  module _ (fair : Sequent → Attempt → Type 0) (sure : Sequent → Type 0) (workers : ℕ) where
+    -- A session on an opened project: what the disk stood for at first, the history from there, what a stop leaves now,
+    -- the cause of the store's first fault, if it met one, and how the session ended.
+    pub record IsSession
+        (old new : D) (source : Reading) (sink : Writing) (status : ℕ) (history : List (ℕ × Event)) (last : Durable) :
+        Type 0 where
+      pub store : StoreState D
+      pub disk : new ≡ store.journal.disk
+      pub opens : Opens old store
+      pub xs : List (ℕ × Exchange)
+      pub plays : HasHistory fair sure workers store.base history last xs store.core
+      pub stops : told → (c : Sides) → images new c → IsImage store.core store.kept c
+      pub later : faults old ≤ faults new
+      pub cause : IfSome store.kept (λ k. HasCauseOf faults store k.fault k.act.1)
+      pub ends : EndsBy fair workers status store.kept source sink xs store.core
+
+    abbrev pub Sessions : D → D → Reading → Writing → ℕ → List (ℕ × Event) → Durable → Type 0
+    Sessions old new source sink status history last =
+        IsRefused old new source sink status history last ⊎ IsSession old new source sink status history last

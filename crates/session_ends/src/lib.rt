@@ -1,0 +1,7 @@
+//! How a session begins and ends: the opening of the project, the exit status, the last line, and what it has done by then.
+#![tactic(auto)]
+
+mod ending;
+mod statuses;
+
+pub use ending::{Ended, end_played, end_unplayed, open_store, refuse};

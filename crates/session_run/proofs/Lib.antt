@@ -1,0 +1,11 @@
+pub mod Acts
+pub mod Idle
+pub mod Legal
+pub mod Owns
+pub mod Runs
+pub mod Serving
+pub mod Steps
+pub mod Talking
+pub mod Talks
+pub mod Tickets
+pub mod Together

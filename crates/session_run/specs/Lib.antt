@@ -1,0 +1,7 @@
+pub mod Acting
+pub mod Completeness
+pub mod Dialogue
+pub mod FairRun
+pub mod OneHistory
+pub mod Talking
+pub mod Workers
