@@ -1,5 +1,5 @@
 -- What `check` answers, from what it did.
-use Rattle.std.proofs.Common.{◌≡◌, ◌∙◌, ◌⊎◌, inl, inr, sym, ap, subst, refl, ℕ, List, [], ◌++◌}
+use Rattle.std.proofs.Common.{◌≡◌, ◌≢◌, ◌∙◌, ◌⊎◌, inl, inr, sym, ap, subst, refl, ℕ, List, [], ◌∷◌, ◌++◌, arith}
 use Rattle.std.specs.Prelude.{Option, Ok, Err, codes}
 use Rattle.sequent_core.specs.declared.Sequent.{Sequent}
 use Rattle.sequent_core.specs.declared.Attempt.{Attempt}
@@ -17,9 +17,10 @@ use Rattle.check_input.specs.Lines.{input_line}
 use Rattle.check_input.specs.declared.input.InputFault.{InputFault}
 use Rattle.rodin_cli.specs.Session.{Extends}
 use Rattle.rodin_cli.specs.Script.{IsFull, IsWhole, IsFront}
-use Rattle.rodin_cli.specs.Streams.{Writing, Writes, WritesCut, WritesOrFails, WritesNothing}
+use Rattle.session_streams.specs.Streams.{Reading, Writing, Writes, WritesCut, WritesNothing}
+use Rattle.session_ends.specs.Written.{WritesOrFails}
 use Rattle.rodin_cli.specs.Texts.{printed}
-use Rattle.rodin_cli.specs.Check.{Leads, IsAnswered, IsTooFull, RanOut, EndsWithLine, ComesOf, HasNoHistory, TellsFaults, TellsWarnings, IsProved, status_of}
+use Rattle.rodin_cli.specs.Check.{Leads, IsAnswered, IsTooFull, RanOut, EndsWithLine, ComesOf, Checks, HasNoHistory, TellsFaults, TellsWarnings, IsProved, status_of}
 use Rattle.rodin_cli.specs.Completeness.{IsComplete}
 use Rattle.rodin_cli.proofs.Sessions.{front_of_whole}
 use Rattle.rodin_cli.proofs.Folding.{run_folds}
@@ -40,7 +41,7 @@ module _ (answers : Sequent → Attempt → Type 0) (sure : Sequent → Type 0) 
   ran : Run (opened no_texts) exchanges new.core
   ran = subst (λ s. Run s exchanges new.core) did.fresh did.extends.0
 
-  leads : Leads part exchanges
+  pub leads : Leads part exchanges
   leads = record {
     state = new.core;
     run = ran;
@@ -115,3 +116,21 @@ pub comes_of_refusal : (answers : Sequent → Attempt → Type 0) (sure : Sequen
 comes_of_refusal answers sure bytes sink part fault made (inl ends) = inr (inr (inl (fault, made, ends)))
 comes_of_refusal answers sure bytes sink part fault made (inr lacking) =
     inr (inr (inr (ran_out_at_once answers sure bytes sink part lacking.0 lacking.1 lacking.2)))
+
+-- no status of an input is 2
+answered_not_2 : (told : List FaultLine) (status : ℕ) (A B : Type 0) → ((status ≡ status_of told) × A) ⊎ ((status ≡ 4) × B) → status ≢ 2
+answered_not_2 [] status A B (inl a) e = omega (arith, a.0, e)
+answered_not_2 (f ∷ told) status A B (inl a) e = omega (arith, a.0, e)
+answered_not_2 told status A B (inr b) e = omega (arith, b.0, e)
+
+other : (status k : ℕ) → status ≡ k → k ≢ 2 → status ≢ 2
+other status k is differ e = differ (sym is ∙ e)
+
+pub check_not_2 : (answers : Sequent → Attempt → Type 0) (sure : Sequent → Type 0) (source : Reading) (sink : Writing) (part : Part) → Checks answers sure source sink part → part.status ≢ 2
+check_not_2 answers sure source sink part (inl (bytes, read, most, inl a)) = answered_not_2 a.told part.status _ _ a.text
+check_not_2 answers sure source sink part (inl (bytes, read, most, inr (inl full))) = other part.status 7 full.status_is (omega arith)
+check_not_2 answers sure source sink part (inl (bytes, read, most, inr (inr (inl (fault, made, ends))))) = other part.status 1 ends.status_is (omega arith)
+check_not_2 answers sure source sink part (inl (bytes, read, most, inr (inr (inr lacking)))) = other part.status 9 lacking.status_is (omega arith)
+check_not_2 answers sure source sink part (inr (inl (bytes, read, long, ends))) = other part.status 7 ends.status_is (omega arith)
+check_not_2 answers sure source sink part (inr (inr (inl (failed, read, ends)))) = other part.status 3 ends.status_is (omega arith)
+check_not_2 answers sure source sink part (inr (inr (inr (read, status, nothing, kept)))) = other part.status 9 status (omega arith)

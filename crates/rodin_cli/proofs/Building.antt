@@ -104,14 +104,14 @@ module _ (answers : Sequent → Attempt → Type 0) (sure : Sequent → Type 0) 
       IsInput bytes (Ok parts) → IsWhole answers sure parts told warned shown exchanges → Run (opened no_texts) exchanges t → t.durable.built ≡ project_of parts
   built_of bytes parts told warned shown exchanges t made w run =
       let s : State = opened no_texts in
-      let cut = Run-split s t (w.edits ++ w.build ∷ w.turns) (w.nothing ∷ w.faults ∷ w.statuses ∷ []) (subst (λ xs. Run s xs t) w.in_order run) in
-      let front = Run-split s cut.0 w.edits (w.build ∷ w.turns) cut.1 in
+      let cut = Run-split s t (w.round.edits ++ w.round.build ∷ w.round.turns) (w.round.nothing ∷ w.faults ∷ w.statuses ∷ []) (subst (λ xs. Run s xs t) w.round.in_order run) in
+      let front = Run-split s cut.0 w.round.edits (w.round.build ∷ w.round.turns) cut.1 in
       let none : len s.durable.texts ≡ 0 = len-empty text_cmp (List ℕ) in
-      let texts = edits_lead parts w.edits s front.0 0 (parts_are_good bytes parts made) (omega (arith, none)) w.edits_are front.1 in
+      let texts = edits_lead parts w.round.edits s front.0 0 (parts_are_good bytes parts made) (omega (arith, none)) w.round.edits_are front.1 in
       let b = front.2 in
-      let built = build_takes front.0 _ (comes front.0 b.0 w.build Build w.build_is.0 b.1).2 w.build_is.1 in
+      let built = build_takes front.0 _ (comes front.0 b.0 w.round.build Build w.round.build_is.0 b.1).2 (w.numbers.components, w.numbers.faulted, w.numbers.obligations, w.round.build_is.1) in
       let r = cut.2 in
-      let taken = take_keeps cut.0 _ (comes cut.0 r.0 w.nothing (Take None) w.nothing_is.0 r.1) in
+      let taken = take_keeps cut.0 _ (comes cut.0 r.0 w.round.nothing (Take None) w.round.nothing_is.0 r.1) in
       let tells = faults_keep r.0 _ (comes r.0 r.2.0 w.faults (Ask AskFaults) w.faults_is.0 r.2.1) in
       let shows = statuses_keep r.2.0 _ (comes r.2.0 r.2.2.0 w.statuses (Ask AskStatuses) w.statuses_is.0 r.2.2.1) in
-      ap (λ u. u.durable.built) r.2.2.2 ∙ shows ∙ tells ∙ taken ∙ turns_keep w.turns b.0 cut.0 w.turns_are b.2 ∙ built ∙ texts
+      ap (λ u. u.durable.built) r.2.2.2 ∙ shows ∙ tells ∙ taken ∙ turns_keep w.round.turns b.0 cut.0 w.round.turns_are b.2 ∙ built ∙ texts

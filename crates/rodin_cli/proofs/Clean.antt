@@ -51,7 +51,7 @@ asked_stays s x (table, is, (shown, rebuilt, told)) = ap (λ z. z.new) told
 pub told_of : (answers : Sequent → Attempt → Type 0) (sure : Sequent → Type 0) (parts : List Component) (told : List FaultLine) (warned : List (List ℕ × List ℕ)) (shown : List (List ℕ × Status × Option Origin))
     (exchanges : List Exchange) (s t : State) → IsWhole answers sure parts told warned shown exchanges → Run s exchanges t → TellsFaults t.durable told × TellsWarnings t.durable warned
 told_of answers sure parts told warned shown exchanges s t w run =
-    let cut = Run-split s t (w.edits ++ w.build ∷ w.turns) (w.nothing ∷ w.faults ∷ w.statuses ∷ []) (subst (λ xs. Run s xs t) w.in_order run) in
+    let cut = Run-split s t (w.round.edits ++ w.round.build ∷ w.round.turns) (w.round.nothing ∷ w.faults ∷ w.statuses ∷ []) (subst (λ xs. Run s xs t) w.round.in_order run) in
     let r = cut.2 in
     let tells = asked_faults r.0 _ told warned w.faults_is.1 (comes r.0 r.2.0 w.faults (Ask AskFaults) w.faults_is.0 r.2.1) in
     let same = asked_stays r.2.0 _ (comes r.2.0 r.2.2.0 w.statuses (Ask AskStatuses) w.statuses_is.0 r.2.2.1) in
@@ -61,7 +61,7 @@ told_of answers sure parts told warned shown exchanges s t w run =
 pub clean_of : (answers : Sequent → Attempt → Type 0) (sure : Sequent → Type 0) (parts : List Component) (told : List FaultLine) (warned : List (List ℕ × List ℕ)) (shown : List (List ℕ × Status × Option Origin))
     (exchanges : List Exchange) (s t : State) → IsWhole answers sure parts told warned shown exchanges → Run s exchanges t → IsRebuilt t.durable shown
 clean_of answers sure parts told warned shown exchanges s t w run =
-    let cut = Run-split s t (w.edits ++ w.build ∷ w.turns) (w.nothing ∷ w.faults ∷ w.statuses ∷ []) (subst (λ xs. Run s xs t) w.in_order run) in
+    let cut = Run-split s t (w.round.edits ++ w.round.build ∷ w.round.turns) (w.round.nothing ∷ w.faults ∷ w.statuses ∷ []) (subst (λ xs. Run s xs t) w.round.in_order run) in
     let r = cut.2 in
     let shows = asked r.2.0 _ shown w.statuses_is.1 (comes r.2.0 r.2.2.0 w.statuses (Ask AskStatuses) w.statuses_is.0 r.2.2.1) in
     subst (λ d. IsRebuilt d shown) (sym (ap (λ u. u.durable) r.2.2.2)) shows

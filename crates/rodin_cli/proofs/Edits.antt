@@ -1,17 +1,18 @@
 -- The edits of the parts, and the build.
-use Rattle.std.proofs.Common.{◌≡◌, ◌∙◌, refl, sym, ap, subst, inl, inr, ℕ, Bool, true, false, IsTrue, List, [], ◌∷◌, ◌++◌, length, map, take, drop}
-use Rattle.std.specs.Prelude.{MatchBool}
+use Rattle.std.proofs.Common.{◌≡◌, ◌≢◌, ◌∙◌, refl, sym, ap, subst, inl, inr, ℕ, List, [], ◌∷◌, ◌++◌, length, map, take, drop}
+use Rattle.std.specs.Prelude.{Option, Some, None, MatchOption}
 use Rattle.std.proofs.lemmas.List.{append-nil, map-id, take-append-drop}
 use Rattle.core_steps.specs.declared.Event.TheVariants.{Edit, Build}
 use Rattle.core_steps.specs.declared.Reply.{Reply}
-use Rattle.core_steps.specs.declared.Reply.TheVariants.{TableFull}
+use Rattle.core_steps.specs.declared.Reply.TheVariants.{Built, TableFull}
 use Rattle.core_steps.specs.State.{State}
 use Rattle.core_steps.specs.Outcomes.{Outcome}
 use Rattle.core_steps.specs.Editing.{Builds}
 use Rattle.core_steps.specs.Run.{Exchange}
+use Rattle.rodin_cli.specs.declared.round.Numbers.{Numbers}
 use Rattle.rodin_cli.specs.declared.session.Session.{Session}
 use Rattle.check_input.specs.Inputs.{Component}
-use Rattle.rodin_cli.specs.Script.{AreEdits, AreFirstEdits, IsBuiltReply, IsFull}
+use Rattle.rodin_cli.specs.Script.{AreEdits, AreFirstEdits, IsFull}
 use Rattle.rodin_cli.specs.Session.{Extends, IsUnchanged, Performs}
 use Rattle.rodin_cli.proofs.Sessions.{both, unchanged, performed}
 
@@ -47,22 +48,24 @@ next_edit a b c done part reply edited performs =
 pub then_unchanged : (a b c : Session) (xs : List Exchange) → Extends a xs b → IsUnchanged b c → Extends a xs c
 then_unchanged a b c xs p same = subst (λ ys. Extends a ys c) (append-nil xs) (both a b c xs [] p (unchanged b c same))
 
-full_nodes : (s : State) (x : Outcome) → Builds s x → (IsBuiltReply x.reply → ⊥) → (n : ℕ) × (x.reply ≡ TableFull n)
+full_nodes : (s : State) (x : Outcome) → Builds s x → ((components faulted obligations : ℕ) → x.reply ≢ Built components faulted obligations) → (n : ℕ) × (x.reply ≡ TableFull n)
 full_nodes s x (inl d) never = (d.0, ap (λ z. z.reply) d.2)
-full_nodes s x (inr d) never = absurd (never (_, _, _, ap (λ z. z.reply) d.4))
+full_nodes s x (inr d) never = absurd (never _ _ _ (ap (λ z. z.reply) d.4))
 
 -- edits and a build, which is refused where the table is too large
-pub built_or_full : (parts : List Component) (a b c : Session) (reply : Reply) (built : Bool) → (edits : List Exchange) × AreEdits parts edits × Extends a edits b →
-    Performs b Build reply c → (IsTrue built → IsBuiltReply reply) × (IsBuiltReply reply → IsTrue built) →
-    MatchBool built
-    ((edits : List Exchange) × (build : Exchange) × AreEdits parts edits × (build.event ≡ Build) × IsBuiltReply build.reply × Extends a (edits ++ build ∷ []) c)
+pub built_or_full : (parts : List Component) (a b c : Session) (reply : Reply) (built : Option Numbers) → (edits : List Exchange) × AreEdits parts edits × Extends a edits b →
+    Performs b Build reply c →
+    MatchOption built ((components faulted obligations : ℕ) → reply ≢ Built components faulted obligations) (λ n. reply ≡ Built n.components n.faulted n.obligations) →
+    MatchOption built
     ((exchanges : List Exchange) × IsFull parts exchanges × Extends a exchanges c)
-built_or_full parts a b c reply true edited done says =
+    (λ n. (edits : List Exchange) × (build : Exchange) × AreEdits parts edits × (build.event ≡ Build)
+    × (build.reply ≡ Built n.components n.faulted n.obligations) × Extends a (edits ++ build ∷ []) c)
+built_or_full parts a b c reply (Some n) edited done says =
     let x = performed b c Build reply done in
-    (edited.0, x.0, edited.1, x.1, subst IsBuiltReply (sym x.2) (says.0 refl), both a b c edited.0 (x.0 ∷ []) edited.2 x.3)
-built_or_full parts a b c reply false edited done says =
+    (edited.0, x.0, edited.1, x.1, x.2 ∙ says, both a b c edited.0 (x.0 ∷ []) edited.2 x.3)
+built_or_full parts a b c reply None edited done says =
     let x = performed b c Build reply done in
-    let full = full_nodes b.core (record { reply = reply; entry = done.0.0; new = c.core }) done.0.1.2 (λ is. let wrong : false ≡ true = says.1 is in cc) in (
+    let full = full_nodes b.core (record { reply = reply; entry = done.0.0; new = c.core }) done.0.1.2 says in (
       edited.0 ++ x.0 ∷ [],
       record { edits = edited.0; build = x.0; nodes = full.0; in_order = refl; edits_are = edited.1; build_is = (x.1, x.2 ∙ full.1) },
       both a b c edited.0 (x.0 ∷ []) edited.2 x.3,

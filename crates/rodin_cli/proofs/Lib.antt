@@ -2,11 +2,13 @@ pub mod Answering
 pub mod Building
 pub mod Clean
 pub mod Completing
+pub mod Conversing
 pub mod Edits
 pub mod Folding
 pub mod Known
 pub mod Legal
 pub mod OneTable
+pub mod Rounds
 pub mod Sessions
 pub mod Sizes
 pub mod Typed

@@ -1,5 +1,5 @@
 -- Exchanges one after another.
-use Rattle.std.proofs.Common.{◌≡◌, inr, ℕ, List, [], ◌∷◌, ◌++◌, refl, sym, ap, ◌∙◌, subst, append_assoc}
+use Rattle.std.proofs.Common.{◌≡◌, inl, inr, ℕ, List, [], ◌∷◌, ◌++◌, refl, sym, ap, ◌∙◌, subst, append_assoc}
 use Rattle.std.proofs.lemmas.List.{append-nil, map-append}
 use Rattle.std.specs.Prelude.{Option, Some, None}
 use Rattle.std.specs.Io.KnownBytes.{Keeps}
@@ -9,15 +9,20 @@ use Rattle.build_core.specs.declared.FaultLine.{FaultLine}
 use Rattle.proof_entries.specs.declared.Origin.{Origin}
 use Rattle.core_steps.specs.declared.Status.{Status}
 use Rattle.core_steps.specs.declared.Event.{Event}
+use Rattle.core_steps.specs.declared.Event.TheVariants.{Build, Take}
+use Rattle.core_steps.specs.declared.Question.{Question}
+use Rattle.core_steps.specs.declared.Question.TheVariants.{Statuses as AskStatuses, Faults as AskFaults}
 use Rattle.core_steps.specs.declared.Reply.{Reply}
+use Rattle.core_steps.specs.declared.Reply.TheVariants.{Built, Nothing}
 use Rattle.core_steps.specs.Outcomes.{Outcome}
 use Rattle.core_steps.specs.State.{State}
 use Rattle.core_steps.specs.Step.{Comes}
 use Rattle.core_steps.specs.Run.{Exchange, Step, Run, history_of}
+use Rattle.rodin_cli.specs.declared.round.Numbers.{Numbers}
 use Rattle.rodin_cli.specs.declared.session.Session.{Session}
 use Rattle.check_input.specs.Inputs.{Component}
 use Rattle.rodin_cli.specs.Session.{Performs, IsUnchanged, Extends}
-use Rattle.rodin_cli.specs.Script.{AreTurns, IsWhole, IsFront}
+use Rattle.rodin_cli.specs.Script.{AreEdits, AreTurns, AreFirstAsks, IsEndFront, IsRound, IsRoundFront, IsWhole, IsFront}
 
 pub Run-both : (a b c : State) (xs ys : List Exchange) → Run a xs b → Run b ys c → Run a (xs ++ ys) c
 Run-both a b c [] ys p q = subst (λ s. Run s ys c) p q
@@ -53,34 +58,85 @@ AreTurns-both answers sure [] ys p q = q
 AreTurns-both answers sure (x ∷ []) ys p q = absurd p
 AreTurns-both answers sure (x ∷ y ∷ xs) ys p q = (p.0, AreTurns-both answers sure xs ys p.1 q)
 
-pub regrouped : (edits : List Exchange) (build : Exchange) (turns end : List Exchange) → (edits ++ build ∷ []) ++ (turns ++ end) ≡ (edits ++ build ∷ turns) ++ end
+regrouped : (edits : List Exchange) (build : Exchange) (turns end : List Exchange) → (edits ++ build ∷ []) ++ (turns ++ end) ≡ (edits ++ build ∷ turns) ++ end
 regrouped edits build turns end = simp append_assoc
 
-pub regrouped_whole : (edits : List Exchange) (build : Exchange) (turns : List Exchange) (nothing x y : Exchange) →
-    ((edits ++ build ∷ []) ++ (turns ++ nothing ∷ [])) ++ (x ∷ y ∷ []) ≡ (edits ++ build ∷ turns) ++ nothing ∷ x ∷ y ∷ []
-regrouped_whole edits build turns nothing x y = simp append_assoc
+-- edits and a build, and then turns until nothing is left to take, are a round in which nothing is asked
+pub worked_round : (answers : Sequent → Attempt → Type 0) (sure : Sequent → Type 0) (parts : List Component) (numbers : Numbers) (edits : List Exchange) (build : Exchange) (turns : List Exchange) (nothing : Exchange) →
+    AreEdits parts edits → build.event ≡ Build → build.reply ≡ Built numbers.components numbers.faulted numbers.obligations → AreTurns answers sure turns →
+    nothing.event ≡ Take None → nothing.reply ≡ Nothing → IsRound answers sure parts numbers [] ((edits ++ build ∷ []) ++ (turns ++ nothing ∷ []))
+worked_round answers sure parts numbers edits build turns nothing are is replied turned taken none = record {
+  edits = edits;
+  build = build;
+  turns = turns;
+  nothing = nothing;
+  in_order = regrouped edits build turns (nothing ∷ []);
+  edits_are = are;
+  build_is = (is, replied);
+  turns_are = turned;
+  nothing_is = (taken, none);
+}
 
-pub regrouped_asked : (edits : List Exchange) (build : Exchange) (turns : List Exchange) (nothing x : Exchange) →
-    ((edits ++ build ∷ []) ++ (turns ++ nothing ∷ [])) ++ (x ∷ []) ≡ (edits ++ build ∷ turns) ++ nothing ∷ x ∷ []
-regrouped_asked edits build turns nothing x = simp append_assoc
+-- edits and a build, and then turns and what comes after them, are a front of a round
+pub worked_front : (answers : Sequent → Attempt → Type 0) (sure : Sequent → Type 0) (parts : List Component) (numbers : Numbers) (edits : List Exchange) (build : Exchange) (turns end : List Exchange) →
+    AreEdits parts edits → build.event ≡ Build → build.reply ≡ Built numbers.components numbers.faulted numbers.obligations → AreTurns answers sure turns → IsEndFront [] end →
+    IsRoundFront answers sure parts [] ((edits ++ build ∷ []) ++ (turns ++ end))
+worked_front answers sure parts numbers edits build turns end are is replied turned ends =
+    inr (edits, build, turns, end, regrouped edits build turns end, are, is, (numbers.components, numbers.faulted, numbers.obligations, replied), turned, ends)
+
+end_of : (questions : List Question) (nothing : Exchange) (asked : List Exchange) → nothing.event ≡ Take None → nothing.reply ≡ Nothing → AreFirstAsks questions asked →
+    IsEndFront questions (nothing ∷ asked)
+end_of questions nothing [] taken none are = taken
+end_of questions nothing (x ∷ asked) taken none are = (taken, none, are)
+
+no_asks : (questions : List Question) (end : List Exchange) → IsEndFront [] end → IsEndFront questions end
+no_asks questions [] ends = tt
+no_asks questions (x ∷ []) ends = ends
+no_asks questions (x ∷ y ∷ end) ends = absurd ends.2
 
 module _ (answers : Sequent → Attempt → Type 0) (sure : Sequent → Type 0) (parts : List Component) where
-  -- a whole run is a front of one
-  pub front_of_whole : (told : List FaultLine) (warned : List (List ℕ × List ℕ)) (shown : List (List ℕ × Status × Option Origin)) (exchanges : List Exchange) →
-      IsWhole answers sure parts told warned shown exchanges → IsFront answers sure parts exchanges
-  front_of_whole told warned shown exchanges w =
+  -- what is asked after a round in which nothing was asked
+  pub asked_round : (numbers : Numbers) (asked exchanges : List Exchange) → IsRound answers sure parts numbers [] exchanges → IsRound answers sure parts numbers asked (exchanges ++ asked)
+  asked_round numbers asked exchanges w = record {
+    edits = w.edits;
+    build = w.build;
+    turns = w.turns;
+    nothing = w.nothing;
+    in_order = ap (λ xs. xs ++ asked) w.in_order ∙ append_assoc (w.edits ++ w.build ∷ w.turns) (w.nothing ∷ []) asked;
+    edits_are = w.edits_are;
+    build_is = w.build_is;
+    turns_are = w.turns_are;
+    nothing_is = w.nothing_is;
+  }
+
+  -- a whole round is a front of one
+  pub front_of_round : (numbers : Numbers) (questions : List Question) (asked exchanges : List Exchange) → AreFirstAsks questions asked → IsRound answers sure parts numbers asked exchanges →
+      IsRoundFront answers sure parts questions exchanges
+  front_of_round numbers questions asked exchanges are w =
       inr (
         w.edits,
         w.build,
         w.turns,
-        w.nothing ∷ w.faults ∷ w.statuses ∷ [],
+        w.nothing ∷ asked,
         w.in_order,
         w.edits_are,
         w.build_is.0,
-        w.build_is.1,
+        (numbers.components, numbers.faulted, numbers.obligations, w.build_is.1),
         w.turns_are,
-        (w.nothing_is.0, w.nothing_is.1, w.faults_is.0, w.statuses_is.0, refl),
+        end_of questions w.nothing asked w.nothing_is.0 w.nothing_is.1 are,
       )
+
+  -- a front of a round in which nothing is asked
+  pub front_without_asks : (questions : List Question) (exchanges : List Exchange) → IsRoundFront answers sure parts [] exchanges → IsRoundFront answers sure parts questions exchanges
+  front_without_asks questions exchanges (inl are) = inl are
+  front_without_asks questions exchanges (inr (edits, build, turns, end, in_order, are, is, replied, turned, ends)) =
+      inr (edits, build, turns, end, in_order, are, is, replied, turned, no_asks questions end ends)
+
+  -- a whole run of `check` is a front of one
+  pub front_of_whole : (told : List FaultLine) (warned : List (List ℕ × List ℕ)) (shown : List (List ℕ × Status × Option Origin)) (exchanges : List Exchange) →
+      IsWhole answers sure parts told warned shown exchanges → IsFront answers sure parts exchanges
+  front_of_whole told warned shown exchanges w =
+      front_of_round w.numbers (AskFaults ∷ AskStatuses ∷ []) (w.faults ∷ w.statuses ∷ []) exchanges (w.faults_is.0, (w.statuses_is.0, tt)) w.round
 
 pub Keeps-same : (known : Option (List ℕ)) → Keeps known known
 Keeps-same None = tt

@@ -20,7 +20,9 @@ use Rattle.core_steps.specs.Table.{IsTable}
 use Rattle.core_steps.specs.State.{State, opened, no_texts, after}
 use Rattle.core_steps.specs.Run.{Exchange, Run, IsLegal, history_of}
 use Rattle.rodin_cli.specs.declared.outcome.Part.{Part}
-use Rattle.rodin_cli.specs.Streams.{Reading, Writing, SourceFailed, Writes, WritesCut, WritesOrFails, WritesNothing, Takes, Ends}
+use Rattle.session_streams.specs.Streams.{Reading, Writing, SourceFailed, Writes, WritesCut, WritesNothing}
+use Rattle.session_ends.specs.Written.{WritesOrFails}
+use Rattle.rodin_cli.specs.Streams.{Takes, Ends}
 use Rattle.rodin_cli.specs.Texts.{printed}
 use Rattle.check_input.specs.Inputs.{Component, IsInput}
 use Rattle.check_input.specs.Lines.{input_line}

@@ -1,7 +1,10 @@
 pub mod Check
 pub mod Completeness
+pub mod Demo
 pub mod Hyp
+pub mod Private
 pub mod Script
 pub mod Session
 pub mod Streams
 pub mod Texts
+pub mod Words

@@ -6,121 +6,33 @@ ghost use Rattle.core_steps.specs.declared.Event.{Event};
 ghost use Rattle.core_steps.specs.declared.Question.{Question};
 ghost use Rattle.core_steps.specs.declared.Reply.{Reply};
 ghost use Rattle.core_steps.specs.Run.{Exchange, IsLegal};
-ghost use Rattle.core_steps.specs.State.{opened, no_texts, IsFresh};
+ghost use Rattle.core_steps.specs.State.{opened, no_texts};
 ghost use Rattle.check_input.specs.Inputs.{IsInput};
 ghost use Rattle.rodin_cli.specs.Completeness.{IsComplete};
-ghost use Rattle.rodin_cli.specs.Script.{AreEdits, AreFirstEdits, AreTurns, IsTurn, IsEndFront, IsBuiltReply, IsFull, IsWhole, IsFront};
+ghost use Rattle.rodin_cli.specs.Script.{IsFull, IsWhole, IsFront};
 ghost use Rattle.rodin_cli.specs.Session.{Extends, IsUnchanged};
-ghost use Rattle.rodin_cli.specs.Streams.{reading, writing, Writes, WritesCut, WritesOrFails, WritesNothing};
+ghost use Rattle.session_streams.specs.Streams.{reading, writing, Writes, WritesCut, WritesNothing};
+ghost use Rattle.session_ends.specs.Written.{WritesOrFails};
 ghost use Rattle.rodin_cli.specs.Texts.{printed};
 ghost use Rattle.check_input.specs.Lines.{input_line};
 ghost use Rattle.rodin_cli.specs.Check.{HasNoHistory, EndsWithLine, ComesOf, Checks, status_of};
 
 use crate::outcome::Part;
-use crate::session::{Session, finish, perform, take};
-use crate::streams::{LONGEST_INPUT, ReadError, read_input, write_text};
+use crate::round::work;
+use crate::session::{Session, perform, start};
+use crate::streams::{LONGEST_INPUT, ReadError, read_input};
 use crate::texts::printed;
 use check_input::{InputError, InputFault, input_line, parts_of};
-use core_steps::{Durable, Event, FaultLine, Origin, Question, Reply, Status, enters_all};
+use core_steps::{
+    Durable, Event, FaultLine, Origin, Question, Reply, Status, decides_sequents, enters_all,
+};
 use formula_core::{List, Name, OutOfMemory, PoName, Steps, Text};
 use outside::{Sink, Source};
 use sequent_core::Prover;
-use status_core::Core;
+use session_streams::write_text;
 use std::alloc::Global;
 use std::marker::Brand;
 use std::sync::ledger::{Blank, Ledger};
-
-// Edits each part.
-fn edit_all<L: Ledger>(
-    session: &mut Session,
-    parts: Vec<(Name, Text)>,
-    steps: &mut Steps<L>,
-) -> Result<(), OutOfMemory>
-    ensures done { OnOk result ((edits : List Exchange) × AreEdits parts.items edits × Extends session.old edits session.new) }
-    ensures front { OnErr result ((edits : List Exchange) × AreFirstEdits parts.items edits × Extends session.old edits session.new) }
-{
-    for (name, text) in parts {
-        perform(session, Event::Edit(name, text), steps)?;
-    }
-    Ok(())
-}
-
-// Whether the reply to a build is that the texts were built.
-fn was_built(reply: &Reply) -> bool
-    ensures { IsTrue result ↔ IsBuiltReply reply.now }
-{
-    match reply {
-        Reply::Built(_, _, _) => true,
-        _ => false,
-    }
-}
-
-// Edits each part and builds. False where the table is too large.
-fn begin<L: Ledger>(
-    session: &mut Session,
-    parts: Vec<(Name, Text)>,
-    steps: &mut Steps<L>,
-) -> Result<bool, OutOfMemory>
-    ensures whole { IfOk result (λ built. MatchBool built
-        ((edits : List Exchange) × (build : Exchange) × AreEdits parts.items edits
-        × (build.event ≡ Event.Build) × IsBuiltReply build.reply × Extends session.old (edits ++ build ∷ []) session.new)
-        ((exchanges : List Exchange) × IsFull parts.items exchanges × Extends session.old exchanges session.new)) }
-    ensures front { OnErr result ((edits : List Exchange) × AreFirstEdits parts.items edits × Extends session.old edits session.new) }
-{
-    match edit_all(session, parts, steps) {
-        Ok(()) => {}
-        Err(error) => return Err(error),
-    }
-    match perform(session, Event::Build, steps) {
-        Ok(reply) => Ok(was_built(&reply)),
-        Err(error) => Err(error),
-    }
-}
-
-// Takes a ticket and finishes it. False where nothing is left.
-fn turn<L: Ledger, P: Prover>(
-    alloc: Global,
-    prover: &P,
-    session: &mut Session,
-    steps: &mut Steps<L>,
-) -> Result<bool, OutOfMemory>
-    requires { session.old.core.next + 1 < 2 ^ 64 }
-    ensures turned { IfOk result (λ more. MatchBool more
-        ((x : Exchange) × (y : Exchange) × IsTurn (P.answers prover.now) (P.sure prover.now) x y × Extends session.old (x ∷ y ∷ []) session.new)
-        ((x : Exchange) × (x.event ≡ Event.Take None) × (x.reply ≡ Reply.Nothing) × Extends session.old (x ∷ []) session.new)) }
-    ensures front { OnErr result ((end : List Exchange) × IsEndFront end × Extends session.old end session.new) }
-{
-    match take(session, steps)? {
-        None => Ok(false),
-        Some(ticket) => {
-            let attempt = prover.attempt(alloc, &ticket.sequent);
-            finish(session, ticket.number, attempt, steps)?;
-            Ok(true)
-        }
-    }
-}
-
-// Turns, until nothing is left to take. Each turn closes an obligation, so there are no more turns than obligations.
-fn turns<L: Ledger, P: Prover>(
-    alloc: Global,
-    prover: &P,
-    session: &mut Session,
-    steps: &mut Steps<L>,
-) -> Result<(), OutOfMemory>
-    requires { IsFresh session.old.core }
-    ensures whole { OnOk result ((turns : List Exchange) × (x : Exchange) × AreTurns (P.answers prover.now) (P.sure prover.now) turns
-        × (x.event ≡ Event.Take None) × (x.reply ≡ Reply.Nothing) × Extends session.old (turns ++ x ∷ []) session.new) }
-    ensures front { OnErr result ((turns : List Exchange) × (end : List Exchange) × AreTurns (P.answers prover.now) (P.sure prover.now) turns
-        × IsEndFront end × Extends session.old (turns ++ end) session.new) }
-{
-    let obligations = session.core.builder().table().len();
-    for _turn in 0..obligations + 1 {
-        if !turn(alloc, prover, session, steps)? {
-            return Ok(());
-        }
-    }
-    unreachable!()
-}
 
 /// What is told and shown at the end.
 #[derive(Drop)]
@@ -172,13 +84,10 @@ fn play<L: Ledger, P: Prover>(
         × IsFront (P.answers prover.now) (P.sure prover.now) parts.items exchanges × IsLegal exchanges
         × Extends session.old exchanges session.new) }
 {
-    match begin(session, parts, steps) {
-        Ok(true) => {}
-        Ok(false) => return Ok(None),
-        Err(error) => return Err(error),
-    }
-    match turns(alloc, prover, session, steps) {
-        Ok(()) => {}
+    decides_sequents();
+    match work(alloc, prover, session, parts, steps) {
+        Ok(Some(_numbers)) => {}
+        Ok(None) => return Ok(None),
         Err(error) => return Err(error),
     }
     match ask(session, steps) {
@@ -187,7 +96,8 @@ fn play<L: Ledger, P: Prover>(
     }
 }
 
-fn part_from(session: Session, status: u8) -> Part
+/// What the session did, with the status.
+pub fn part_from(session: Session, status: u8) -> Part
     ensures status { result.status ≡ status }
     ensures history { result.history.items ≡ session.history.items }
     ensures last { result.last ≡ session.core.durable }
@@ -200,7 +110,8 @@ fn part_from(session: Session, status: u8) -> Part
     }
 }
 
-fn no_part(alloc: Global, status: u8) -> Part
+/// Nothing was done, with the status.
+pub fn no_part(alloc: Global, status: u8) -> Part
     ensures status { result.status ≡ status }
     ensures nothing { HasNoHistory result }
 {
@@ -211,8 +122,8 @@ fn no_part(alloc: Global, status: u8) -> Part
     }
 }
 
-// Writes the last line, as far as the sink takes it.
-fn write_last<O: Sink>(output: &mut O, line: &[u8])
+/// Writes the last line, as far as the sink takes it.
+pub fn write_last<O: Sink>(output: &mut O, line: &[u8])
     ensures { WritesOrFails (writing (O.written output.old) (O.written output.new) (O.faults output.old) (O.faults output.new)) line.now }
 {
     match write_text(output, line) {
@@ -280,11 +191,8 @@ fn check_parts<L: Ledger, O: Sink, P: Prover>(
 {
     enters_all();
     let mut steps = Steps::<L>::open(blank);
-    let mut session = match Core::start(alloc, Durable::empty(alloc), &mut steps) {
-        Ok(core) => Session {
-            core,
-            history: Vec::new(alloc),
-        },
+    let mut session = match start(alloc, &mut steps) {
+        Ok(session) => session,
         Err(_) => return no_part(alloc, 9),
     };
     match play(alloc, prover, &mut session, parts, &mut steps) {

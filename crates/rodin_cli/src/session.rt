@@ -3,14 +3,16 @@ ghost use Rattle.std.specs.Prelude.{◌≡◌, ◌+◌, ◌<◌, ◌^◌, [], �
 ghost use Rattle.std.specs.FinMap as map;
 ghost use Rattle.core_steps.specs.declared.Event.{Event};
 ghost use Rattle.core_steps.specs.declared.Reply.{Reply};
+ghost use Rattle.core_steps.specs.State.{opened, no_texts};
 ghost use Rattle.core_steps.specs.Step.{IsTake, take_reply};
 ghost use Rattle.sequent_core.specs.declared.Ticket.{Ticket};
 ghost use Rattle.rodin_cli.specs.Session.{Performs, IsUnchanged};
 
-use core_steps::{Event, Reply};
+use core_steps::{Durable, Event, Reply};
 use formula_core::{OutOfMemory, Steps};
 use sequent_core::{Attempt, Ticket};
 use status_core::Core;
+use std::alloc::Global;
 use std::sync::ledger::Ledger;
 
 /// A core, and the events that it performed, each with its chair.
@@ -18,6 +20,20 @@ use std::sync::ledger::Ledger;
 pub struct Session {
     pub core: Core,
     pub history: Vec<(u32, Event)>,
+}
+
+/// The session of the empty project, before its first event.
+pub fn start<L: Ledger>(alloc: Global, steps: &mut Steps<L>) -> Result<Session, OutOfMemory>
+    ensures core { IfOk result (λ session. session.core ≡ opened no_texts) }
+    ensures history { IfOk result (λ session. session.history.items ≡ []) }
+{
+    match Core::start(alloc, Durable::empty(alloc), steps) {
+        Ok(core) => Ok(Session {
+            core,
+            history: Vec::new(alloc),
+        }),
+        Err(_) => Err(OutOfMemory),
+    }
 }
 
 // Adds an event of chair 0 where there is room for it.

@@ -1,31 +1,30 @@
 // The top call: the words of the command line, and the streams, the disk, the prover and the gate that are handed in.
-ghost use Rattle.std.specs.Prelude.{◌≡◌, ◌⊎◌, ◌↔◌, IsTrue};
+ghost use Rattle.std.specs.Prelude.{◌≡◌, ◌⊎◌, ◌↔◌, ℕ};
 ghost use Rattle.std.specs.Io.KnownBytes.{IsAtEnd};
 ghost use Rattle.outside.specs.Cause.{Rose};
-ghost use Rattle.rodin_cli.specs.Streams.{reading, writing};
+ghost use Rattle.session_streams.specs.Streams.{reading, writing};
 ghost use Rattle.rodin_cli.specs.Check.{Checks, EndsWithLine, IsCheckWords, usage_line};
+ghost use Rattle.rodin_cli.specs.Demo.{Demonstrates};
+ghost use Rattle.prover_pool.specs.Shift.{fair};
+ghost use Rattle.session_ends.specs.Sessions.{Sessions};
+ghost use Rattle.rodin_cli.specs.Words.{HaveNoForm, IsDemoWords, IsSessionWords};
 
 use crate::check::{ends_with_line, run_check};
+use crate::command::{Command, command_of};
+use crate::demo::run_demo;
 use crate::outcome::{Part, Run};
 use outside::{Disk, Gate, Sink, Source};
+use project_session::run_session;
 use sequent_core::Prover;
+use session_ends::Ended;
 use std::alloc::Global;
 use std::sync::Wait;
 use std::thread::Threads;
 
 const USAGE: &[u8] = b"usage: rodin check | rodin session WORKERS | rodin demo SEED N\n";
 
-fn is_check(words: &[String]) -> bool
-    ensures { IsTrue result ↔ IsCheckWords words.now }
-{
-    match words {
-        [word] => word.as_str() == "check",
-        _ => false,
-    }
-}
-
-/// Does what the words say, which are those of the command line after the program's name. `check` is the one form
-/// that is built; other words end with status 2 and the usage line. The disk comes back as it was handed in.
+/// Does what the words say, which are those of the command line after the program's name: `check`, `session WORKERS` or
+/// `demo SEED N`. Other words end with status 2 and the usage line.
 pub fn run<
     R: Threads + Wait + Sync,
     I: Source + Send,
@@ -34,35 +33,59 @@ pub fn run<
     P: Prover + Sync,
     G: Gate + Sync,
 >(
-    _rt: &R,
+    rt: &R,
     alloc: Global,
     words: &[String],
     input: &mut I,
     output: &mut O,
     disk: D,
     prover: &P,
-    _gate: &G,
+    gate: &G,
 ) -> Run<D>
     ensures checked { IsCheckWords words.now → Checks (P.answers prover.now) (P.sure prover.now)
         (reading (I.left input.old) (I.left input.new) (I.faults input.old) (I.faults input.new))
         (writing (O.written output.old) (O.written output.new) (O.faults output.old) (O.faults output.new))
         (record { status = result.status; history = result.history; last = result.last }) }
-    ensures usage { (IsCheckWords words.now → ⊥) → EndsWithLine 2 usage_line
+    ensures session { (workers : ℕ) → IsSessionWords words.now workers →
+        Sessions D.told D.bytes_of D.images D.faults
+        (fair (P.answers prover.now) (P.sure prover.now)) (P.sure prover.now) workers disk result.disk
+        (reading (I.left input.old) (I.left input.new) (I.faults input.old) (I.faults input.new))
+        (writing (O.written output.old) (O.written output.new) (O.faults output.old) (O.faults output.new))
+        result.status result.history.items result.last }
+    ensures demonstrated { (seed n : ℕ) → IsDemoWords words.now seed n →
+        Demonstrates (P.answers prover.now) (P.sure prover.now) seed n
         (writing (O.written output.old) (O.written output.new) (O.faults output.old) (O.faults output.new))
         (record { status = result.status; history = result.history; last = result.last }) }
-    ensures words { result.status ≡ 2 ↔ (IsCheckWords words.now → ⊥) }
-    ensures untouched { (IsCheckWords words.now → ⊥) → input.new ≡ input.old }
-    ensures disk { result.disk ≡ disk }
-    ensures ended { (result.status ≡ 0) ⊎ (result.status ≡ 1) ⊎ (result.status ≡ 4) → IsAtEnd (I.left input.new) }
+    ensures usage { HaveNoForm words.now → EndsWithLine 2 usage_line
+        (writing (O.written output.old) (O.written output.new) (O.faults output.old) (O.faults output.new))
+        (record { status = result.status; history = result.history; last = result.last }) }
+    ensures words { result.status ≡ 2 ↔ HaveNoForm words.now }
+    ensures untouched { (IsCheckWords words.now → ⊥) → ((workers : ℕ) → IsSessionWords words.now workers → ⊥) →
+        input.new ≡ input.old }
+    ensures disk { ((workers : ℕ) → IsSessionWords words.now workers → ⊥) → result.disk ≡ disk }
+    ensures ended { IsCheckWords words.now → (result.status ≡ 0) ⊎ (result.status ≡ 1) ⊎ (result.status ≡ 4) →
+        IsAtEnd (I.left input.new) }
     ensures read_fault { result.status ≡ 3 → Rose (I.faults input.old) (I.faults input.new) }
     ensures write_fault { result.status ≡ 4 → Rose (O.faults output.old) (O.faults output.new) }
-    ensures without_faults { IsCheckWords words.now → (Rose (I.faults input.old) (I.faults input.new) → ⊥) → (Rose (O.faults output.old) (O.faults output.new) → ⊥)
-        → (result.status ≡ 0) ⊎ (result.status ≡ 1) ⊎ (result.status ≡ 7) ⊎ (result.status ≡ 9) }
+    ensures disk_fault { (workers : ℕ) → IsSessionWords words.now workers →
+        result.status ≡ 5 → Rose (D.faults disk) (D.faults result.disk) }
+    ensures without_faults { IsCheckWords words.now →
+        (Rose (I.faults input.old) (I.faults input.new) → ⊥) → (Rose (O.faults output.old) (O.faults output.new) → ⊥) →
+        (result.status ≡ 0) ⊎ (result.status ≡ 1) ⊎ (result.status ≡ 7) ⊎ (result.status ≡ 9) }
+    ensures demo_without_faults { (seed n : ℕ) → IsDemoWords words.now seed n →
+        (Rose (O.faults output.old) (O.faults output.new) → ⊥) →
+        (result.status ≡ 0) ⊎ (result.status ≡ 7) ⊎ (result.status ≡ 9) }
 {
-    if !is_check(words) {
-        return with_disk(ends_with_line(alloc, output, 2, USAGE), disk);
+    match command_of(words) {
+        Some(Command::Check) => with_disk(run_check(alloc, input, output, prover), disk),
+        Some(Command::Session { workers }) => of_session(run_session(
+            rt, alloc, workers, input, output, disk, prover, gate,
+        )),
+        Some(Command::Demo { seed, n }) => {
+            with_disk(run_demo(alloc, seed, n, output, prover), disk)
+        }
+        None => with_disk(ends_with_line(alloc, output, 2, USAGE), disk),
     }
-    with_disk(run_check(alloc, input, output, prover), disk)
 }
 
 fn with_disk<D>(part: Part, disk: D) -> Run<D>
@@ -73,6 +96,24 @@ fn with_disk<D>(part: Part, disk: D) -> Run<D>
         history,
         last,
     } = part;
+    Run {
+        status,
+        disk,
+        history,
+        last,
+    }
+}
+
+fn of_session<D>(ended: Ended<D>) -> Run<D>
+    ensures { result ≡
+        record { status = ended.status; disk = ended.disk; history = ended.history; last = ended.last } }
+{
+    let Ended {
+        status,
+        disk,
+        history,
+        last,
+    } = ended;
     Run {
         status,
         disk,

@@ -1,19 +1,9 @@
-use Rattle.std.proofs.Common.{◌∙◌, ap, subst, inl, inr}
-use Rattle.core_steps.specs.State.{opened}
-use Rattle.core_steps.specs.Run.{Run}
-use Rattle.core_steps.proofs.Projects.{empty_small}
+use Rattle.std.proofs.Common.{inl, inr}
 use Rattle.rodin_cli.specs.declared.session.Session.{Session}
-use Rattle.rodin_cli.proofs.Building.{empty_buildable}
 use Rattle.rodin_cli.proofs.Legal.{full_legal}
 use Rattle.rodin_cli.proofs.Sessions.{Keeps-same}
 use Rattle.rodin_cli.proofs.Answering.{comes_of_answer, ran_out, ran_out_at_once, too_full}
 use Rattle.rodin_cli.proofs.check.check_parts.Goals as goal
-
-pub start-requires-clause-texts : goal.start-requires-clause-texts
-start-requires-clause-texts g c = rw c.empty.ensures empty_small
-
-pub start-requires-clause-built : goal.start-requires-clause-built
-start-requires-clause-built g c = rw c.empty.ensures empty_buildable
 
 pub returns-in-Err : goal.returns-in-Err
 returns-in-Err g c bytes made =
@@ -22,14 +12,14 @@ returns-in-Err g c bytes made =
 
 pub returns-in-Ok-Some : goal.returns-in-Ok-Some
 returns-in-Ok-Some g c bytes made =
-    let old : Session = record { core = c.in-Ok.core; history = c.new.result } in
+    let old : Session = c.in-Ok.session in
     let whole = rw c.in-Ok-Some.field-0-is at c.in-Ok-Some.ensures.whole in
     let shown = c.in-Ok-Some.shown in
     comes_of_answer (g.P.Prover.answers c.args.prover.now) (g.P.Prover.sure c.args.prover.now) old c.play.new.session whole.0 c.part_from.result
     (record {
       enters = c.enters_all.ensures;
-      fresh = c.in-Ok.ensures.opened ∙ ap opened c.empty.ensures;
-      empty = c.new.ensures.items;
+      fresh = c.in-Ok.ensures.core;
+      empty = c.in-Ok.ensures.history;
       extends = whole.4;
       legal = whole.2;
       history = c.part_from.ensures.history;
@@ -39,15 +29,15 @@ returns-in-Ok-Some g c bytes made =
 
 pub returns-in-Ok-None : goal.returns-in-Ok-None
 returns-in-Ok-None g c bytes made =
-    let old : Session = record { core = c.in-Ok.core; history = c.new.result } in
+    let old : Session = c.in-Ok.session in
     let full = rw c.in-Ok-None.field-0-is at c.in-Ok-None.ensures.whole in
     inr (inl (too_full (g.P.Prover.answers c.args.prover.now) (g.P.Prover.sure c.args.prover.now) old c.play.new.session full.0 c.part_from-in-Ok-None.result
     (record {
       enters = c.enters_all.ensures;
-      fresh = c.in-Ok.ensures.opened ∙ ap opened c.empty.ensures;
-      empty = c.new.ensures.items;
+      fresh = c.in-Ok.ensures.core;
+      empty = c.in-Ok.ensures.history;
       extends = full.2;
-      legal = full_legal c.args.parts.items full.0 c.play.new.session.core full.1 (subst (λ s. Run s full.0 c.play.new.session.core) (c.in-Ok.ensures.opened ∙ ap opened c.empty.ensures) full.2.0);
+      legal = full_legal c.args.parts.items full.0 c.in-Ok.session.core c.play.new.session.core full.1 full.2.0;
       history = c.part_from-in-Ok-None.ensures.history;
       last = c.part_from-in-Ok-None.ensures.last;
     })
@@ -55,13 +45,13 @@ returns-in-Ok-None g c bytes made =
 
 pub returns : goal.returns
 returns g c bytes made =
-    let old : Session = record { core = c.in-Ok.core; history = c.new.result } in
+    let old : Session = c.in-Ok.session in
     let front = c.in-Err-play.ensures.front in
     inr (inr (inr (ran_out (g.P.Prover.answers c.args.prover.now) (g.P.Prover.sure c.args.prover.now) old c.play.new.session front.0 c.part_from-in-Err-play.result
     (record {
       enters = c.enters_all.ensures;
-      fresh = c.in-Ok.ensures.opened ∙ ap opened c.empty.ensures;
-      empty = c.new.ensures.items;
+      fresh = c.in-Ok.ensures.core;
+      empty = c.in-Ok.ensures.history;
       extends = front.3;
       legal = front.2;
       history = c.part_from-in-Err-play.ensures.history;

@@ -1,6 +1,6 @@
 use Rattle.std.proofs.Common.{◌∙◌, ap, sym, subst, [], ◌∷◌, ◌++◌}
 use Rattle.core_steps.specs.Step.{Does}
-use Rattle.status_core.specs.Prepared.{changed}
+use Rattle.prepared_events.specs.Prepared.{changed}
 use Rattle.rodin_cli.proofs.session.perform.Goals as goal
 
 pub returns-clause-done : goal.returns-clause-done

@@ -1,0 +1,27 @@
+-- What the words `session WORKERS` come to.
+use Rattle.std.proofs.Common.{◌≡◌, ◌≢◌, ◌∙◌, inl, inr, ℕ, List, sym, subst, arith}
+use Rattle.outside.specs.Disk.{Sides}
+use Rattle.sequent_core.specs.declared.Sequent.{Sequent}
+use Rattle.sequent_core.specs.declared.Attempt.{Attempt}
+use Rattle.core_steps.specs.declared.Durable.{Durable}
+use Rattle.core_steps.specs.declared.Event.{Event}
+use Rattle.session_streams.specs.Streams.{Reading, Writing}
+use Rattle.session_ends.specs.Sessions.{Sessions}
+use Rattle.session_ends.specs.Statuses.{IsSessionStatus}
+
+module _ {D : Type 0} {told : Type 0} {bytes_of : D → Sides} {images : D → Sides → Type 0} {faults : D → ℕ} {fair : Sequent → Attempt → Type 0} {sure : Sequent → Type 0} where
+  -- one number of workers is the other
+  pub same_session : (n m : ℕ) → n ≡ m → (old new : D) (source : Reading) (sink : Writing) (status : ℕ) (history : List (ℕ × Event)) (last : Durable) →
+      Sessions told bytes_of images faults fair sure n old new source sink status history last → Sessions told bytes_of images faults fair sure m old new source sink status history last
+  same_session n m same old new source sink status history last is = subst (λ k. Sessions told bytes_of images faults fair sure k old new source sink status history last) same is
+
+-- a session doesn't end with the status of words of no form
+pub session_not_2 : (status : ℕ) → IsSessionStatus status → status ≢ 2
+session_not_2 status (inl p) e = let q = sym p ∙ e in omega (arith, q)
+session_not_2 status (inr (inl p)) e = let q = sym p ∙ e in omega (arith, q)
+session_not_2 status (inr (inr (inl p))) e = let q = sym p ∙ e in omega (arith, q)
+session_not_2 status (inr (inr (inr (inl p)))) e = let q = sym p ∙ e in omega (arith, q)
+session_not_2 status (inr (inr (inr (inr (inl p))))) e = let q = sym p ∙ e in omega (arith, q)
+session_not_2 status (inr (inr (inr (inr (inr (inl p)))))) e = let q = sym p ∙ e in omega (arith, q)
+session_not_2 status (inr (inr (inr (inr (inr (inr (inl p))))))) e = let q = sym p ∙ e in omega (arith, q)
+session_not_2 status (inr (inr (inr (inr (inr (inr (inr p))))))) e = let q = sym p ∙ e in omega (arith, q)

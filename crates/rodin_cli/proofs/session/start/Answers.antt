@@ -1,0 +1,9 @@
+use Rattle.core_steps.proofs.Projects.{empty_small}
+use Rattle.rodin_cli.proofs.Building.{empty_buildable}
+use Rattle.rodin_cli.proofs.session.start.Goals as goal
+
+pub start-requires-clause-texts : goal.start-requires-clause-texts
+start-requires-clause-texts g c = rw c.empty.ensures empty_small
+
+pub start-requires-clause-built : goal.start-requires-clause-built
+start-requires-clause-built g c = rw c.empty.ensures empty_buildable
