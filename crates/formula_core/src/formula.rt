@@ -17,13 +17,25 @@ use crate::ty::{Ty, copy_types, same_types};
 use std::alloc::Global;
 
 /// `Bound(0, _)` is the last identifier of the nearest binder.
-#[derive(Drop)]
 pub enum Formula {
     Int(i128),
     Free(Name, Ty),
     Bound(u32, Ty),
     Node(Op, List<Formula>, Ty),
     Bind(Binder, List<Ty>, List<Formula>, Ty),
+}
+
+// One call drops a formula, where a derive would take each variant apart in every function that owns one.
+impl Drop for Formula {
+    fn drop(self) {
+        match self {
+            Formula::Int(_) => {}
+            Formula::Free(_, _) => {}
+            Formula::Bound(_, _) => {}
+            Formula::Node(_, _, _) => {}
+            Formula::Bind(_, _, _, _) => {}
+        }
+    }
 }
 
 impl Formula {

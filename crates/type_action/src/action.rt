@@ -14,7 +14,7 @@ ghost use Rattle.type_action.specs.Typings.{IsActionOf, IsWellAction};
 use crate::targets::{
     agree, keep_unknown_targets, primed_targets, target_type, typed_targets, with_all,
 };
-use crate::values::{add_values, keep_unknowns, override_at, read_all, type_as};
+use crate::values::{add_values, keep_unknowns, override_at, read_all, type_as, type_as_predicate};
 use formula_core::{Action, Boxed, Env, Formula, List, Name, OutOfMemory, Raw, RawAction, Ref, Ty};
 use std::alloc::Global;
 use std::slice;
@@ -231,7 +231,7 @@ fn choose_such_known(
     if !agree(env, primed) {
         return Err(TypeFault::Clash);
     }
-    match type_as(alloc, after, tree, &Ty::Truth) {
+    match type_as_predicate(alloc, after, tree) {
         Ok(predicate) => choice_such(alloc, env, targets, predicate),
         Err(fault) => Err(fault),
     }

@@ -64,6 +64,14 @@ pub(crate) fn type_as(alloc: Global, env: &Env, tree: &Tree, ty: &Ty) -> Result<
     type_tree(alloc, env, &[], tree, Some(ty))
 }
 
+/// Types a predicate.
+pub(crate) fn type_as_predicate(alloc: Global, env: &Env, tree: &Tree) -> Result<Formula, TypeFault>
+    ensures typed { IfOk result (λ f. IsOnly (IsFormulaOf env.now (bare_of tree.now) Ty.Truth) f) }
+    ensures fault { IfErr result (λ e. TellsFault (IsFormulaOf env.now (bare_of tree.now) Ty.Truth) e) }
+{
+    type_as(alloc, env, tree, &Ty::Truth)
+}
+
 /// The new value of a target.
 fn type_value(
     alloc: Global,

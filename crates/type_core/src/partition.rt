@@ -18,7 +18,8 @@ pub(crate) fn make_partition(alloc: Global, parts: Vec<Formula>) -> Result<Formu
 fn partition_into(alloc: Global, set: &Formula, parts: &[Formula]) -> Result<Formula, OutOfMemory>
     ensures { IfOk result (λ f. f ≡ partition_of (set.now ∷ parts.now)) }
 {
-    let ty = set.type_of(&Ty::Int);
+    let integer = Ty::Int;
+    let ty = set.type_of(&integer);
     let union = make_union(alloc, ty, parts)?;
     let first = make_equal(alloc, set.copy(alloc)?, union)?;
     let mut rest = Vec::new(alloc);
