@@ -1,4 +1,5 @@
-/* The writes and syncs of 1,000 appends of records of 500 bytes, made by hand: prints the microseconds for each record. */
+/* The writes and syncs of appends of records, made by hand: prints the microseconds for each record. They are 1,000 of 500 bytes,
+   unless RECORDS and SIZE are defined otherwise. */
 #include <fcntl.h>
 #include <stdio.h>
 #include <stdlib.h>
@@ -6,7 +7,12 @@
 #include <time.h>
 #include <unistd.h>
 
-enum { RECORDS = 1000, SIZE = 500 };
+#ifndef RECORDS
+#define RECORDS 1000
+#endif
+#ifndef SIZE
+#define SIZE 500
+#endif
 
 static int file;
 
