@@ -119,7 +119,7 @@ fn checked_env(
     let mut entries = copy_entries(alloc, constants)?;
     add_in_order(alloc, &mut entries, env, sets)?;
     add_in_order(alloc, &mut entries, env, declared)?;
-    Ok(Env::of(entries))
+    Env::of(entries).shared(alloc)
 }
 
 /// The components of what is seen, and then this one for each declared name.

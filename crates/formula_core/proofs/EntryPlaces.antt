@@ -95,7 +95,7 @@ taken_at [] (suc n) i x is = is
 taken_at (y ∷ es) (suc n) zero x is = is
 taken_at (y ∷ es) (suc n) (suc i) x is = taken_at es n i x is
 
-taken : (es : Identifiers) (places : Places) (n : ℕ) → AreAtPlaces es places → AreAtPlaces (take n es) places
+pub taken : (es : Identifiers) (places : Places) (n : ℕ) → AreAtPlaces es places → AreAtPlaces (take n es) places
 taken es places n has i x is = has i x (taken_at es n i x is)
 
 pub on_taken : (b : Bool) (es : Identifiers) (places : Places) (n : ℕ) → OnTrue b (AreAtPlaces es places) → OnTrue b (AreAtPlaces (take n es) places)

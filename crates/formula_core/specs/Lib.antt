@@ -10,6 +10,7 @@ pub mod SchemeView
 pub mod Same
 pub mod Schemes
 pub mod Scopes
+pub mod SharedNames
 pub mod Shifting
 pub mod Sizes
 pub mod Substitution

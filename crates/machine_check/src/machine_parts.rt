@@ -208,7 +208,7 @@ fn checked_env(alloc: Global, view: &View<'_>, env: &Env, new: &[Name]) -> Resul
     let mut variables = copy_entries(alloc, &view.variables)?;
     all.append(&mut variables)?;
     add_typed_names(alloc, &mut all, env, new)?;
-    env_of(alloc, all)
+    env_of(alloc, all)?.shared(alloc)
 }
 
 /// The components of what is seen, and then this one for each new variable.

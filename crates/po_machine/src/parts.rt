@@ -192,7 +192,7 @@ fn obligation_env(
     add_all_lost_params(alloc, &kept, refined, &mut env)?;
     let targets = wanted_targets(alloc, machine, event, refined)?;
     add_primed(alloc, targets, &mut env)?;
-    Ok(env)
+    env.shared(alloc)
 }
 
 /// Each variable that is changed, own or lost, with its value after the event.

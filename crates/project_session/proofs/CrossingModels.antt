@@ -15,6 +15,9 @@ use Rattle.formula_core.specs.contracts.order.NamePartialEq.TheImpl as NameParti
 use Rattle.formula_core.specs.contracts.order.NamePartialOrd.TheImpl as NamePartialOrd
 use Rattle.formula_core.specs.contracts.env.Env.TheInside as EnvInside
 use Rattle.formula_core.specs.contracts.env.Env as Env
+use Rattle.formula_core.specs.contracts.env.EnvNames as EnvNames
+use Rattle.formula_core.specs.contracts.env.NameTable.TheInside as NameTableInside
+use Rattle.formula_core.specs.contracts.env.NameTable as NameTable
 use Rattle.formula_core.specs.contracts.name.Name as Name
 use Rattle.formula_core.specs.contracts.ty.Ty as Ty
 use Rattle.formula_core.specs.contracts.text.Label as Label
@@ -35,7 +38,7 @@ use Rattle.model_core.specs.contracts.checked.CheckedEvent as CheckedEvent
 use Rattle.model_core.specs.contracts.checked.CheckedMachine as CheckedMachine
 use Rattle.model_core.specs.contracts.checked.Checked as Checked
 use Rattle.model_core.proofs.component.Convergence.TheSendSync as convergences
-use Rattle.project_session.proofs.CrossingParts.{Crosses, struct_crosses, enum_crosses, option_crosses, pair_crosses, vec_crosses}
+use Rattle.project_session.proofs.CrossingParts.{Crosses, struct_crosses, enum_crosses, option_crosses, pair_crosses, vec_crosses, arc_crosses}
 use Rattle.project_session.proofs.CrossingFormulas.{list_crosses, index, name, ty, formula, typed_names, ref, raw, raw_action, action}
 
 truth : Crosses (as_row bool-field)
@@ -50,11 +53,20 @@ map_crosses R s = (
 pub size : Crosses usize
 size = (search sendable, search sendable)
 
-env_parts : Crosses EnvInside.the_row
-env_parts = struct_crosses EnvInside.the_type (
+table_parts : Crosses NameTableInside.the_row
+table_parts = struct_crosses NameTableInside.the_type (
   vec_crosses (Tuple (Name.the_row ∷ Ty.the_row ∷ [])) (pair_crosses Name.the_row Ty.the_row name ty),
   (map_crosses usize size, (truth, tt)),
 )
+
+table : Crosses NameTable.the_row
+table = (view_send _ _ _ _ _ table_parts.0, view_sync _ _ _ _ _ table_parts.1)
+
+held : Crosses EnvNames.the_row
+held = enum_crosses EnvNames.enum ((table, tt), ((arc_crosses NameTable.the_row table, (size, tt)), tt))
+
+env_parts : Crosses EnvInside.the_row
+env_parts = struct_crosses EnvInside.the_type (held, tt)
 
 pub env : Crosses Env.the_row
 env = (view_send _ _ _ _ _ env_parts.0, view_sync _ _ _ _ _ env_parts.1)

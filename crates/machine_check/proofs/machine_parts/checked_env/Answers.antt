@@ -6,9 +6,10 @@ use Rattle.machine_check.proofs.machine_parts.checked_env.Goals as goal
 
 pub returns : goal.returns
 returns c =
-    subst (λ all. IfOk c.env_of.result (λ env. env ≡ all))
-    (c.in_ok-add_typed_names.ensures
+    subst (λ all. IfOk c.shared.result (λ env. env ≡ all))
+    (c.in_ok-env_of.ensures
+    ∙ c.in_ok-add_typed_names.ensures
     ∙ ap (λ es. es ++ in_order c.args.env.now c.args.new.now)
     (c.in_ok-append.ensures.items
     ∙ (λ i. (c.in_ok-all.ensures ∙ ap (λ ps. entries (map placed ps)) c.deref.ensures.value) i ++ (c.in_ok-variables.ensures ∙ ap (λ ps. entries (map placed ps)) c.deref-2.ensures.value) i)))
-    c.env_of.ensures
+    c.shared.ensures

@@ -1,5 +1,5 @@
 use Rattle.formula_core.proofs.EntryPlaces.{distinct_taken, on_taken}
-use Rattle.formula_core.proofs.env.Env.cut.Goals as goal
+use Rattle.formula_core.proofs.env.NameTable.cut.Goals as goal
 
 pub invariant_of-self : goal.invariant_of-self
 invariant_of-self c =
