@@ -192,17 +192,12 @@ fn tested(alloc: Global, rule: Rule, sequent: &Sequent) -> Result<Rule, RuleFaul
 }
 
 /// The rule with the names that it asks for.
-fn with_names(rule: Rule, used: List<(Name, Ty)>) -> Rule
+fn with_names(mut rule: Rule, used: List<(Name, Ty)>) -> Rule
     requires { used ≡ used_of rule.kind (body_of rule) }
     ensures { result ≡ rule_of rule.kind (body_of rule) }
 {
-    Rule {
-        kind: rule.kind,
-        needed_goal: rule.needed_goal,
-        needed_hyps: rule.needed_hyps,
-        used,
-        antecedents: rule.antecedents,
-    }
+    rule.used = used;
+    rule
 }
 
 /// The rule, where it applies to the sequent.

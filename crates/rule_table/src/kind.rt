@@ -5,7 +5,6 @@ ghost use Rattle.rule_table.specs.Kinds.{kind_number};
 use formula_core::{Formula, List};
 
 /// The kinds of rule, in the order of their numbers, each with the word that names it in a step of a proof.
-#[derive(Drop)]
 pub enum RuleKind {
     /// `hyp`: the goal is a hypothesis.
     Hyp,
@@ -77,6 +76,49 @@ pub enum RuleKind {
     FunEq,
     /// `overOther`: an overridden function is as before at other arguments.
     OverOther,
+}
+
+// One call drops it, where a derive would take each variant apart in every function that owns one.
+impl Drop for RuleKind {
+    fn drop(self) {
+        match self {
+            RuleKind::Hyp => {}
+            RuleKind::Top => {}
+            RuleKind::Bot => {}
+            RuleKind::Contr => {}
+            RuleKind::AndR => {}
+            RuleKind::AndL => {}
+            RuleKind::OrR => {}
+            RuleKind::OrL => {}
+            RuleKind::ImpR => {}
+            RuleKind::ImpL => {}
+            RuleKind::Mp => {}
+            RuleKind::IffR => {}
+            RuleKind::IffL => {}
+            RuleKind::NotR => {}
+            RuleKind::NotL => {}
+            RuleKind::Contra => {}
+            RuleKind::AllR => {}
+            RuleKind::AllL(_) => {}
+            RuleKind::ExR(_) => {}
+            RuleKind::ExL => {}
+            RuleKind::Cut => {}
+            RuleKind::Cases => {}
+            RuleKind::Review => {}
+            RuleKind::EqRefl => {}
+            RuleKind::EqGoal => {}
+            RuleKind::EqHyp => {}
+            RuleKind::BoolCases => {}
+            RuleKind::BoolDiff => {}
+            RuleKind::RwGoal(_, _) => {}
+            RuleKind::RwHyp(_, _) => {}
+            RuleKind::Linear(_) => {}
+            RuleKind::CardNat => {}
+            RuleKind::FunIn => {}
+            RuleKind::FunEq => {}
+            RuleKind::OverOther => {}
+        }
+    }
 }
 
 impl RuleKind {
