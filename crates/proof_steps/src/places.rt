@@ -23,7 +23,7 @@ pub fn prune(tree: &mut Tree, path: &Path) -> Result<(), NoNode>
     if !has_rule(&*tree, path.items()) {
         return Err(NoNode);
     }
-    put(tree, path.items(), Tree::Leaf);
+    put(tree, path.items(), &mut Tree::Leaf);
     Ok(())
 }
 
@@ -44,12 +44,13 @@ fn has_rule(tree: &Tree, path: &[u32]) -> bool
 }
 
 /// Puts a part at the path; where there is no such place, the tree stays.
+// The part is swapped in: handed on by value, it would stand in each frame of 2,047 steps down.
 #[cycle(put)]
-pub(crate) fn put(tree: &mut Tree, path: &[u32], part: Tree)
-    ensures { tree.new ≡ put path.now part tree.old }
+pub(crate) fn put(tree: &mut Tree, path: &[u32], part: &mut Tree)
+    ensures { tree.new ≡ put path.now part.old tree.old }
 {
     let [at, rest @ ..] = path else {
-        *tree = part;
+        mem::swap(tree, part);
         return;
     };
     match mem::replace(tree, Tree::Leaf) {
@@ -62,8 +63,8 @@ pub(crate) fn put(tree: &mut Tree, path: &[u32], part: Tree)
 
 /// The trees with a part at the path below the one at a place.
 #[cycle(put)]
-fn put_below(trees: List<Tree>, at: usize, path: &[u32], part: Tree) -> List<Tree>
-    ensures { result ≡ change_at at (put path.now part) trees }
+fn put_below(trees: List<Tree>, at: usize, path: &[u32], part: &mut Tree) -> List<Tree>
+    ensures { result ≡ change_at at (put path.now part.old) trees }
 {
     let mut trees = trees.into_vec();
     if at >= trees.len() {

@@ -58,7 +58,7 @@ pub fn step(
     ensures too_many { IsErrOf result StepFault.TreeFull → 2048 < node_count (grown rule path.now tree.old) }
 {
     let leaves = leaves_at(&*tree, alloc, sequent, path, &rule)?;
-    put(tree, path.items(), Tree::Node(rule, leaves));
+    put(tree, path.items(), &mut Tree::Node(rule, leaves));
     Ok(())
 }
 
