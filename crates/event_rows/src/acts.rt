@@ -1,0 +1,149 @@
+//! Rows of events on a store.
+ghost use Rattle.std.specs.Prelude.{◌≡◌, ◌<◌};
+
+use crate::answers::prover_event;
+use crate::told::add_reply;
+use core_steps::{Event, Reply};
+use formula_core::Steps;
+use outside::SureDisk;
+use project_store::{OpenFault, Store, StoreFault};
+use sequent_core::Ticket;
+use session_words::{Commands, Line};
+use std::alloc::{AllocError, Global};
+use std::marker::Brand;
+use std::sync::ledger::{Blank, Ledger};
+
+// Each with a counter of steps that nobody reads.
+fn start_counted<L: Ledger>(
+    alloc: Global,
+    disk: SureDisk,
+    blank: Blank,
+) -> Result<Store<SureDisk>, (SureDisk, OpenFault)>
+    requires name { blank.name ≡ L.name }
+    requires parts { blank.parts ≡ L.parts }
+    requires some { 0 < blank.parts }
+{
+    let mut steps = Steps::<L>::open(blank);
+    Store::start(alloc, disk, &mut steps)
+}
+
+fn apply_counted<L: Ledger>(
+    store: &mut Store<SureDisk>,
+    event: Event,
+    blank: Blank,
+) -> Result<Reply, StoreFault>
+    requires name { blank.name ≡ L.name }
+    requires parts { blank.parts ≡ L.parts }
+    requires some { 0 < blank.parts }
+{
+    let mut steps = Steps::<L>::open(blank);
+    store.apply(0, event, &mut steps)
+}
+
+fn apply(store: &mut Store<SureDisk>, event: Event) -> Result<Reply, StoreFault> {
+    apply_counted::<Brand>(store, event, Blank::new(1))
+}
+
+// Keeps the ticket that a reply gives.
+fn keep(tickets: &mut Vec<Ticket>, reply: Result<Reply, StoreFault>) -> Result<(), AllocError> {
+    match reply {
+        Ok(Reply::Taken(ticket)) => {
+            tickets.push(ticket)?;
+            Ok(())
+        }
+        other => {
+            drop(other);
+            Ok(())
+        }
+    }
+}
+
+// Does an event, and adds its reply.
+fn act(
+    store: &mut Store<SureDisk>,
+    tickets: &mut Vec<Ticket>,
+    event: Event,
+    out: &mut String,
+) -> Result<(), AllocError> {
+    let reply = apply(store, event);
+    let told = match &reply {
+        Ok(reply) => add_reply(out, reply),
+        Err(fault) => add_fault(out, fault),
+    };
+    keep(tickets, reply)?;
+    told?;
+    out.push('\n')
+}
+
+fn add_fault(out: &mut String, fault: &StoreFault) -> Result<(), AllocError> {
+    write!(out, "fault {fault:?}")?;
+    Ok(())
+}
+
+// The event of a session's line that is one.
+fn event_of(line: Line) -> Option<Event> {
+    match line {
+        Line::One(event) => Some(event),
+        _ => None,
+    }
+}
+
+// The next event of the session's lines that are whole.
+fn next_event(commands: &mut Commands) -> Result<Option<Event>, AllocError> {
+    match commands.next() {
+        Ok(Some(line)) => Ok(event_of(line)),
+        Ok(None) => Ok(None),
+        Err(_) => Err(AllocError),
+    }
+}
+
+// Reads a line of a session, and does the event that it ends.
+fn act_on_line(
+    store: &mut Store<SureDisk>,
+    tickets: &mut Vec<Ticket>,
+    commands: &mut Commands,
+    line: &str,
+    out: &mut String,
+) -> Result<(), AllocError> {
+    if commands.feed(line.as_bytes()).is_err() || commands.feed(b"\n").is_err() {
+        return Err(AllocError);
+    }
+    match next_event(commands)? {
+        Some(event) => act(store, tickets, event, out),
+        None => Ok(()),
+    }
+}
+
+fn act_all(
+    alloc: Global,
+    store: &mut Store<SureDisk>,
+    tickets: &mut Vec<Ticket>,
+    commands: &mut Commands,
+    text: &str,
+    out: &mut String,
+) -> Result<(), AllocError> {
+    for line in text.split('\n') {
+        match prover_event(alloc, tickets, line) {
+            Some(event) => act(store, tickets, event, out)?,
+            None => act_on_line(store, tickets, commands, line, out)?,
+        }
+    }
+    Ok(())
+}
+
+/// Adds the name of a row, and the replies to its events.
+pub fn answer(alloc: Global, name: &str, text: &str, out: &mut String) -> Result<(), AllocError> {
+    if name.is_empty() {
+        return Ok(());
+    }
+    writeln!(out, "{name}")?;
+    let disk = SureDisk::new(Vec::new(alloc), Vec::new(alloc));
+    let Ok(mut store) = start_counted::<Brand>(alloc, disk, Blank::new(1)) else {
+        return out.push_str("no store\n");
+    };
+    let mut tickets = Vec::new(alloc);
+    let mut commands = Commands::new(alloc);
+    let done = act_all(alloc, &mut store, &mut tickets, &mut commands, text, out);
+    let (_disk, _history, _durable) = store.into_parts();
+    done
+}
