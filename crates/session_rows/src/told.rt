@@ -1,0 +1,112 @@
+//! What is printed of a row.
+
+use crate::again::{DIGEST, add_faults, add_stops};
+use crate::gates::Until;
+use crate::row::Row;
+use crate::runs::{Ran, Sides, read_sides, run_row};
+use std::alloc::{AllocError, Global};
+use std::sync::Wait;
+use std::thread::Threads;
+
+// Lines with `(digest)` for each that has a digest.
+fn add_lines(out: &mut String, lines: &str) -> Result<(), AllocError> {
+    for line in lines.split('\n') {
+        let shown = if line.len() == DIGEST {
+            "(digest)"
+        } else {
+            line
+        };
+        writeln!(out, "{shown}")?;
+    }
+    Ok(())
+}
+
+// What a run wrote, and its status.
+fn add_written(out: &mut String, row: &Row, ran: &Ran) -> Result<(), AllocError> {
+    match ran.written.strip_suffix("\n") {
+        Some(lines) if row.says("hide digests") => add_lines(out, lines)?,
+        _ => out.push_str(&ran.written)?,
+    }
+    if !ran.written.is_empty() && !ran.written.ends_with("\n") {
+        out.push_str("\n(cut)\n")?;
+    }
+    writeln!(out, "status {}", ran.status)?;
+    Ok(())
+}
+
+fn add_side(alloc: Global, out: &mut String, word: &str, side: &[u8]) -> Result<(), AllocError> {
+    let hex = hex::encode(alloc, side)?;
+    let blank = if side.is_empty() { "" } else { " " };
+    writeln!(out, "{word}{blank}{hex}")?;
+    Ok(())
+}
+
+// The lines that `tell` asks for.
+fn add_told(
+    alloc: Global,
+    row: &Row,
+    ran: &Ran,
+    sides: &Sides,
+    out: &mut String,
+) -> Result<(), AllocError> {
+    if row.says("tell left") {
+        add_side(alloc, out, "left", &sides.left)?;
+    }
+    if row.says("tell right") {
+        add_side(alloc, out, "right", &sides.right)?;
+    }
+    if row.until() != Until::Open {
+        let passed = if ran.is_passed {
+            "passed"
+        } else {
+            "did not pass"
+        };
+        writeln!(
+            out,
+            "the first ticket {passed} behind {} builds",
+            ran.builds
+        )?;
+    }
+    if row.says("tell last") {
+        writeln!(out, "last{}", ran.last)?;
+    }
+    Ok(())
+}
+
+// The lines that `each` asks for.
+fn add_each<R: Threads + Wait + Sync>(
+    rt: &R,
+    alloc: Global,
+    row: &Row,
+    begun: &Sides,
+    whole: &Ran,
+    out: &mut String,
+) -> Result<(), AllocError> {
+    if let Some(part) = row.each() {
+        add_faults(rt, alloc, row, begun, whole, part, out)?;
+    }
+    if row.says("each stop") {
+        add_stops(rt, alloc, whole, out)?;
+    }
+    Ok(())
+}
+
+/// Runs a row, and adds what is printed of it. The sides are those that the row before left, and then those that it leaves.
+pub fn answer<R: Threads + Wait + Sync>(
+    rt: &R,
+    alloc: Global,
+    row: &Row,
+    sides: &mut Sides,
+    out: &mut String,
+) -> Result<(), AllocError> {
+    if row.name.is_empty() {
+        return Ok(());
+    }
+    writeln!(out, "{}", row.name)?;
+    row.begin_sides(alloc, sides)?;
+    let mut whole = run_row(rt, alloc, row, sides, row.fault())?;
+    add_written(out, row, &whole)?;
+    add_each(rt, alloc, row, sides, &whole, out)?;
+    *sides = read_sides(alloc, &mut whole.disk)?;
+    add_told(alloc, row, &whole, sides, out)
+}
