@@ -7,11 +7,27 @@ use std::process::ExitCode;
 use std::{env, io};
 use strategy_core::AutoProver;
 
-fn main(rt: HostRuntime) -> io::Result<ExitCode> {
+/// The exit status where memory ran out.
+const OUT_OF_MEMORY: u8 = 9;
+
+// The words of the command line after the program's name.
+fn words(rt: &HostRuntime) -> io::Result<Vec<String>> {
     let mut words = Vec::new(rt.alloc());
-    for word in env::args(&rt)?.skip(1) {
+    for word in env::args(rt)?.skip(1) {
         words.push(word)?;
     }
+    Ok(words)
+}
+
+fn main(rt: HostRuntime) -> ExitCode {
+    let words = match words(&rt) {
+        Ok(words) => words,
+        Err(fault) if fault.kind() == io::ErrorKind::OutOfMemory => {
+            return ExitCode::from(OUT_OF_MEMORY);
+        }
+        // (a word that is not UTF-8 is in none of the forms)
+        Err(_) => Vec::new(rt.alloc()),
+    };
     let mut input = StreamSource::new(rt.stdin());
     let mut output = StreamSink::new(rt.stdout());
     let done = run(
@@ -24,5 +40,5 @@ fn main(rt: HostRuntime) -> io::Result<ExitCode> {
         &AutoProver::new(400),
         &OpenGate,
     );
-    Ok(ExitCode::from(done.status))
+    ExitCode::from(done.status)
 }
