@@ -7,11 +7,11 @@ ghost use Rattle.static_check.specs.Settling.{own_name};
 ghost use Rattle.build_core.specs.Private.{all_kept, are_same, found, is_kept};
 
 use crate::components::Components;
+use crate::numbered::Numbered;
 use crate::outcomes::Outcomes;
 use crate::owns::Own;
 use formula_core::{Name, PoName, Ref, Text};
 use model_core::RawComponent;
-use sequent_core::Obligation;
 use std::collections::BTreeMap;
 use std::sync::Arc;
 
@@ -24,7 +24,7 @@ pub struct Before<'a> {
     pub index: &'a BTreeMap<Name, usize>,
     pub outcomes: &'a Outcomes,
     pub owns: &'a BTreeMap<Name, Own>,
-    pub table: &'a [Arc<Obligation>],
+    pub table: &'a [Arc<Numbered>],
     pub places: &'a Arc<BTreeMap<PoName, usize>>,
 }
 

@@ -10,6 +10,7 @@ ghost use Rattle.build_core.specs.Tables.{AreFaults, AreWarnings, IsTable};
 use crate::built::{BuildFault, Built};
 use crate::fault_line::FaultLine;
 use crate::incremental::Builder;
+use crate::numbered::Numbered;
 use formula_core::{Name, OutOfMemory, Steps, Text};
 use sequent_core::Obligation;
 use std::alloc::Global;
@@ -44,12 +45,12 @@ pub fn build<L: Ledger>(
     })
 }
 
-fn copy_table(alloc: Global, table: &[Arc<Obligation>]) -> Result<Vec<Obligation>, OutOfMemory>
+fn copy_table(alloc: Global, table: &[Arc<Numbered>]) -> Result<Vec<Obligation>, OutOfMemory>
     ensures { IfOk result (λ copies. copies.items ≡ map arc_value table.now) }
 {
     let mut copies = Vec::new(alloc);
-    for obligation in table {
-        copies.push(obligation.copy(alloc)?)?;
+    for numbered in table {
+        copies.push(numbered.obligation().copy(alloc)?)?;
     }
     Ok(copies)
 }

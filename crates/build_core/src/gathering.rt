@@ -18,13 +18,13 @@ use crate::built::BuildFault;
 use crate::checking::{Judged, Progress};
 use crate::fault_line::{FaultLine, line_of};
 use crate::index::component_of;
+use crate::numbered::Numbered;
 use crate::outcomes::Outcomes;
 use crate::owns::{Own, made_shared, share_all};
 use formula_core::{Name, OutOfMemory, Text};
 use model_core::{Checked, CheckedMachine, Fault, RawComponent};
 use po_generate::add_obligations;
 use po_machine::{Gathered, TABLE_LIMIT};
-use sequent_core::Obligation;
 use std::alloc::Global;
 use std::collections::BTreeMap;
 use std::sync::Arc;
@@ -184,7 +184,7 @@ fn own_of(
 pub struct Collected {
     /// Those of each component, by its name.
     pub owns: BTreeMap<Name, Own>,
-    pub obligations: Vec<Arc<Obligation>>,
+    pub obligations: Vec<Arc<Numbered>>,
     /// The formula nodes of their sequents.
     pub nodes: u64,
 }

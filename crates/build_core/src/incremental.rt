@@ -20,6 +20,7 @@ use crate::components::Components;
 use crate::copies::copy_texts;
 use crate::fault_line::FaultLine;
 use crate::gathering::{Collected, collect, faults_in, warnings_in};
+use crate::numbered::Numbered;
 use crate::outcomes::Outcomes;
 use crate::owns::Own;
 use crate::places::kept_places;
@@ -41,7 +42,7 @@ pub struct Builder {
     index: BTreeMap<Name, usize>,
     outcomes: Outcomes,
     owns: BTreeMap<Name, Own>,
-    table: Vec<Arc<Obligation>>,
+    table: Vec<Arc<Numbered>>,
     places: Arc<BTreeMap<PoName, usize>>,
     faults: Vec<FaultLine>,
     warnings: Vec<(Name, Name)>,
@@ -99,8 +100,8 @@ impl Builder {
 
     /// Builds other texts. A text is read only if it is new or differs, or had a fault. A component is checked only if it
     /// may have moved, which is a step of the counter. What has not moved is shared with this builder: neither what a text
-    /// was read as nor a checked component nor an obligation of it is copied. The map of places is shared where all names
-    /// have their places of before.
+    /// was read as nor a checked component nor an obligation of it is copied, nor are its hypotheses numbered anew. The map
+    /// of places is shared where all names have their places of before.
     pub fn build<L: Ledger>(
         &self,
         alloc: Global,
@@ -132,8 +133,8 @@ impl Builder {
         &self.texts
     }
 
-    /// The obligations, in byte order of the components' names.
-    pub fn table(&self) -> &[Arc<Obligation>]
+    /// The obligations with the numbers of their hypotheses, in byte order of the components' names.
+    pub fn table(&self) -> &[Arc<Numbered>]
         ensures table { IsTable self.now (map arc_value result.now) }
         ensures fits { table_nodes (map arc_value result.now) ≤ table_limit }
     {
@@ -146,7 +147,7 @@ impl Builder {
             IsOfName table name.now (option_copied result) }
     {
         match self.places.get(name) {
-            Some(place) => Some(&self.table[*place]),
+            Some(place) => Some(self.table[*place].obligation()),
             None => None,
         }
     }

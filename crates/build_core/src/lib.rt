@@ -13,6 +13,7 @@ mod gathering;
 mod incremental;
 mod index;
 mod laws;
+mod numbered;
 mod outcomes;
 mod owns;
 mod parts;
@@ -29,3 +30,4 @@ pub use laws::{
     distinct_obligations, few_faults, one_list_of_faults, one_list_of_warnings, one_table,
     one_verdict,
 };
+pub use numbered::Numbered;

@@ -3,6 +3,7 @@
 ghost use Rattle.std.specs.Prelude.{◌≡◌, map, IfOk};
 ghost use Rattle.std.specs.Arc.{arc_value};
 
+use crate::numbered::Numbered;
 use formula_core::OutOfMemory;
 use sequent_core::Obligation;
 use std::alloc::Global;
@@ -12,15 +13,15 @@ use std::sync::Arc;
 /// nodes of their sequents.
 #[derive(Drop)]
 pub struct Own {
-    pub obligations: Vec<Arc<Obligation>>,
+    pub obligations: Vec<Arc<Numbered>>,
     pub nodes: u64,
 }
 
 /// The same obligations, shared.
 pub fn share_all(
     alloc: Global,
-    obligations: &[Arc<Obligation>],
-) -> Result<Vec<Arc<Obligation>>, OutOfMemory>
+    obligations: &[Arc<Numbered>],
+) -> Result<Vec<Arc<Numbered>>, OutOfMemory>
     ensures { IfOk result (λ shared. map arc_value shared.items ≡ map arc_value obligations.now) }
 {
     let mut shared = Vec::new(alloc);
@@ -30,16 +31,17 @@ pub fn share_all(
     Ok(shared)
 }
 
-/// Obligations that can be shared.
+/// Obligations that can be shared, with the numbers of their hypotheses.
 pub fn made_shared(
     alloc: Global,
     obligations: Vec<Obligation>,
-) -> Result<Vec<Arc<Obligation>>, OutOfMemory>
+) -> Result<Vec<Arc<Numbered>>, OutOfMemory>
     ensures { IfOk result (λ shared. map arc_value shared.items ≡ obligations.items) }
 {
     let mut shared = Vec::new(alloc);
     for obligation in obligations {
-        shared.push(Arc::new(alloc, obligation)?)?;
+        let numbered = Numbered::of(alloc, obligation)?;
+        shared.push(Arc::new(alloc, numbered)?)?;
     }
     Ok(shared)
 }

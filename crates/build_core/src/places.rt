@@ -5,8 +5,8 @@ ghost use Rattle.std.specs.Arc.{arc_value};
 ghost use Rattle.build_core.specs.Private.{HasPlaces, obligation_names};
 
 use crate::before::Before;
+use crate::numbered::Numbered;
 use formula_core::{OutOfMemory, PoName};
-use sequent_core::Obligation;
 use std::alloc::Global;
 use std::collections::BTreeMap;
 use std::sync::Arc;
@@ -15,14 +15,14 @@ use std::sync::Arc;
 fn note_place(
     alloc: Global,
     places: &mut BTreeMap<PoName, usize>,
-    obligations: &[Arc<Obligation>],
+    obligations: &[Arc<Numbered>],
     at: usize,
 ) -> Result<(), OutOfMemory>
     requires within { at < length obligations.now }
     requires places { HasPlaces (map arc_value (take at obligations.now)) places.old.entries }
     ensures { OnOk result (HasPlaces (map arc_value (take (at + 1) obligations.now)) places.new.entries) }
 {
-    let name = &obligations[at].name;
+    let name = &obligations[at].obligation().name;
     match places.get(name) {
         Some(_) => Ok(()),
         None => {
@@ -35,7 +35,7 @@ fn note_place(
 /// The place of the first obligation of each name.
 fn places_of(
     alloc: Global,
-    obligations: &[Arc<Obligation>],
+    obligations: &[Arc<Numbered>],
 ) -> Result<BTreeMap<PoName, usize>, OutOfMemory>
     ensures { IfOk result (λ places. HasPlaces (map arc_value obligations.now) places.entries) }
 {
@@ -47,7 +47,7 @@ fn places_of(
 }
 
 /// Whether two tables have the same names at the same places.
-fn same_names(one: &[Arc<Obligation>], other: &[Arc<Obligation>]) -> bool
+fn same_names(one: &[Arc<Numbered>], other: &[Arc<Numbered>]) -> bool
     ensures { IsTrue result ↔
         (obligation_names (map arc_value one.now) ≡ obligation_names (map arc_value other.now)) }
 {
@@ -55,7 +55,7 @@ fn same_names(one: &[Arc<Obligation>], other: &[Arc<Obligation>]) -> bool
         return false;
     }
     for at in 0..one.len() {
-        if !one[at].name.same(&other[at].name) {
+        if !one[at].obligation().name.same(&other[at].obligation().name) {
             return false;
         }
     }
@@ -66,7 +66,7 @@ fn same_names(one: &[Arc<Obligation>], other: &[Arc<Obligation>]) -> bool
 pub fn kept_places(
     alloc: Global,
     before: &Before<'_>,
-    table: &[Arc<Obligation>],
+    table: &[Arc<Numbered>],
 ) -> Result<Arc<BTreeMap<PoName, usize>>, OutOfMemory>
     requires { HasPlaces (map arc_value before.now.table.now) (arc_value before.now.places.now).entries }
     ensures { IfOk result (λ places. HasPlaces (map arc_value table.now) (arc_value places).entries) }

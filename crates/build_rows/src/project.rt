@@ -43,7 +43,8 @@ fn built<L: Ledger>(alloc: Global, texts: &BTreeMap<Name, Text>, blank: Blank) -
 
 fn add_built(alloc: Global, names_alone: bool, builder: &Builder, out: &mut String) -> Option<()> {
     add_told(builder, out)?;
-    for obligation in builder.table() {
+    for numbered in builder.table() {
+        let obligation = numbered.obligation();
         writeln!(out, "{}", obligation.name.as_text()).ok()?;
         if !names_alone {
             add_sequent(alloc, &obligation.sequent, out).ok()?;

@@ -3,7 +3,7 @@ ghost use Rattle.std.specs.Prelude.{◌≡◌, ◌<◌};
 ghost use Rattle.build_core.specs.Projects.{IsBuildable};
 
 use crate::texts::{are_buildable, texts_of};
-use build_core::{Builder, FaultLine};
+use build_core::{Builder, FaultLine, Numbered};
 use formula_core::{Name, Steps, Text};
 use sequent_core::Obligation;
 use std::alloc::Global;
@@ -126,7 +126,7 @@ fn rebuild_often<L: Ledger>(
 }
 
 /// How many obligations other builders have too.
-fn kept_of(table: &[Arc<Obligation>]) -> usize {
+fn kept_of(table: &[Arc<Numbered>]) -> usize {
     let mut kept: usize = 0;
     for obligation in table {
         if Arc::strong_count(obligation) > OWN {
@@ -140,8 +140,12 @@ fn same_obligations(one: &Obligation, other: &Obligation) -> bool {
     one.name.same(&other.name) && one.sequent.same(&other.sequent)
 }
 
-fn same_tables(one: &[Arc<Obligation>], other: &[Arc<Obligation>]) -> bool {
-    one.len() == other.len() && one.iter().zip(other).all(|(a, b)| same_obligations(a, b))
+fn same_tables(one: &[Arc<Numbered>], other: &[Arc<Numbered>]) -> bool {
+    one.len() == other.len()
+        && one
+            .iter()
+            .zip(other)
+            .all(|(a, b)| same_obligations(a.obligation(), b.obligation()))
 }
 
 fn same_faults(one: &[FaultLine], other: &[FaultLine]) -> bool {
@@ -167,7 +171,8 @@ fn same_warnings(one: &[(Name, Name)], other: &[(Name, Name)]) -> bool {
 
 /// Whether each obligation of the table is found by its name, at its place.
 fn are_found(builder: &Builder) -> bool {
-    for (at, obligation) in builder.table().iter().enumerate() {
+    for (at, numbered) in builder.table().iter().enumerate() {
+        let obligation = numbered.obligation();
         if builder.place(&obligation.name) != Some(at) {
             return false;
         }

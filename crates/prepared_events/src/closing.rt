@@ -7,13 +7,13 @@ ghost use Rattle.prepared_events.specs.Closed.{AreClosedBefore, AreOthersBefore,
 ghost use Rattle.prepared_events.specs.Prepared.{moved};
 
 use crate::moves::TicketMove;
+use build_core::Builder;
 use formula_core::PoName;
 use proof_entries::Entry;
 use sequent_core::Ticket;
-use table_lookup::Numbered;
 
 // A place, at most this one, before which no obligation has the name.
-fn closed_for_others(builder: &Numbered, name: &PoName, closed: usize) -> usize
+fn closed_for_others(builder: &Builder, name: &PoName, closed: usize) -> usize
     ensures most { result ≤ closed }
     ensures others { AreOthersBefore builder.now name.now result }
 {
@@ -24,7 +24,7 @@ fn closed_for_others(builder: &Numbered, name: &PoName, closed: usize) -> usize
 }
 
 /// A place before which no obligation is open after the entry.
-pub fn closed_after(builder: &Numbered, entry: Option<&Entry>, closed: usize) -> usize
+pub fn closed_after(builder: &Builder, entry: Option<&Entry>, closed: usize) -> usize
     ensures closed { (s : State) → builder.now ≡ map.entries s.durable.built → AreClosedBefore s closed →
         AreClosedBefore (record s { durable = entered_if s.durable (option_copied entry.entry) }) result }
 {
@@ -40,7 +40,7 @@ pub fn closed_after(builder: &Numbered, entry: Option<&Entry>, closed: usize) ->
 
 /// A place before which no obligation is open after what happens to the tickets.
 pub fn closed_beside(
-    builder: &Numbered,
+    builder: &Builder,
     out: &[Ticket],
     tickets: &TicketMove,
     closed: usize,

@@ -21,11 +21,11 @@ ghost use Rattle.prepared_events.specs.Private.{
 
 use crate::moves::TicketMove;
 use crate::prepared::{Built, EntryParts, MoveParts};
+use build_core::Builder;
 use core_steps::{Facts, PoMap, Project, Room, StoredProof, Texts, push_in};
 use formula_core::{Name, PoName, Text};
 use proof_entries::Entry;
 use sequent_core::{Sequent, Ticket};
-use table_lookup::Numbered;
 
 // The proofs without those of these names.
 fn remove_all(proofs: &mut PoMap<StoredProof>, names: &[PoName])
@@ -47,7 +47,7 @@ pub fn build_over(
     entry: Option<&Entry>,
     built: Option<Built>,
     project: &mut Project,
-    builder: &mut Numbered,
+    builder: &mut Builder,
 )
     requires built { IfSome built (λ b. b.builder ≡ map.entries b.project) }
     requires builder { builder.old ≡ map.entries project.old }

@@ -7,19 +7,19 @@ ghost use Rattle.prepared_events.specs.Kept.{HasFacts};
 ghost use Rattle.prepared_events.specs.Making.{telling, putting, dropping, building, keeping, purging, sending, taking_in, trying};
 
 use crate::moves::TicketMove;
+use build_core::Builder;
 use core_steps::{Facts, Project, Reply, Room, StoredProof};
 use formula_core::{List, Name, PoName, Text};
 use proof_entries::{Entry, Proof};
 use sequent_core::{Sequent, Ticket};
 use std::alloc::Global;
 use std::marker::Model;
-use table_lookup::Numbered;
 
 /// The texts that were built, and what they were built to.
 #[derive(Drop)]
 pub struct Built {
     pub project: Project,
-    pub builder: Numbered,
+    pub builder: Builder,
 }
 
 /// What is prepared for an event: its reply, its entry, and all memory that its commit wants.

@@ -4,7 +4,7 @@ use denote.Hole.{as_row}
 use denote.Builtin.{usize, u64}
 use denote.Struct.Field.{u8-field, u64-field}
 use denote.Struct.Tuple.{Tuple}
-use denote.Param.Send.{IsSend, view_send, sendable}
+use denote.Param.Send.{IsSend, view_send, view_sync, sendable}
 use denote.Param.SendFields.{declared_send, variants_send}
 use Rattle.std.proofs.Crossing.{Vec-send}
 use Rattle.std.proofs.MapsCrossing.{BTreeMap-send, BTreeMap-sync}
@@ -24,18 +24,17 @@ use Rattle.std.specs.contracts.result.Result as Result
 use Rattle.formula_core.specs.contracts.name.Name as Name
 use Rattle.formula_core.specs.contracts.text.PoName as PoName
 use Rattle.formula_core.specs.contracts.text.Text as Text
-use Rattle.formula_core.specs.contracts.list.List as List
-use Rattle.formula_core.proofs.list.List.TheSendSync as lists
 use Rattle.formula_core.proofs.text.Text.TheSendSync as texts
 use Rattle.model_core.specs.contracts.component.RawComponent as RawComponent
 use Rattle.model_core.specs.contracts.checked.Checked as Checked
 use Rattle.model_core.specs.contracts.fault.Fault as Fault
 use Rattle.model_core.proofs.fault.Fault.TheSendSync as faults
-use Rattle.sequent_core.specs.contracts.sequent.Obligation as Obligation
 use Rattle.build_core.specs.contracts.components.Components as Components
 use Rattle.build_core.specs.contracts.components.Components.TheInside as ComponentsInside
 use Rattle.build_core.specs.contracts.outcomes.Outcomes as Outcomes
 use Rattle.build_core.specs.contracts.outcomes.Outcomes.TheInside as OutcomesInside
+use Rattle.build_core.specs.contracts.numbered.Numbered as Numbered
+use Rattle.build_core.specs.contracts.numbered.Numbered.TheInside as NumberedInside
 use Rattle.build_core.specs.contracts.owns.Own as Own
 use Rattle.build_core.specs.contracts.fault_line.FaultLine as FaultLine
 use Rattle.build_core.specs.contracts.incremental.Builder as Builder
@@ -51,10 +50,8 @@ use Rattle.core_steps.proofs.texts.Texts.TheSendSync as stored_texts
 use Rattle.core_steps.proofs.project.Project.TheSendSync as projects
 use Rattle.core_steps.proofs.events.Question.TheSendSync as questions
 use Rattle.core_steps.proofs.events.Status.TheSendSync as statuses
-use Rattle.table_lookup.specs.contracts.numbered.Numbered as Numbered
-use Rattle.table_lookup.specs.contracts.numbered.Numbered.TheInside as NumberedInside
-use Rattle.project_session.proofs.CrossingParts.{Crosses, enum_crosses, option_send, pair_send, arc_crosses, vec_crosses}
-use Rattle.project_session.proofs.CrossingFormulas.{name}
+use Rattle.project_session.proofs.CrossingParts.{Crosses, struct_crosses, enum_crosses, option_send, pair_send, arc_crosses, vec_crosses}
+use Rattle.project_session.proofs.CrossingFormulas.{list_crosses, name}
 use Rattle.project_session.proofs.CrossingModels.{map_crosses, size, raw_component, checked}
 use Rattle.project_session.proofs.CrossingRules.{po_name, obligation, words, proof, deps, hint, attempt}
 
@@ -85,8 +82,14 @@ outcomes = view_send _ _ _ _ _ (
 number : IsSend (as_row u64-field)
 number = search sendable
 
-shared_obligations : IsSend (Vec.the_row (Arc.the_row Obligation.the_row Global.the_row ghosts) Global.the_row ghosts)
-shared_obligations = Vec-send (Arc.the_row Obligation.the_row Global.the_row ghosts) (arc_crosses Obligation.the_row obligation).0
+numbered_parts : Crosses NumberedInside.the_row
+numbered_parts = struct_crosses NumberedInside.the_type (obligation, (list_crosses u64 (search sendable, search sendable), tt))
+
+numbered : Crosses Numbered.the_row
+numbered = (view_send _ _ _ _ _ numbered_parts.0, view_sync _ _ _ _ _ numbered_parts.1)
+
+shared_obligations : IsSend (Vec.the_row (Arc.the_row Numbered.the_row Global.the_row ghosts) Global.the_row ghosts)
+shared_obligations = Vec-send (Arc.the_row Numbered.the_row Global.the_row ghosts) (arc_crosses Numbered.the_row numbered).0
 
 own : IsSend Own.the_row
 own = declared_send Own.the_type (shared_obligations, (number, tt))
@@ -100,7 +103,7 @@ places = (
 shared_places : IsSend (Arc.the_row (BTreeMap.the_row PoName.the_row usize Global.the_row PoNameOrd.ghosts PoNamePartialEq.ghosts PoNamePartialOrd.ghosts ghosts) Global.the_row ghosts)
 shared_places = (arc_crosses (BTreeMap.the_row PoName.the_row usize Global.the_row PoNameOrd.ghosts PoNamePartialEq.ghosts PoNamePartialOrd.ghosts ghosts) places).0
 
-builder : IsSend Builder.the_row
+pub builder : IsSend Builder.the_row
 builder = view_send _ _ _ _ _ (
     declared_send BuilderInside.the_type (
       (map_crosses Text.the_row text).0,
@@ -128,9 +131,6 @@ builder = view_send _ _ _ _ _ (
       ),
     )
     )
-
-pub numbered : IsSend Numbered.the_row
-numbered = view_send _ _ _ _ _ (declared_send NumberedInside.the_type (builder, (Vec-send (List.the_row u64) (lists.the_send u64 (search sendable)), tt)))
 
 facts : IsSend Facts.the_row
 facts = declared_send Facts.the_type (option_send Deps.the_row deps, (statuses.the_send, tt))

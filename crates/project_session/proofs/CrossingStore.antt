@@ -26,7 +26,7 @@ use Rattle.project_store.specs.contracts.store.Store.TheInside as StoreInside
 use Rattle.project_session.proofs.CrossingParts.{option_send, pair_send}
 use Rattle.project_session.proofs.CrossingModels.{size}
 use Rattle.project_session.proofs.CrossingRules.{sequent, ticket}
-use Rattle.project_session.proofs.CrossingBuilds.{durable, event, numbered}
+use Rattle.project_session.proofs.CrossingBuilds.{builder, durable, event}
 
 number : IsSend (as_row u64-field)
 number = search sendable
@@ -37,7 +37,7 @@ allocator = search sendable depth 20
 core : IsSend Core.the_row
 core = view_send _ _ _ _ _ (
     declared_send CoreInside.the_type
-    (allocator, (durable, (numbered, (Vec-send Ticket.the_row ticket, (po_maps.the_send Sequent.the_row sequent.0, (number, (size.0, tt)))))))
+    (allocator, (durable, (builder, (Vec-send Ticket.the_row ticket, (po_maps.the_send Sequent.the_row sequent.0, (number, (size.0, tt)))))))
     )
 
 act : IsSend (Tuple (u32 ∷ Event.the_row ∷ []))

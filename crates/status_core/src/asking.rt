@@ -11,15 +11,15 @@ ghost use Rattle.core_steps.specs.Status.{Shows};
 ghost use Rattle.core_steps.specs.Table.{IsTable};
 ghost use Rattle.prepared_events.specs.Prepared.{Prepares};
 ghost use Rattle.status_core.specs.Parts.{IsFirstOpen};
-ghost use Rattle.table_lookup.specs.Prints.{prints_in};
 
 use crate::core_state::Core;
+use build_core::Numbered;
 use core_steps::{FaultLine, PoMap, Reply, Status, StoredProof};
 use durable_entries::state_digest;
 use formula_core::{List, Name, OutOfMemory, PoName};
 use prepared_events::Prepared;
 use proof_entries::Origin;
-use sequent_core::{Obligation, Ticket};
+use sequent_core::Ticket;
 use std::alloc::Global;
 use std::sync::Arc;
 use table_lookup::{origin_of, status_with};
@@ -33,12 +33,7 @@ impl Core {
         typed_tables();
         let _texts = self.builder.texts();
         let table = self.builder.table();
-        let shown = shown_statuses(
-            self.alloc,
-            &self.durable.proofs,
-            table,
-            self.builder.prints(),
-        )?;
+        let shown = shown_statuses(self.alloc, &self.durable.proofs, table)?;
         Ok(self.tell(Reply::Statuses(List::of(shown))))
     }
 
@@ -93,16 +88,14 @@ fn is_idle(found: Option<usize>, out: &[Ticket]) -> bool
 fn shown_statuses(
     alloc: Global,
     proofs: &PoMap<StoredProof>,
-    table: &[Arc<Obligation>],
-    prints: &[List<u64>],
+    table: &[Arc<Numbered>],
 ) -> Result<Vec<(PoName, Status, Option<Origin>)>, OutOfMemory>
-    requires sequents { AreSequents (map arc_value table.now) }
-    requires prints { prints.now ≡ map prints_in (map arc_value table.now) }
+    requires { AreSequents (map arc_value table.now) }
     ensures { IfOk result (λ shown. AllZip (Shows proofs.now) (map arc_value table.now) shown.items) }
 {
     let mut shown = Vec::new(alloc);
     for at in 0..table.len() {
-        shown.push(shown_status(alloc, proofs, &table[at], &prints[at])?)?;
+        shown.push(shown_status(alloc, proofs, &table[at])?)?;
     }
     Ok(shown)
 }
@@ -110,14 +103,13 @@ fn shown_statuses(
 fn shown_status(
     alloc: Global,
     proofs: &PoMap<StoredProof>,
-    obligation: &Obligation,
-    prints: &List<u64>,
+    numbered: &Numbered,
 ) -> Result<(PoName, Status, Option<Origin>), OutOfMemory>
-    requires sequent { IsSequent obligation.now.sequent }
-    requires prints { prints.now ≡ prints_in obligation.now }
-    ensures { IfOk result (λ shown. Shows proofs.now obligation.now shown) }
+    requires { IsSequent numbered.now.sequent }
+    ensures { IfOk result (λ shown. Shows proofs.now numbered.now shown) }
 {
-    let status = status_with(proofs, obligation, prints);
+    let status = status_with(proofs, numbered);
+    let obligation = numbered.obligation();
     let origin = origin_of(proofs, &obligation.name);
     let name = obligation.name.copy(alloc)?;
     Ok((name, status, origin))

@@ -12,13 +12,12 @@ ghost use Rattle.prepared_events.specs.Prepared.{BuildsInFewSteps, ComesAs, Prep
 ghost use Rattle.status_core.specs.Parts.{RefusesEdit};
 
 use crate::core_state::Core;
-use build_core::{BuildFault, few_faults, one_table};
+use build_core::{BuildFault, Builder, few_faults, one_table};
 use core_steps::{PoMap, Project, Reply, StoredProof, Texts};
 use formula_core::{List, Name, OutOfMemory, PoName, Steps, Text};
 use prepared_events::{Built, Prepared};
 use std::alloc::Global;
 use std::sync::ledger::Ledger;
-use table_lookup::Numbered;
 
 /// The most bytes of a component's text.
 pub const TEXT_LIMIT: usize = 65_536;
@@ -113,7 +112,7 @@ impl Core {
     }
 
     // The texts were built: the numbers of components, faulted ones and obligations are told.
-    fn built(&self, project: Project, builder: Numbered) -> Prepared
+    fn built(&self, project: Project, builder: Builder) -> Prepared
         requires project { project ≡ self.now.durable.texts }
         requires builder { builder ≡ map.entries project }
         ensures { Prepares self.now Event.Build result }
@@ -144,7 +143,7 @@ impl Core {
 fn names_lacking(
     alloc: Global,
     proofs: &PoMap<StoredProof>,
-    builder: &Numbered,
+    builder: &Builder,
 ) -> Result<Vec<PoName>, OutOfMemory>
     ensures names { IfOk result (λ names. (table : List Obligation) → IsTableOf builder.now table → names.items ≡ lacking proofs.now table) }
     ensures few { IfOk result (λ names. length names.items ≤ map.len proofs.now) }

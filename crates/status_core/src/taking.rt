@@ -58,7 +58,6 @@ impl Core {
             &self.out,
             &self.tried,
             table,
-            self.builder.prints(),
             self.closed,
         );
         let end = table.len();
@@ -85,7 +84,7 @@ impl Core {
         let table = self.builder.table();
         match found {
             None => Ok(self.tell(Reply::Nothing)),
-            Some(at) => self.taking(&table[at]),
+            Some(at) => self.taking(table[at].obligation()),
         }
     }
 

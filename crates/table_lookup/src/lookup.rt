@@ -11,10 +11,10 @@ ghost use Rattle.core_steps.specs.Durable.{text_cmp};
 ghost use Rattle.core_steps.specs.Status.{IsStatus, IsUnsettledBy, origin_of};
 ghost use Rattle.core_steps.specs.Tickets.{CanTake, IsFor, IsPresentStatus, CanStore};
 ghost use Rattle.table_lookup.specs.Tickets.{IsTicketAt};
-ghost use Rattle.table_lookup.specs.Prints.{prints_in};
 
+use build_core::Numbered;
 use core_steps::{PoMap, Status, StoredProof, is_unsettled};
-use formula_core::{List, OutOfMemory, PoName};
+use formula_core::{OutOfMemory, PoName};
 use proof_entries::Origin;
 use proof_tree::is_good;
 use sequent_core::{Obligation, Sequent, Ticket, Tree};
@@ -60,19 +60,15 @@ pub fn status_of(proofs: &PoMap<StoredProof>, name: &PoName, sequent: &Sequent) 
     }
 }
 
-/// The same, with the numbers of the sequent's hypotheses, by which they are looked for.
-pub fn status_with(
-    proofs: &PoMap<StoredProof>,
-    obligation: &Obligation,
-    prints: &List<u64>,
-) -> Status
-    requires sequent { IsSequent obligation.now.sequent }
-    requires prints { prints.now ≡ prints_in obligation.now }
-    ensures status { IsStatus (get proofs.now obligation.now.name) obligation.now.sequent result }
+/// The same for an obligation whose hypotheses are numbered: they are looked for by their numbers.
+pub fn status_with(proofs: &PoMap<StoredProof>, numbered: &Numbered) -> Status
+    requires sequent { IsSequent numbered.now.sequent }
+    ensures status { IsStatus (get proofs.now numbered.now.name) numbered.now.sequent result }
 {
+    let obligation = numbered.obligation();
     match proofs.get(&obligation.name) {
         None => Status::Unattempted,
-        Some(stored) => stored.status_with(&obligation.sequent, prints),
+        Some(stored) => stored.status_with(&obligation.sequent, numbered.prints()),
     }
 }
 
@@ -94,17 +90,12 @@ fn is_unsettled_by(proofs: &PoMap<StoredProof>, obligation: &Obligation) -> bool
     is_unsettled(status_of(proofs, &obligation.name, &obligation.sequent))
 }
 
-// The same, with the numbers of its hypotheses.
-fn is_unsettled_with(
-    proofs: &PoMap<StoredProof>,
-    obligation: &Obligation,
-    prints: &List<u64>,
-) -> bool
-    requires sequent { IsSequent obligation.now.sequent }
-    requires prints { prints.now ≡ prints_in obligation.now }
-    ensures { IsTrue result ↔ IsUnsettledBy proofs.now obligation.now }
+// The same, by the numbers of its hypotheses.
+fn is_unsettled_with(proofs: &PoMap<StoredProof>, numbered: &Numbered) -> bool
+    requires { IsSequent numbered.now.sequent }
+    ensures { IsTrue result ↔ IsUnsettledBy proofs.now numbered.now }
 {
-    is_unsettled(status_with(proofs, obligation, prints))
+    is_unsettled(status_with(proofs, numbered))
 }
 
 /// Whether the obligation is unattempted or broken, and no ticket for it is out.
@@ -120,16 +111,15 @@ fn can_take(
     proofs: &PoMap<StoredProof>,
     out: &[Ticket],
     tried: &PoMap<Sequent>,
-    obligation: &Obligation,
-    prints: &List<u64>,
+    numbered: &Numbered,
 ) -> bool
-    requires sequent { IsSequent obligation.now.sequent }
-    requires prints { prints.now ≡ prints_in obligation.now }
-    ensures { IsTrue result ↔ CanTake proofs.now out.now tried.now obligation.now }
+    requires { IsSequent numbered.now.sequent }
+    ensures { IsTrue result ↔ CanTake proofs.now out.now tried.now numbered.now }
 {
+    let obligation = numbered.obligation();
     is_not_out(out, obligation)
         && is_not_tried(tried, obligation)
-        && is_unsettled_with(proofs, obligation, prints)
+        && is_unsettled_with(proofs, numbered)
 }
 
 /// The place of the first open obligation, where none before `from` is open.
@@ -137,12 +127,10 @@ pub fn first_open(
     proofs: &PoMap<StoredProof>,
     out: &[Ticket],
     tried: &PoMap<Sequent>,
-    table: &[Arc<Obligation>],
-    prints: &[List<u64>],
+    table: &[Arc<Numbered>],
     from: usize,
 ) -> Option<usize>
     requires sequents { AreSequents (map arc_value table.now) }
-    requires prints { prints.now ≡ map prints_in (map arc_value table.now) }
     requires closed { AllByRecursion (λ o. CanTake proofs.now out.now tried.now o → ⊥) (take from (map arc_value table.now)) }
     ensures first { MatchOption result
         (AllByRecursion (λ o. CanTake proofs.now out.now tried.now o → ⊥) (map arc_value table.now))
@@ -150,7 +138,7 @@ pub fn first_open(
         × HoldsAt (λ o. CanTake proofs.now out.now tried.now o) (map arc_value table.now) at) }
 {
     for at in from..table.len() {
-        if can_take(proofs, out, tried, &table[at], &prints[at]) {
+        if can_take(proofs, out, tried, &table[at]) {
             return Some(at);
         }
     }

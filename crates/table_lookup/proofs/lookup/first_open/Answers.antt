@@ -1,4 +1,4 @@
-use Rattle.std.proofs.Common.{◌∙◌, ap, ◌<◌, ◌∷◌, [], sym, subst, map, take}
+use Rattle.std.proofs.Common.{◌∙◌, ◌<◌, ◌∷◌, [], sym, subst, map, take}
 use Rattle.std.proofs.lemmas.List.{length-map}
 use Rattle.std.specs.Arc.{arc_value}
 use Rattle.sequent_core.specs.declared.Obligation.{Obligation}
@@ -6,14 +6,8 @@ use Rattle.sequent_core.specs.Sequents.{IsSequent}
 use Rattle.core_steps.specs.Tickets.{CanTake}
 use Rattle.core_steps.proofs.Alls.{all_both}
 use Rattle.core_steps.proofs.Lists.{take-one_more}
-use Rattle.table_lookup.specs.Prints.{prints_in}
-use Rattle.table_lookup.proofs.Places.{all_at, map_at, mapped_at}
+use Rattle.table_lookup.proofs.Places.{all_at, map_at}
 use Rattle.table_lookup.proofs.lookup.first_open.Goals as goal
-
-pub bounds-prints-at : goal.bounds-prints-at
-bounds-prints-at c =
-    let table = c.args.table.now in
-    rw (c.requires.prints, length-map (map arc_value table) prints_in, length-map table arc_value) c.loop-at-test.true
 
 pub can_take-requires : goal.can_take-requires
 can_take-requires c =
@@ -22,13 +16,8 @@ can_take-requires c =
     let x = c.index-table-at.result in
     let lt = subst (λ n. at < n) (sym (length-map table arc_value)) c.loop-at-test.true in
     let is = map_at arc_value table at x c.index-table-at.is in
-    record {
-      sequent = subst (λ (o : Obligation). IsSequent o.sequent) (sym c.deref.ensures)
-          (all_at (λ (o : Obligation). IsSequent o.sequent) (map arc_value table) at (arc_value x) lt is c.requires.sequents);
-      prints =
-          let there = rw c.requires.prints at c.index-prints-at.is in
-          mapped_at prints_in (map arc_value table) at (arc_value x) c.index-prints-at.result lt is there ∙ ap prints_in (sym c.deref.ensures);
-    }
+    subst (λ (o : Obligation). IsSequent o.sequent) (sym c.deref.ensures)
+    (all_at (λ (o : Obligation). IsSequent o.sequent) (map arc_value table) at (arc_value x) lt is c.requires.sequents)
 
 pub loop-at-preserved : goal.loop-at-preserved
 loop-at-preserved c =

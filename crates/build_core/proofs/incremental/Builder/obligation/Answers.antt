@@ -13,7 +13,7 @@ returns-in-Some c =
     let mine = map arc_value b.table.items in
     let place = subst (IsPlaceOf mine c.args.name.now) (sym (sym (ap option_copied c.in-Some.is) ∙ c.get.ensures.value ∙ ap (λ m. found m.entries c.args.name.now) c.deref.ensures)) (c.self.invariant.placed c.args.name.now) in
     record {
-      exact = rw (← c.self.view_is) (λ table is. subst (λ o. IsOfName table c.args.name.now (Some o)) (sym c.deref-in-Some.ensures)
+      exact = rw (← c.self.view_is) (λ table is. subst (λ o. IsOfName table c.args.name.now (Some o)) (sym (c.obligation.ensures.obligation ∙ c.deref-in-Some.ensures))
           (found_in b.texts.entries b.outcomes c.self.invariant.judged mine table c.self.invariant.table is c.args.name.now c.in-Some.place.now (arc_value c.index.result.now) place
           (ap arc_value c.index.ensures ∙ sym (mapped_at arc_value b.table.items c.in-Some.place.now c.index.result.now))));
     }

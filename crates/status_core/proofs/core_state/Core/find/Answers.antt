@@ -31,5 +31,5 @@ returns-in-Some c =
     let place = c.in-Some.ensures.exact table c.table-table.ensures.table in
     let sequents = c.typed_tables.ensures c.self.inside.builder c.texts-texts.ensures.distinct table c.table-table.ensures.table in
     let is = map_at arc_value c.table-table.result.now at c.index-table-at.result c.index-table-at.is in
-    subst (λ (o : Obligation). Finds c.args.self.now.durable.built c.args.name.now (Some o)) (sym c.deref-obligation.ensures)
+    subst (λ (o : Obligation). Finds c.args.self.now.durable.built c.args.name.now (Some o)) (sym (c.obligation.ensures.obligation ∙ c.deref.ensures))
     (found_at c.args.self.now.durable.built table c.args.name.now at (arc_value c.index-table-at.result) of sequents place is)

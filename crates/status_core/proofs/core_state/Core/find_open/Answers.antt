@@ -18,7 +18,6 @@ first_open-found-requires c =
     let of = subst (λ (p : Project). IsTableOf p table) c.self.invariant.0 c.table-table.ensures.table in
     record {
       sequents = c.typed_tables.ensures c.self.inside.builder c.texts-texts.ensures.distinct table c.table-table.ensures.table;
-      prints = c.prints.ensures.prints table c.table-table.ensures.table;
       closed = subst (λ (out : List Ticket). AllByRecursion (λ o. CanTake c.self.inside.durable.proofs out c.self.inside.tried o → ⊥) (take c.self.inside.closed table))
           (sym c.deref.ensures.value) (c.self.invariant.2 table of);
     }

@@ -11,11 +11,7 @@ use Rattle.status_core.proofs.core_state.Core.prepare_statuses.Goals as goal
 
 pub shown_statuses-requires : goal.shown_statuses-requires
 shown_statuses-requires c =
-    let table = map arc_value c.table-table.result.now in
-    record {
-      sequents = c.typed_tables.ensures c.self.inside.builder c.texts-texts.ensures.distinct table c.table-table.ensures.table;
-      prints = c.prints.ensures.prints table c.table-table.ensures.table;
-    }
+    c.typed_tables.ensures c.self.inside.builder c.texts-texts.ensures.distinct (map arc_value c.table-table.result.now) c.table-table.ensures.table
 
 pub returns : goal.returns
 returns c =

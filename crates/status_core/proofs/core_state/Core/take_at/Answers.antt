@@ -36,7 +36,7 @@ returns-in-Some c =
     let built = c.self.invariant.0 ∙ ap (λ (z : State). entries z.durable.built) c.self.view_is in
     let of = subst (λ (p : Project). IsTableOf p table) built c.table-table.ensures.table in
     let first = subst (λ found. IsFirstOpen s table found) c.in-Some.is (c.requires.first table of) in
-    let o = c.deref.result.now in
-    let is = subst (λ (p : Obligation). p ≡ get_or table at p) (sym c.deref.ensures) (map_at arc_value c.table-table.result.now at c.index-table-at.result c.index-table-at.is) in
+    let o = c.obligation.result.now in
+    let is = subst (λ (p : Obligation). p ≡ get_or table at p) (sym (c.obligation.ensures.obligation ∙ c.deref.ensures)) (map_at arc_value c.table-table.result.now at c.index-table-at.result c.index-table-at.is) in
     if_ok _ _ _ (λ p m. so_made _ _ _ p
     (λ x e. (table, of, inr (take at table, o, drop (at + 1) table, split table at o first.0 is, first.1, subst (IsOpen s) (sym is) (first.2 o), e))) m) c.taking.ensures
