@@ -1,4 +1,4 @@
-use Rattle.std.proofs.Common.{◌∙◌, ap, ◌<◌, sym, subst, map}
+use Rattle.std.proofs.Common.{◌<◌, sym, subst, map}
 use Rattle.std.proofs.lemmas.List.{length-map}
 use Rattle.std.specs.Arc.{arc_value}
 use Rattle.sequent_core.specs.declared.Obligation.{Obligation}
