@@ -1,14 +1,16 @@
 // Tickets that come in.
-ghost use Rattle.std.specs.Prelude.{◌≡◌, ◌<◌, length, slice_get, IfOk, Some};
+ghost use Rattle.std.specs.Prelude.{◌≡◌, ◌<◌, length, slice_get, IfOk, IfSome, Some};
 ghost use Rattle.std.specs.List.{HoldsAt};
 ghost use Rattle.std.specs.Option.{option_copied, option_map};
 ghost use Rattle.sequent_core.specs.declared.Ticket.{Ticket};
 ghost use Rattle.sequent_core.specs.declared.Attempt.{Attempt};
+ghost use Rattle.sequent_core.specs.Sequents.{IsSequent};
 ghost use Rattle.core_steps.specs.declared.events.Event.{Event};
 ghost use Rattle.core_steps.specs.declared.events.Reply.{Reply};
 ghost use Rattle.core_steps.specs.declared.events.Status.{Status};
 ghost use Rattle.proof_entries.specs.declared.Entry.{Entry};
 ghost use Rattle.core_steps.specs.Outcomes.{entering};
+ghost use Rattle.core_steps.specs.Private.{AreFactsOf};
 ghost use Rattle.core_steps.specs.Tickets.{Ends, IsPresentStatus, by_prover};
 ghost use Rattle.prepared_events.specs.Prepared.{ComesAs, Prepares};
 ghost use Rattle.table_lookup.specs.Tickets.{IsTicketAt};
@@ -16,13 +18,13 @@ ghost use Rattle.status_core.specs.Parts.{IsHeld, without_at};
 
 use crate::core_state::Core;
 use crate::proving::Held;
-use core_steps::{Reply, Status};
+use core_steps::{Facts, Reply, Status};
 use formula_core::{OutOfMemory, PoName};
 use prepared_events::{Prepared, Storing};
 use proof_entries::{Origin, Proof};
 use proof_tree::is_good;
 use sequent_core::{Attempt, Obligation, Tree};
-use table_lookup::{can_store, present_status, ticket_at};
+use table_lookup::{facts_to_store, present_status, ticket_at};
 
 impl Core {
     /// What comes of a finish.
@@ -69,12 +71,13 @@ impl Core {
     ) -> Result<Prepared, OutOfMemory>
         requires within { at < length self.now.out }
         requires name { HoldsAt (λ t. t.name ≡ name) self.now.out at }
+        requires sequent { IfSome (option_copied obligation) (λ o. IsSequent o.sequent) }
         requires status { IsPresentStatus self.now.durable.proofs name (option_map (λ o. o.sequent) (option_copied obligation)) status }
         ensures { (ticket : Ticket) → slice_get self.now.out at ≡ Some ticket →
             IfOk result (λ p. ComesAs self.now (Ends (without_at self.now at) ticket (option_map (λ o. o.sequent) (option_copied obligation.entry)) (Attempt.Found tree.now)) p) }
     {
-        if can_store(self.alloc, status, obligation, tree)? {
-            return self.store(at, name, tree);
+        if let Some(facts) = facts_to_store(self.alloc, status, obligation, tree)? {
+            return self.store(at, name, facts, tree);
         }
         if is_good(tree, self.alloc, &self.out[at].sequent)? {
             return Ok(self.take_in(Reply::Stale(name, status), at));
@@ -82,13 +85,20 @@ impl Core {
         self.try_in(Reply::Refused(name, status), at)
     }
 
-    // The tree is stored as the prover's, and the ticket at the place comes in.
-    fn store(&self, at: usize, name: PoName, tree: &Tree) -> Result<Prepared, OutOfMemory>
-        requires { at < length self.now.out }
+    // The tree, of which this is known, is stored as the prover's, and the ticket at the place comes in.
+    fn store(
+        &self,
+        at: usize,
+        name: PoName,
+        facts: Facts,
+        tree: &Tree,
+    ) -> Result<Prepared, OutOfMemory>
+        requires within { at < length self.now.out }
+        requires facts { AreFactsOf tree.now facts }
         ensures { IfOk result (λ p. ComesAs self.now (λ x. x ≡ entering (without_at self.now at) (Reply.Stored name (Some Status.Discharged))
             (Entry.SetProof name (by_prover tree.now))) p) }
     {
-        let held = self.hold(&name, tree)?;
+        let held = self.hold_with(&name, facts)?;
         let Ok(tree) = tree.copy(self.alloc) else {
             drop(held);
             return Err(OutOfMemory);

@@ -2,12 +2,14 @@
 ghost use Rattle.std.specs.Prelude.{◌≡◌, ◌↔◌, IsTrue, IfOk, Ok};
 ghost use Rattle.std.specs.Option.{option_copied};
 ghost use Rattle.sequent_core.specs.declared.Sequent.{Sequent};
+ghost use Rattle.sequent_core.specs.declared.Tree.{Tree};
 ghost use Rattle.sequent_core.specs.Sequents.{IsSequent};
 ghost use Rattle.sequent_core.specs.Trees.{Applies};
 ghost use Rattle.rule_making.specs.Make.{Answers, FitsAt};
 ghost use Rattle.proof_steps.specs.Places.{HasLeaf};
 ghost use Rattle.core_steps.specs.declared.events.Event.{Event};
 ghost use Rattle.core_steps.specs.declared.events.Question.{Question};
+ghost use Rattle.core_steps.specs.Private.{AreFactsOf};
 ghost use Rattle.core_steps.specs.Proving.{Keeps, Puts, StepsAt, StepsIn, PrunesAt, ShowsAt, stored_tree, tree_in};
 ghost use Rattle.prepared_events.specs.Prepared.{ComesAs, Prepares};
 ghost use Rattle.status_core.specs.Parts.{IsHeld, IsMade, IsShownAt};
@@ -199,14 +201,21 @@ impl Core {
         Ok(self.keep_held(held, sequent, tree))
     }
 
-    /// What is wanted for the tree to be stored under the name.
-    pub(crate) fn hold(&self, name: &PoName, tree: &Tree) -> Result<Held, OutOfMemory>
+    // What is wanted for the tree to be stored under the name.
+    fn hold(&self, name: &PoName, tree: &Tree) -> Result<Held, OutOfMemory>
         ensures { IfOk result (λ held. IsHeld self.now.durable.proofs name.now tree.now held) }
+    {
+        let facts = facts_of(self.alloc, tree)?;
+        self.hold_with(name, facts)
+    }
+
+    /// What is wanted for a tree with these facts to be stored under the name.
+    pub(crate) fn hold_with(&self, name: &PoName, facts: Facts) -> Result<Held, OutOfMemory>
+        ensures { (tree : Tree) → AreFactsOf tree facts → IfOk result (λ held. IsHeld self.now.durable.proofs name.now tree held) }
     {
         let room = self.durable.proofs.room_for(self.alloc, name)?;
         let told = name.copy(self.alloc)?;
         let name = name.copy(self.alloc)?;
-        let facts = facts_of(self.alloc, tree)?;
         Ok(Held {
             told,
             name,

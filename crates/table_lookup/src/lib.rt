@@ -4,5 +4,6 @@
 mod lookup;
 
 pub use lookup::{
-    can_store, first_open, is_free, origin_of, present_status, status_of, status_with, ticket_at,
+    facts_to_store, first_open, is_free, origin_of, present_status, status_of, status_with,
+    ticket_at,
 };

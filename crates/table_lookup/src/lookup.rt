@@ -1,25 +1,30 @@
 // Looking for tickets, and for what is known of an obligation.
-ghost use Rattle.std.specs.Prelude.{◌≡◌, ◌≢◌, ◌<◌, ◌↔◌, ℕ, List, length, map, take, IsTrue, IfOk, IfSome, MatchOption, Some};
+ghost use Rattle.std.specs.Prelude.{◌≡◌, ◌≢◌, ◌<◌, ◌↔◌, ℕ, List, length, map, take, IsTrue, IfOk, IfSome, IsSome, MatchOption, Some};
 ghost use Rattle.std.specs.Option.{option_copied, option_map};
 ghost use Rattle.std.specs.FinMap.{FinMap, get};
 ghost use Rattle.std.specs.List.{AllByRecursion, HoldsAt};
 ghost use Rattle.std.specs.Arc.{arc_value};
+ghost use Rattle.sequent_core.specs.Provers.{IsGoodTree};
 ghost use Rattle.sequent_core.specs.Sequents.{IsSequent};
 ghost use Rattle.po_rules.specs.Sequents.{AreSequents};
 ghost use Rattle.proof_entries.specs.declared.Proof.{Proof};
 ghost use Rattle.core_steps.specs.Durable.{text_cmp};
+ghost use Rattle.core_steps.specs.Private.{AreFactsOf};
+ghost use Rattle.core_steps.specs.declared.events.Status.{Status};
 ghost use Rattle.core_steps.specs.Status.{IsStatus, IsUnsettledBy, origin_of};
 ghost use Rattle.core_steps.specs.Tickets.{CanTake, IsFor, IsPresentStatus, CanStore};
 ghost use Rattle.table_lookup.specs.Tickets.{IsTicketAt};
 
 use build_core::Numbered;
-use core_steps::{PoMap, Status, StoredProof, is_unsettled};
+use core_steps::{Facts, PoMap, Status, StoredProof, facts_of, is_unsettled, status_by};
 use formula_core::{OutOfMemory, PoName};
 use proof_entries::Origin;
-use proof_tree::is_good;
 use sequent_core::{Obligation, Sequent, Ticket, Tree};
 use std::alloc::Global;
 use std::sync::Arc;
+
+/// The most nodes of a tree that may be stored.
+const MOST_NODES: u64 = 2048;
 
 fn is_for(ticket: &Ticket, obligation: &Obligation) -> bool
     ensures { IsTrue result ↔ IsFor obligation.now ticket.now }
@@ -172,25 +177,54 @@ pub fn present_status(
     }
 }
 
-/// Whether the tree may be stored for the present sequent of a name, whose status this is.
-pub fn can_store(
+fn is_discharged(status: Status) -> bool
+    ensures { IsTrue result ↔ (status ≡ Status.Discharged) }
+{
+    matches!(status, Status::Discharged)
+}
+
+// What is known of the tree, where it is a good proof of the sequent. Its nodes are counted first.
+fn facts_if_good(
+    alloc: Global,
+    tree: &Tree,
+    sequent: &Sequent,
+) -> Result<Option<Facts>, OutOfMemory>
+    requires { IsSequent sequent.now }
+    ensures facts { IfOk result (λ found. IfSome found (AreFactsOf tree.now)) }
+    ensures good { IfOk result (λ found. IsSome found ↔ IsGoodTree tree.now sequent.now) }
+{
+    if tree.node_count() > MOST_NODES {
+        return Ok(None);
+    }
+    let facts = facts_of(alloc, tree)?;
+    if is_discharged(status_by(&facts, sequent)) {
+        return Ok(Some(facts));
+    }
+    Ok(None)
+}
+
+/// What is known of the tree, where it may be stored for the present sequent of a name, whose status this is. The tree is
+/// looked through once.
+pub fn facts_to_store(
     alloc: Global,
     status: Option<Status>,
     obligation: Option<&Obligation>,
     tree: &Tree,
-) -> Result<bool, OutOfMemory>
+) -> Result<Option<Facts>, OutOfMemory>
+    requires sequent { IfSome (option_copied obligation) (λ o. IsSequent o.sequent) }
+    ensures facts { IfOk result (λ found. IfSome found (AreFactsOf tree.now)) }
     ensures can { (proofs : FinMap text_cmp Proof) (name : List ℕ) →
         IsPresentStatus proofs name (option_map (λ o. o.sequent) (option_copied obligation.entry)) status →
-        IfOk result (λ can. IsTrue can ↔ CanStore proofs name (option_map (λ o. o.sequent) (option_copied obligation.entry)) tree.now) }
+        IfOk result (λ found. IsSome found ↔ CanStore proofs name (option_map (λ o. o.sequent) (option_copied obligation.entry)) tree.now) }
 {
     let Some(obligation) = obligation else {
-        return Ok(false);
+        return Ok(None);
     };
     let Some(status) = status else {
-        return Ok(false);
+        return Ok(None);
     };
     if !is_unsettled(status) {
-        return Ok(false);
+        return Ok(None);
     }
-    is_good(tree, alloc, &obligation.sequent)
+    facts_if_good(alloc, tree, &obligation.sequent)
 }

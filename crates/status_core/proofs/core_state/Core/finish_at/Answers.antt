@@ -17,6 +17,9 @@ use Rattle.status_core.proofs.core_state.Core.finish_at.Goals as goal
 pub present_status-status-requires : goal.present_status-status-requires
 present_status-status-requires c = record { sequent = found_sequent _ _ (option_copied c.find-obligation.result) c.find-obligation.ensures }
 
+pub found-requires-clause-sequent : goal.found-requires-clause-sequent
+found-requires-clause-sequent c = found_sequent _ _ (option_copied c.find-obligation.result) c.find-obligation.ensures
+
 pub returns-in-NoProof : goal.returns-in-NoProof
 returns-in-NoProof c =
     let s = c.args.self.now in

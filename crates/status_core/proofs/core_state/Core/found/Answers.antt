@@ -1,5 +1,5 @@
 use Rattle.std.proofs.Common.{◌≡◌, ◌∙◌, sym, ap, subst, ◌<◌, length}
-use Rattle.std.specs.Prelude.{Some, slice_get}
+use Rattle.std.specs.Prelude.{Some, is_some, slice_get}
 use Rattle.std.specs.Option.{option_copied, option_map}
 use Rattle.sequent_core.specs.declared.Ticket.{Ticket}
 use Rattle.sequent_core.specs.declared.Attempt.TheVariants.{Found}
@@ -12,19 +12,19 @@ use Rattle.status_core.proofs.Finished.{same_ticket, ticket_there}
 use Rattle.status_core.proofs.Ending.{isnt, result_as, stored_named, stale_named, refused_named}
 use Rattle.status_core.proofs.core_state.Core.found.Goals as goal
 
-pub returns-then-branch : goal.returns-then-branch
-returns-then-branch c = λ ticket there.
+pub returns-in-Some : goal.returns-in-Some
+returns-in-Some c = λ ticket there.
     let s = c.args.self.now in
     let at = c.args.at in
     let tree = c.args.tree.now in
     let name = c.args.name in
     let sequent = option_map (λ o. o.sequent) (option_copied c.args.obligation) in
     let named = sym (c.requires.name ticket) ∙ ap (λ (t : Ticket). t.name) (sym (ticket_there s.out at ticket c.requires.within there)) in
-    let can = (c.in_ok-can_store.ensures.can s.durable.proofs name c.requires.status).0 c.if-branch.true in
+    let can = (c.in_ok-facts.ensures.can s.durable.proofs name c.requires.status).0 (ap is_some c.in-Some.is) in
     result_as s (Ends (without_at s at) ticket sequent (Found tree)) _ c.store.result (stored_named (without_at s at) ticket sequent c.args.status tree name named can) c.store.ensures
 
-pub returns-then-branch-2 : goal.returns-then-branch-2
-returns-then-branch-2 c = λ ticket there.
+pub returns-then-branch : goal.returns-then-branch
+returns-then-branch c = λ ticket there.
     let s = c.args.self.now in
     let at = c.args.at in
     let tree = c.args.tree.now in
@@ -34,8 +34,8 @@ returns-then-branch-2 c = λ ticket there.
     let some = subst (λ (z : State). slice_get z.out at ≡ Some ticket) (sym c.self.view_is) there in
     let lt = subst (λ (z : State). at < length z.out) (sym c.self.view_is) c.requires.within in
     let same = same_ticket c.self.inside.out.items at c.index.result.now ticket lt c.index.ensures some in
-    let good = subst (λ (k : Ticket). IsGoodTree tree k.sequent) same (c.in_ok-is_good.ensures.good.0 c.if-branch-2.true) in
-    let cannot = isnt _ c.if-branch.false (c.in_ok-can_store.ensures.can s.durable.proofs name c.requires.status) in
+    let good = subst (λ (k : Ticket). IsGoodTree tree k.sequent) same (c.in_ok-is_good.ensures.good.0 c.if-branch.true) in
+    let cannot = isnt (is_some c.in_ok-facts.field-0) (ap is_some c.in_default.is) (c.in_ok-facts.ensures.can s.durable.proofs name c.requires.status) in
     as_made s (Ends (without_at s at) ticket sequent (Found tree)) c.take_in.result _ c.take_in.ensures
     (stale_named (without_at s at) ticket sequent c.args.status tree name named c.requires.status cannot good)
 
@@ -50,7 +50,7 @@ returns c = λ ticket there.
     let some = subst (λ (z : State). slice_get z.out at ≡ Some ticket) (sym c.self.view_is) there in
     let lt = subst (λ (z : State). at < length z.out) (sym c.self.view_is) c.requires.within in
     let same = same_ticket c.self.inside.out.items at c.index.result.now ticket lt c.index.ensures some in
-    let bad = λ (g : IsGoodTree tree ticket.sequent). isnt _ c.if-branch-2.false c.in_ok-is_good.ensures.good (subst (λ (k : Ticket). IsGoodTree tree k.sequent) (sym same) g) in
-    let cannot = isnt _ c.if-branch.false (c.in_ok-can_store.ensures.can s.durable.proofs name c.requires.status) in
+    let bad = λ (g : IsGoodTree tree ticket.sequent). isnt _ c.if-branch.false c.in_ok-is_good.ensures.good (subst (λ (k : Ticket). IsGoodTree tree k.sequent) (sym same) g) in
+    let cannot = isnt (is_some c.in_ok-facts.field-0) (ap is_some c.in_default.is) (c.in_ok-facts.ensures.can s.durable.proofs name c.requires.status) in
     result_as s (Ends (without_at s at) ticket sequent (Found tree)) _ c.try_in.result
     (refused_named (without_at s at) ticket sequent c.args.status tree name named c.requires.status cannot bad) (c.try_in.ensures ticket there)
