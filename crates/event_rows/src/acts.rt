@@ -1,7 +1,8 @@
 //! Rows of events on a store.
 ghost use Rattle.std.specs.Prelude.{◌≡◌, ◌<◌};
 
-use crate::answers::prover_event;
+use crate::answers::told_event;
+use crate::cores::add_replies;
 use crate::told::add_reply;
 use core_steps::{Event, Reply};
 use formula_core::Steps;
@@ -123,7 +124,7 @@ fn act_all(
     out: &mut String,
 ) -> Result<(), AllocError> {
     for line in text.split('\n') {
-        match prover_event(alloc, tickets, line) {
+        match told_event(alloc, tickets, line) {
             Some(event) => act(store, tickets, event, out)?,
             None => act_on_line(store, tickets, commands, line, out)?,
         }
@@ -131,19 +132,34 @@ fn act_all(
     Ok(())
 }
 
-/// Adds the name of a row, and the replies to its events.
+// Does the events of a row on a store, adds their replies, and gives the acts.
+fn acts_of(alloc: Global, text: &str, out: &mut String) -> Result<Vec<(u32, Event)>, AllocError> {
+    let disk = SureDisk::new(Vec::new(alloc), Vec::new(alloc));
+    let Ok(mut store) = start_counted::<Brand>(alloc, disk, Blank::new(1)) else {
+        return Err(AllocError);
+    };
+    let mut tickets = Vec::new(alloc);
+    let mut commands = Commands::new(alloc);
+    let done = act_all(alloc, &mut store, &mut tickets, &mut commands, text, out);
+    let (_disk, acts, _durable) = store.into_parts();
+    done?;
+    Ok(acts)
+}
+
+/// Adds the name of a row, the replies to its events on a store, and those of a core where they are others.
 pub fn answer(alloc: Global, name: &str, text: &str, out: &mut String) -> Result<(), AllocError> {
     if name.is_empty() {
         return Ok(());
     }
     writeln!(out, "{name}")?;
-    let disk = SureDisk::new(Vec::new(alloc), Vec::new(alloc));
-    let Ok(mut store) = start_counted::<Brand>(alloc, disk, Blank::new(1)) else {
-        return out.push_str("no store\n");
-    };
-    let mut tickets = Vec::new(alloc);
-    let mut commands = Commands::new(alloc);
-    let done = act_all(alloc, &mut store, &mut tickets, &mut commands, text, out);
-    let (_disk, _history, _durable) = store.into_parts();
-    done
+    let mut told = String::new(alloc);
+    let acts = acts_of(alloc, text, &mut told)?;
+    let mut by_core = String::new(alloc);
+    add_replies(alloc, &acts, &mut by_core)?;
+    out.push_str(&told)?;
+    if by_core.as_str() != told.as_str() {
+        out.push_str("but on a core\n")?;
+        out.push_str(&by_core)?;
+    }
+    Ok(())
 }

@@ -1,7 +1,7 @@
-//! What provers do, told by words.
+//! What provers do, and edits of any name and length, told by words.
 
 use core_steps::{Event, Question};
-use formula_core::{Formula, List, Op, PoName, Raw, RawOp, Ty};
+use formula_core::{Formula, List, Name, Op, PoName, Raw, RawOp, Text, Ty};
 use rule_making::make;
 use sequent_core::{Attempt, Hint, Rule, Sequent, Ticket, Tree};
 use std::alloc::Global;
@@ -120,14 +120,26 @@ fn finish(alloc: Global, tickets: &[Ticket], words: &str) -> Option<Event> {
     Some(Event::Finish(number, attempt_of(alloc, answer, sequent)?))
 }
 
-/// The event of a line that a prover's words begin. None where it is none.
-pub fn prover_event(alloc: Global, tickets: &[Ticket], line: &str) -> Option<Event> {
+// An edit under a name, which may be primed, with a text of so many bytes.
+fn put(alloc: Global, words: &str) -> Option<Event> {
+    let (name, count) = words.split_once(' ')?;
+    let name = Name::read(alloc, name).ok()?;
+    let mut text = String::new(alloc);
+    for _ in 0..count.parse::<u32>().ok()? {
+        text.push('x').ok()?;
+    }
+    Some(Event::Edit(name, Text::of(alloc, &text).ok()?))
+}
+
+/// The event of a line that is none of a session. None where it is none.
+pub fn told_event(alloc: Global, tickets: &[Ticket], line: &str) -> Option<Event> {
     match line {
         "take" => Some(Event::Take(None)),
         "idle" => Some(Event::Ask(Question::Idle)),
         _ => match line.split_once(' ')? {
             ("take", name) => Some(Event::Take(Some(PoName::read(alloc, name).ok()?))),
             ("finish", words) => finish(alloc, tickets, words),
+            ("put", words) => put(alloc, words),
             _ => None,
         },
     }
