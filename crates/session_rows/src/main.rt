@@ -11,7 +11,7 @@
 //! | `fails PART N` | the call of this number fails: `source`, `sink` or `disk` |
 //! | `on` | the disk has the sides that the row before left |
 //! | `left HEX`, `right HEX` | bytes behind those that the side has |
-//! | `prover WORD` | a prover that answers a bare `leaf`, a tree of one `review`, or want of `memory` |
+//! | `prover WORD` | a prover that answers a bare `leaf`, a tree of one `review`, a proof of 2,047 nodes by `cuts`, or want of `memory` |
 //! | `hold second`, `hold read` | the first ticket is held until the second is finished, or, with the second read waiting for it, until the third read |
 //! | `bytes HEX`, `times N TEXT` | more of the input: bytes, a text so often |
 //! | `edits N`, `theorems N` | more of the input: edits of so many components, so many theorems of a context |
@@ -28,6 +28,7 @@ mod reading;
 mod row;
 mod runs;
 mod told;
+mod trees;
 
 use crate::row::Row;
 use crate::runs::Sides;

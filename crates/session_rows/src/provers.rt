@@ -2,42 +2,31 @@
 ghost use Rattle.std.specs.Prelude.{◌<◌, ◌^◌};
 ghost use Rattle.sequent_core.specs.Members.{members_of};
 
-use formula_core::List;
-use rule_making::make;
-use sequent_core::{Attempt, Hint, Prover, Sequent, Tree};
+use crate::trees::{cuts_of, reviewed};
+use sequent_core::{Attempt, Prover, Sequent, Tree};
 use std::alloc::Global;
 use strategy_core::AutoProver;
 
 /// The greatest number of rules of a proof, as in `rodin`.
 const BUDGET: u32 = 400;
 
-/// The number of the rule that takes a goal for proved.
-const REVIEW: u8 = 23;
-
-/// The prover of `rodin`, or one that proves nothing.
+/// The prover of `rodin`, one that proves nothing, or one whose proofs are nearly as large as proofs may be.
 #[derive(Clone, Copy)]
 pub enum Handed {
     Auto,
     Leaf,
     Review,
+    Cuts,
     NoMemory,
 }
 
-// A tree of one review.
-fn reviewed(alloc: Global, sequent: &Sequent) -> Attempt
+// The tree, if there is one.
+fn found(tree: Option<Tree>) -> Attempt
     ensures { members_of result < 2 ^ 32 }
 {
-    let hint = Hint {
-        hyps: List::of(Vec::new(alloc)),
-        multipliers: List::of(Vec::new(alloc)),
-        names: List::of(Vec::new(alloc)),
-        terms: List::of(Vec::new(alloc)),
-        law: 0,
-        place: List::of(Vec::new(alloc)),
-    };
-    match make(alloc, REVIEW, &hint, sequent) {
-        Ok(rule) => Attempt::found(Tree::Node(rule, List::of(Vec::new(alloc)))),
-        Err(_) => Attempt::NoMemory,
+    match tree {
+        Some(tree) => Attempt::found(tree),
+        None => Attempt::NoMemory,
     }
 }
 
@@ -50,7 +39,8 @@ impl Prover for Handed {
         match self {
             Handed::Auto => AutoProver::new(BUDGET).attempt(alloc, sequent),
             Handed::Leaf => Attempt::found(Tree::Leaf),
-            Handed::Review => reviewed(alloc, sequent),
+            Handed::Review => found(reviewed(alloc, sequent)),
+            Handed::Cuts => found(cuts_of(alloc, sequent)),
             Handed::NoMemory => Attempt::NoMemory,
         }
     }

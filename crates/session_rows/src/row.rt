@@ -120,6 +120,7 @@ impl Row {
         match self.behind("prover") {
             Some("leaf") => Handed::Leaf,
             Some("review") => Handed::Review,
+            Some("cuts") => Handed::Cuts,
             Some("memory") => Handed::NoMemory,
             _ => Handed::Auto,
         }
