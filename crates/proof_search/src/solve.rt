@@ -222,7 +222,7 @@ impl Finder {
     #[cycle(solve)]
     fn prove_left(
         &mut self,
-        b: &Branch,
+        b: &mut Branch,
         plan: Plan,
         i: u32,
         way: Way,
@@ -235,14 +235,14 @@ impl Finder {
             Way::Here => Ok(None),
             Way::Done(proof) => Ok(Some(proof)),
             Way::Apart(limits) => {
-                let mut inner = self.branch_of(b, plan.step, i)?;
+                let mut inner = self.branch_of(&*b, plan.step, i)?;
                 self.solve(&mut inner, limits, levels - 1)
             }
             Way::Aside(fuel, limits) => {
-                let mut inner = self.branch_of(b, plan.step, i)?;
+                let mut inner = self.branch_of(&*b, plan.step, i)?;
                 let goal = inner.goal;
                 let is_other = goal != b.goal;
-                if is_other && self.is_refused(b, goal) {
+                if is_other && self.is_refused(&*b, goal) {
                     return Ok(None);
                 }
                 self.active.push(goal)?;
@@ -250,10 +250,14 @@ impl Finder {
                 let found = self.solve(&mut inner, limits, levels - 1);
                 let is_left = self.facts.search.raise(before);
                 let _ = self.active.pop();
-                match found {
+                let found = match found {
                     Err(Stop::Spent) if is_left => Ok(None),
                     other => other,
+                };
+                if let Ok(None) = found {
+                    b.note_failure(goal)?;
                 }
+                found
             }
         }
     }
