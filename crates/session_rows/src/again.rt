@@ -5,9 +5,23 @@ use crate::runs::{Part, Ran, Sides, read_sides, run_row};
 use std::alloc::{AllocError, Global};
 use std::sync::Wait;
 use std::thread::Threads;
+use std::time::Clock;
 
 /// The calls of a part that a run may have here.
 const MOST: u64 = 1_000;
+
+/// How many of the last calls of the disk are looked at, where not all are.
+const LATE: u64 = 10;
+
+/// What stands where a stop tears a call: each byte, and whether the side has its greater length.
+const STOPS: [(u8, bool); 6] = [
+    (0, false),
+    (255, true),
+    (0, true),
+    (1, false),
+    (1, true),
+    (255, false),
+];
 
 /// The length of a digest.
 pub const DIGEST: usize = 64;
@@ -30,7 +44,7 @@ fn digests_in(text: &str) -> usize {
 }
 
 // The digest of what a session opens over these sides, and what else it writes.
-fn opened<R: Threads + Wait + Sync>(
+fn opened<R: Clock + Threads + Wait + Sync>(
     rt: &R,
     alloc: Global,
     sides: &Sides,
@@ -65,8 +79,27 @@ fn otherwise(whole: &str, ran: &Ran, part: Part, opened: &str) -> Option<&'stati
     }
 }
 
+// What is otherwise where this call of a part failed.
+fn otherwise_at<R: Clock + Threads + Wait + Sync>(
+    rt: &R,
+    alloc: Global,
+    row: &Row,
+    begun: &Sides,
+    whole: &Ran,
+    part: Part,
+    call: u64,
+) -> Result<Option<&'static str>, AllocError> {
+    let mut again = run_row(rt, alloc, row, begun, Some((part, call)))?;
+    if again.status == whole.status {
+        return Ok(Some("the same status"));
+    }
+    let sides = read_sides(alloc, &mut again.disk)?;
+    let opened = opened(rt, alloc, &sides)?;
+    Ok(otherwise(&whole.written, &again, part, &opened))
+}
+
 /// Runs a row again with each call of a part failing in turn, and adds how many calls there are, and what is otherwise.
-pub fn add_faults<R: Threads + Wait + Sync>(
+pub fn add_faults<R: Clock + Threads + Wait + Sync>(
     rt: &R,
     alloc: Global,
     row: &Row,
@@ -91,32 +124,31 @@ pub fn add_faults<R: Threads + Wait + Sync>(
     out.push_str("too many calls\n")
 }
 
-// Whether what each stop inside this call leaves has a digest of the whole run.
-fn reopens<R: Threads + Wait + Sync>(
+// Whether what these stops inside the call leave has a digest of the whole run.
+fn reopens<R: Clock + Threads + Wait + Sync>(
     rt: &R,
     alloc: Global,
     whole: &Ran,
     call: u64,
+    stops: &[(u8, bool)],
 ) -> Result<bool, AllocError> {
-    for fill in [0, 1, 255] {
-        for long in [false, true] {
-            let (left, right) = whole.disk.image(alloc, call, fill, long)?;
-            let opened = opened(rt, alloc, &Sides { left, right })?;
-            if opened.len() != DIGEST
-                || !whole
-                    .written
-                    .split('\n')
-                    .any(|line| line == opened.as_str())
-            {
-                return Ok(false);
-            }
+    for (fill, long) in stops {
+        let (left, right) = whole.disk.image(alloc, call, *fill, *long)?;
+        let opened = opened(rt, alloc, &Sides { left, right })?;
+        if opened.len() != DIGEST
+            || !whole
+                .written
+                .split('\n')
+                .any(|line| line == opened.as_str())
+        {
+            return Ok(false);
         }
     }
     Ok(true)
 }
 
 /// Opens what a stop inside each call of the disk leaves, and adds how many calls there are, and which leave another state.
-pub fn add_stops<R: Threads + Wait + Sync>(
+pub fn add_stops<R: Clock + Threads + Wait + Sync>(
     rt: &R,
     alloc: Global,
     whole: &Ran,
@@ -124,10 +156,35 @@ pub fn add_stops<R: Threads + Wait + Sync>(
 ) -> Result<(), AllocError> {
     let calls = whole.disk.calls_made();
     for call in 1..=calls {
-        if !reopens(rt, alloc, whole, call)? {
+        if !reopens(rt, alloc, whole, call, &STOPS)? {
             writeln!(out, "each stop: call {call}: another state")?;
         }
     }
     writeln!(out, "each stop: {calls} calls")?;
+    Ok(())
+}
+
+/// Lets each of the last calls of the disk fail, and opens what a stop inside it leaves. Adds how many calls these are, and
+/// what is otherwise.
+pub fn add_late<R: Clock + Threads + Wait + Sync>(
+    rt: &R,
+    alloc: Global,
+    row: &Row,
+    begun: &Sides,
+    whole: &Ran,
+    out: &mut String,
+) -> Result<(), AllocError> {
+    let calls = whole.disk.calls_made();
+    let first = calls.saturating_sub(LATE);
+    for at in first..calls {
+        let call = at.saturating_add(1);
+        if let Some(why) = otherwise_at(rt, alloc, row, begun, whole, Part::Disk, call)? {
+            writeln!(out, "each late: call {call}: {why}")?;
+        }
+        if !reopens(rt, alloc, whole, call, &STOPS[..2])? {
+            writeln!(out, "each late: call {call}: another state behind a stop")?;
+        }
+    }
+    writeln!(out, "each late: {} calls", calls.saturating_sub(first))?;
     Ok(())
 }

@@ -11,17 +11,22 @@
 //! | `fails PART N` | the call of this number fails: `source`, `sink` or `disk` |
 //! | `on` | the disk has the sides that the row before left |
 //! | `left HEX`, `right HEX` | bytes behind those that the side has |
-//! | `prover WORD` | a prover that answers a bare `leaf`, a tree of one `review`, a proof of 2,047 nodes by `cuts`, or want of `memory` |
+//! | `prover WORD` | a prover that is `slow`: it waits 50 ms before each attempt; or one that answers a bare `leaf`, a tree of one `review`, a proof of 2,047 nodes by `cuts`, or want of `memory` |
 //! | `hold second`, `hold read` | the first ticket is held until the second is finished, or, with the second read waiting for it, until the third read |
 //! | `bytes HEX`, `times N TEXT` | more of the input: bytes, a text so often |
 //! | `edits N`, `theorems N` | more of the input: edits of so many components, so many theorems of a context |
-//! | `tell left`, `tell right`, `tell last` | what is then on a side, and which components last |
-//! | `hide digests` | `(digest)` is printed for each digest |
+//! | `long N LETTER` | more of the input: so many edits of a component, each with a text of 65,536 bytes of this letter |
+//! | `disk N` | all writes to the disk may have N bytes |
+//! | `tell left`, `tell right`, `tell sizes`, `tell last` | what is then on a side, how many bytes, and which components last |
+//! | `hide digests`, `fold` | `(digest)` is printed for each digest, lines that are the same once, behind their number |
 //! | `each PART` | runs it again with each call of the part failing in turn |
 //! | `each stop` | opens what a stop inside each call of the disk leaves |
+//! | `each late` | both with the last ten calls of the disk, and two of the six stops |
+//! | `each byte` | runs it over each value of each byte of the left side |
 #![tactic(auto)]
 
 mod again;
+mod bytes;
 mod gates;
 mod provers;
 mod reading;

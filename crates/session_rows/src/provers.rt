@@ -1,19 +1,27 @@
 //! The provers that a row may name.
 ghost use Rattle.std.specs.Prelude.{◌<◌, ◌^◌};
 ghost use Rattle.sequent_core.specs.Members.{members_of};
+ghost use Rattle.sequent_core.specs.Sequents.{IsSequent};
 
 use crate::trees::{cuts_of, reviewed};
 use sequent_core::{Attempt, Prover, Sequent, Tree};
 use std::alloc::Global;
+use std::thread;
+use std::time::{Clock, Duration};
 use strategy_core::AutoProver;
 
 /// The greatest number of rules of a proof, as in `rodin`.
 const BUDGET: u32 = 400;
 
-/// The prover of `rodin`, one that proves nothing, or one whose proofs are nearly as large as proofs may be.
-#[derive(Clone, Copy)]
-pub enum Handed {
+/// How many milliseconds the slow prover waits before an attempt.
+const PAUSE: u64 = 50;
+
+/// The prover of `rodin`, the same after a wait, one that proves nothing, or one whose proofs are nearly as large as proofs may
+/// be.
+#[derive(Drop)]
+pub enum Handed<'a, R> {
     Auto,
+    Slow(&'a R),
     Leaf,
     Review,
     Cuts,
@@ -30,14 +38,25 @@ fn found(tree: Option<Tree>) -> Attempt
     }
 }
 
-impl Prover for Handed {
+fn automatic(alloc: Global, sequent: &Sequent) -> Attempt
+    requires { IsSequent sequent.now }
+    ensures { members_of result < 2 ^ 32 }
+{
+    AutoProver::new(BUDGET).attempt(alloc, sequent)
+}
+
+impl<'a, R: Clock> Prover for Handed<'a, R> {
     ghost sure = { λ prover sequent. ⊥ };
 
     ghost answers = { λ prover sequent attempt. Unit {0} };
 
     fn attempt(&self, alloc: Global, sequent: &Sequent) -> Attempt {
         match self {
-            Handed::Auto => AutoProver::new(BUDGET).attempt(alloc, sequent),
+            Handed::Auto => automatic(alloc, sequent),
+            Handed::Slow(rt) => {
+                thread::sleep(*rt, Duration::from_millis(PAUSE));
+                automatic(alloc, sequent)
+            }
             Handed::Leaf => Attempt::found(Tree::Leaf),
             Handed::Review => found(reviewed(alloc, sequent)),
             Handed::Cuts => found(cuts_of(alloc, sequent)),

@@ -36,3 +36,24 @@ pub fn add_theorems(alloc: Global, to: &mut Vec<u8>, count: &str) -> Result<(), 
     }
     Ok(())
 }
+
+/// The lines of a long text, and the letters of each, without its line feed.
+const LONG_LINES: u32 = 1_024;
+
+const LONG_LINE: u32 = 63;
+
+/// Adds so many edits of one component, each with a text of 65,536 bytes of this letter, of `N LETTER`.
+pub fn add_long_edits(to: &mut Vec<u8>, option: &str) -> Result<(), AllocError> {
+    let (count, letter) = option.split_once(' ').unwrap_or(("0", ""));
+    for _ in 0..count.parse::<u32>().unwrap_or(0) {
+        to.extend_from_slice(b"edit a\n")?;
+        for _ in 0..LONG_LINES {
+            for _ in 0..LONG_LINE {
+                to.extend_from_slice(letter.as_bytes())?;
+            }
+            to.push(b'\n')?;
+        }
+        to.extend_from_slice(b".\n")?;
+    }
+    Ok(())
+}

@@ -2,7 +2,7 @@
 
 use crate::gates::Until;
 use crate::provers::Handed;
-use crate::reading::{add_edits, add_hex, add_theorems, add_times};
+use crate::reading::{add_edits, add_hex, add_long_edits, add_theorems, add_times};
 use crate::runs::{Part, Sides};
 use std::alloc::{AllocError, Global};
 
@@ -45,6 +45,7 @@ impl Row {
             Some(("bytes", hex)) => add_hex(alloc, &mut self.input, hex),
             Some(("times", text)) => add_times(&mut self.input, text),
             Some(("edits", count)) => add_edits(alloc, &mut self.input, count),
+            Some(("long", edits)) => add_long_edits(&mut self.input, edits),
             Some(("theorems", count)) => add_theorems(alloc, &mut self.input, count),
             _ => {
                 let option = String::from_str(alloc, option)?;
@@ -116,8 +117,9 @@ impl Row {
     }
 
     /// The prover.
-    pub fn prover(&self) -> Handed {
+    pub fn prover<'a, R>(&self, rt: &'a R) -> Handed<'a, R> {
         match self.behind("prover") {
+            Some("slow") => Handed::Slow(rt),
             Some("leaf") => Handed::Leaf,
             Some("review") => Handed::Review,
             Some("cuts") => Handed::Cuts,

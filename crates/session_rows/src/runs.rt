@@ -9,14 +9,15 @@ use rodin_cli::run;
 use std::alloc::{AllocError, Global};
 use std::sync::Wait;
 use std::thread::Threads;
+use std::time::Clock;
 
 /// The bytes that a sink takes where the row doesn't say.
 const ROOM: usize = 200_000;
 
-/// The bytes that all writes to a disk may have, and the number of its calls.
+/// The bytes that all writes to a disk may have where the row doesn't say, and the number of its calls.
 const DISK_ROOM: usize = 4_000_000;
 
-const DISK_CALLS: usize = 4_000;
+const DISK_CALLS: usize = 40_000;
 
 /// What a run meets the outside by.
 #[derive(Clone, Copy, PartialEq, Eq)]
@@ -104,13 +105,15 @@ fn sink_of(alloc: Global, row: &Row, fault: Option<(Part, u64)>) -> Result<Memor
 
 fn disk_of(
     alloc: Global,
+    row: &Row,
     sides: &Sides,
     fault: Option<(Part, u64)>,
 ) -> Result<MemoryDisk, AllocError> {
     let fails = Part::Disk.fails(alloc, fault)?;
     let left = sides.left.to_vec(alloc)?;
     let right = sides.right.to_vec(alloc)?;
-    MemoryDisk::new(alloc, left, right, DISK_ROOM, DISK_CALLS, fails)
+    let room = row.number("disk", DISK_ROOM);
+    MemoryDisk::new(alloc, left, right, room, DISK_CALLS, fails)
 }
 
 fn text_of(alloc: Global, sink: &MemorySink) -> Result<String, AllocError> {
@@ -170,7 +173,7 @@ fn came_to(
 }
 
 /// Runs a row over these sides. At most one call of a part fails.
-pub fn run_row<R: Threads + Wait + Sync>(
+pub fn run_row<R: Clock + Threads + Wait + Sync>(
     rt: &R,
     alloc: Global,
     row: &Row,
@@ -181,7 +184,7 @@ pub fn run_row<R: Threads + Wait + Sync>(
     let gate = Holding::new(row.until());
     let mut source = Watched::new(source_of(alloc, row, fault)?, &gate);
     let mut sink = sink_of(alloc, row, fault)?;
-    let disk = disk_of(alloc, sides, fault)?;
+    let disk = disk_of(alloc, row, sides, fault)?;
     let done = run(
         rt,
         alloc,
@@ -189,16 +192,19 @@ pub fn run_row<R: Threads + Wait + Sync>(
         &mut source,
         &mut sink,
         disk,
-        &row.prover(),
+        &row.prover(rt),
         &gate,
     );
     came_to(alloc, done, &sink, gate.is_passed())
 }
 
+/// The bytes that are read of a side at a time.
+const PIECE: usize = 16_384;
+
 /// What reads give of a side.
 pub fn read_side(alloc: Global, disk: &mut MemoryDisk, side: Side) -> Result<Vec<u8>, AllocError> {
     let mut bytes = Vec::new(alloc);
-    let mut piece = [0; 4_096];
+    let mut piece = [0; PIECE];
     for _ in 0..DISK_CALLS {
         let count = disk
             .read_at(side, bytes.len() as u64, &mut piece)
@@ -206,7 +212,7 @@ pub fn read_side(alloc: Global, disk: &mut MemoryDisk, side: Side) -> Result<Vec
         if count == 0 {
             break;
         }
-        bytes.extend_from_slice(&piece[..count.min(4_096)])?;
+        bytes.extend_from_slice(&piece[..count.min(PIECE)])?;
     }
     Ok(bytes)
 }

@@ -1,12 +1,14 @@
 //! What is printed of a row.
 
-use crate::again::{DIGEST, add_faults, add_stops};
+use crate::again::{DIGEST, add_faults, add_late, add_stops};
+use crate::bytes::add_bytes;
 use crate::gates::Until;
 use crate::row::Row;
 use crate::runs::{Ran, Sides, read_sides, run_row};
 use std::alloc::{AllocError, Global};
 use std::sync::Wait;
 use std::thread::Threads;
+use std::time::Clock;
 
 // Lines with `(digest)` for each that has a digest.
 fn add_lines(out: &mut String, lines: &str) -> Result<(), AllocError> {
@@ -21,10 +23,36 @@ fn add_lines(out: &mut String, lines: &str) -> Result<(), AllocError> {
     Ok(())
 }
 
+// The lines, where lines that follow one another and are the same stand once, behind their number.
+fn add_folded(alloc: Global, out: &mut String, text: &str) -> Result<(), AllocError> {
+    let mut lines = Vec::new(alloc);
+    for line in text.split('\n') {
+        lines.push(line)?;
+    }
+    let mut count: u32 = 0;
+    for at in 0..lines.len() {
+        count = count.saturating_add(1);
+        if lines.get(at + 1) != Some(&lines[at]) {
+            add_counted(out, lines[at], count)?;
+            count = 0;
+        }
+    }
+    Ok(())
+}
+
+fn add_counted(out: &mut String, line: &str, count: u32) -> Result<(), AllocError> {
+    if count > 1 {
+        write!(out, "{count} times ")?;
+    }
+    writeln!(out, "{line}")?;
+    Ok(())
+}
+
 // What a run wrote, and its status.
-fn add_written(out: &mut String, row: &Row, ran: &Ran) -> Result<(), AllocError> {
+fn add_written(alloc: Global, out: &mut String, row: &Row, ran: &Ran) -> Result<(), AllocError> {
     match ran.written.strip_suffix("\n") {
         Some(lines) if row.says("hide digests") => add_lines(out, lines)?,
+        Some(lines) if row.says("fold") => add_folded(alloc, out, lines)?,
         _ => out.push_str(&ran.written)?,
     }
     if !ran.written.is_empty() && !ran.written.ends_with("\n") {
@@ -55,6 +83,14 @@ fn add_told(
     if row.says("tell right") {
         add_side(alloc, out, "right", &sides.right)?;
     }
+    if row.says("tell sizes") {
+        writeln!(
+            out,
+            "left {}, right {}",
+            sides.left.len(),
+            sides.right.len()
+        )?;
+    }
     if row.until() != Until::Open {
         let passed = if ran.is_passed {
             "passed"
@@ -74,7 +110,7 @@ fn add_told(
 }
 
 // The lines that `each` asks for.
-fn add_each<R: Threads + Wait + Sync>(
+fn add_each<R: Clock + Threads + Wait + Sync>(
     rt: &R,
     alloc: Global,
     row: &Row,
@@ -88,11 +124,17 @@ fn add_each<R: Threads + Wait + Sync>(
     if row.says("each stop") {
         add_stops(rt, alloc, whole, out)?;
     }
+    if row.says("each late") {
+        add_late(rt, alloc, row, begun, whole, out)?;
+    }
+    if row.says("each byte") {
+        add_bytes(rt, alloc, row, begun, out)?;
+    }
     Ok(())
 }
 
 /// Runs a row, and adds what is printed of it. The sides are those that the row before left, and then those that it leaves.
-pub fn answer<R: Threads + Wait + Sync>(
+pub fn answer<R: Clock + Threads + Wait + Sync>(
     rt: &R,
     alloc: Global,
     row: &Row,
@@ -105,7 +147,7 @@ pub fn answer<R: Threads + Wait + Sync>(
     writeln!(out, "{}", row.name)?;
     row.begin_sides(alloc, sides)?;
     let mut whole = run_row(rt, alloc, row, sides, row.fault())?;
-    add_written(out, row, &whole)?;
+    add_written(alloc, out, row, &whole)?;
     add_each(rt, alloc, row, sides, &whole, out)?;
     *sides = read_sides(alloc, &mut whole.disk)?;
     add_told(alloc, row, &whole, sides, out)
