@@ -15,8 +15,8 @@ const LATE: u64 = 10;
 
 /// What stands where a stop tears a call: each byte, and whether the side has its greater length.
 const STOPS: [(u8, bool); 6] = [
-    (0, false),
     (255, true),
+    (0, false),
     (0, true),
     (1, false),
     (1, true),
@@ -62,40 +62,28 @@ fn goes_on(whole: &str, written: &str, opened: &str) -> bool {
     digest_at(whole, told) == Some(opened) || told > 0 && digest_at(whole, told - 1) == Some(opened)
 }
 
-// What is otherwise in a run in which a call failed.
-fn otherwise(whole: &str, ran: &Ran, part: Part, opened: &str) -> Option<&'static str> {
+// What a run in which a call failed wrote before its last line, or what is otherwise.
+fn written_before<'a>(whole: &str, ran: &'a Ran, part: Part) -> Result<&'a str, &'static str> {
     let (status, line) = ends(part);
     let Some(written) = ran.written.strip_suffix(line) else {
-        return Some("another last line");
+        return Err("another last line");
     };
     if ran.status != status {
-        Some("another status")
-    } else if !whole.starts_with(written) {
-        Some("another output")
-    } else if !goes_on(whole, written, opened) {
-        Some("another state")
-    } else {
-        None
+        return Err("another status");
     }
+    if !whole.starts_with(written) {
+        return Err("another output");
+    }
+    Ok(written)
 }
 
-// What is otherwise where this call of a part failed.
-fn otherwise_at<R: Clock + Threads + Wait + Sync>(
-    rt: &R,
-    alloc: Global,
-    row: &Row,
-    begun: &Sides,
-    whole: &Ran,
-    part: Part,
-    call: u64,
-) -> Result<Option<&'static str>, AllocError> {
-    let mut again = run_row(rt, alloc, row, begun, Some((part, call)))?;
-    if again.status == whole.status {
-        return Ok(Some("the same status"));
+// What is otherwise in a run in which a call failed.
+fn otherwise(whole: &str, ran: &Ran, part: Part, opened: &str) -> Option<&'static str> {
+    match written_before(whole, ran, part) {
+        Ok(written) if goes_on(whole, written, opened) => None,
+        Ok(_) => Some("another state"),
+        Err(why) => Some(why),
     }
-    let sides = read_sides(alloc, &mut again.disk)?;
-    let opened = opened(rt, alloc, &sides)?;
-    Ok(otherwise(&whole.written, &again, part, &opened))
 }
 
 /// Runs a row again with each call of a part failing in turn, and adds how many calls there are, and what is otherwise.
@@ -178,10 +166,11 @@ pub fn add_late<R: Clock + Threads + Wait + Sync>(
     let first = calls.saturating_sub(LATE);
     for at in first..calls {
         let call = at.saturating_add(1);
-        if let Some(why) = otherwise_at(rt, alloc, row, begun, whole, Part::Disk, call)? {
+        let again = run_row(rt, alloc, row, begun, Some((Part::Disk, call)))?;
+        if let Err(why) = written_before(&whole.written, &again, Part::Disk) {
             writeln!(out, "each late: call {call}: {why}")?;
         }
-        if !reopens(rt, alloc, whole, call, &STOPS[..2])? {
+        if !reopens(rt, alloc, whole, call, &STOPS[..1])? {
             writeln!(out, "each late: call {call}: another state behind a stop")?;
         }
     }

@@ -21,7 +21,7 @@
 //! | `hide digests`, `fold` | `(digest)` is printed for each digest, lines that are the same once, behind their number |
 //! | `each PART` | runs it again with each call of the part failing in turn |
 //! | `each stop` | opens what a stop inside each call of the disk leaves |
-//! | `each late` | both with the last ten calls of the disk, and two of the six stops |
+//! | `each late` | lets each of the last ten calls of the disk fail, and opens what one stop inside it leaves |
 //! | `each byte` | runs it over each value of each byte of the left side |
 #![tactic(auto)]
 
