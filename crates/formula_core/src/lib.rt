@@ -16,6 +16,7 @@ mod order;
 mod raw;
 mod row;
 mod scheme;
+mod scope;
 mod shift;
 mod size;
 mod steps;

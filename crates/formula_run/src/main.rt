@@ -1,10 +1,10 @@
 //! A formula of the greatest height and one of the greatest size, counted, copied, compared and let go.
 //!
-//! With a word and a number it makes two formulas of so many different names, does one kind of work on them, and prints
-//! what came of it: `bench/formula_work` takes the time.
+//! With a word and a number it makes two formulas of so many different names, or of so many binders, does one kind of work
+//! on them, and prints what came of it: `bench/formula_work` takes the time.
 #![tactic(auto)]
 
-use formula_core::{Boxed, Formula, List, Name, NameFault, Op, OutOfMemory, Ty};
+use formula_core::{Binder, Boxed, Formula, List, Name, NameFault, Op, OutOfMemory, Ty};
 use std::alloc::Global;
 use std::process::ExitCode;
 use std::{env, io};
@@ -15,13 +15,36 @@ const GREATEST_SIZE: u32 = 65_536;
 
 const ROUNDS: u32 = 20;
 
-// Puts ¬ before the last formula of a list.
-fn negate(alloc: Global, out: &mut Vec<Formula>) -> Result<(), OutOfMemory> {
+// How often each binder's index stands in a formula of many binders.
+const USES: u32 = 15;
+
+// Takes the last formula of a list.
+fn taken(alloc: Global, out: &mut Vec<Formula>) -> Result<List<Formula>, OutOfMemory> {
     let mut parts = Vec::new(alloc);
     if let Some(f) = out.pop() {
         parts.push(f)?;
     }
-    out.push(Formula::Node(Op::Not, List::of(parts), Ty::Truth))?;
+    Ok(List::of(parts))
+}
+
+// Puts an operator before the last formula of a list, which makes a predicate.
+fn apply(alloc: Global, op: Op, out: &mut Vec<Formula>) -> Result<(), OutOfMemory> {
+    let parts = taken(alloc, out)?;
+    out.push(Formula::Node(op, parts, Ty::Truth))?;
+    Ok(())
+}
+
+fn integer(alloc: Global) -> Result<List<Ty>, OutOfMemory> {
+    let mut types = Vec::new(alloc);
+    types.push(Ty::Int)?;
+    Ok(List::of(types))
+}
+
+// Puts ∃ before the last formula of a list.
+fn bind(alloc: Global, out: &mut Vec<Formula>) -> Result<(), OutOfMemory> {
+    let types = integer(alloc)?;
+    let parts = taken(alloc, out)?;
+    out.push(Formula::Bind(Binder::Exists, types, parts, Ty::Truth))?;
     Ok(())
 }
 
@@ -30,7 +53,7 @@ fn add_high(alloc: Global, height: u32, out: &mut Vec<Formula>) -> Result<(), Ou
     let top = Formula::Node(Op::Top, List::of(Vec::new(alloc)), Ty::Truth);
     out.push(top)?;
     for _ in 1..height {
-        negate(alloc, out)?;
+        apply(alloc, Op::Not, out)?;
     }
     Ok(())
 }
@@ -65,6 +88,27 @@ fn add_names(alloc: Global, members: u32, out: &mut Vec<Formula>) -> Option<()> 
     add_set(alloc, parts, out).ok()
 }
 
+// Adds the index of each of so many binders, several times.
+fn add_indices(alloc: Global, binders: u32, out: &mut Vec<Formula>) -> Result<(), OutOfMemory> {
+    let mut parts = Vec::new(alloc);
+    for at in 0..binders {
+        for _ in 0..USES {
+            parts.push(Formula::Bound(at, Ty::Int))?;
+        }
+    }
+    add_set(alloc, parts, out)
+}
+
+// Adds ∃x·∃y·.. finite({..}) with so many binders.
+fn add_bound(alloc: Global, binders: u32, out: &mut Vec<Formula>) -> Result<(), OutOfMemory> {
+    add_indices(alloc, binders, out)?;
+    apply(alloc, Op::Finite, out)?;
+    for _ in 0..binders {
+        bind(alloc, out)?;
+    }
+    Ok(())
+}
+
 fn has_equal_copy(alloc: Global, f: &Formula) -> bool {
     match f.copy(alloc) {
         Ok(copy) => f.same(&copy),
@@ -78,6 +122,7 @@ enum Work {
     Make,
     Free,
     IsWell,
+    Binders,
     Same,
     Substitute,
 }
@@ -87,6 +132,7 @@ fn work_of(word: &str) -> Option<Work> {
         "make" => Some(Work::Make),
         "free" => Some(Work::Free),
         "well" => Some(Work::IsWell),
+        "binders" => Some(Work::Binders),
         "same" => Some(Work::Same),
         "substitute" => Some(Work::Substitute),
         _ => None,
@@ -113,7 +159,7 @@ fn done(alloc: Global, work: Work, f: &Formula, g: &Formula) -> Option<u64> {
     match work {
         Work::Make => Some(1),
         Work::Free => u64::try_from(f.free(alloc).ok()?.len()).ok(),
-        Work::IsWell => Some(u64::from(f.is_well())),
+        Work::IsWell | Work::Binders => Some(u64::from(f.is_well())),
         Work::Same => Some(u64::from(f.same(g))),
         Work::Substitute => nodes_after_swap(alloc, f),
     }
@@ -147,6 +193,22 @@ fn of_names(alloc: Global, names: u32) -> Option<Vec<Formula>> {
     Some(made)
 }
 
+// Two formulas of so many binders.
+fn of_binders(alloc: Global, binders: u32) -> Option<Vec<Formula>> {
+    let mut made = Vec::new(alloc);
+    add_bound(alloc, binders, &mut made).ok()?;
+    add_bound(alloc, binders, &mut made).ok()?;
+    Some(made)
+}
+
+// What the work is done on.
+fn made_for(alloc: Global, work: Work, number: u32) -> Option<Vec<Formula>> {
+    match work {
+        Work::Binders => of_binders(alloc, number),
+        _ => of_names(alloc, number),
+    }
+}
+
 fn asked(words: &[String]) -> Option<(Work, u32)> {
     match words {
         [work, number] => Some((work_of(work.as_str())?, number.parse().ok()?)),
@@ -160,8 +222,8 @@ fn main(rt: HostRuntime) -> io::Result<ExitCode> {
     for word in env::args(&rt)?.skip(1) {
         words.push(word)?;
     }
-    if let Some((work, names)) = asked(&words) {
-        let made = of_names(alloc, names);
+    if let Some((work, number)) = asked(&words) {
+        let made = made_for(alloc, work, number);
         let answer = made.and_then(|items| done_on(alloc, work, &items));
         println!(rt; "{}", answer.unwrap_or(0))?;
         return Ok(ExitCode::SUCCESS);
