@@ -104,7 +104,7 @@ pub fn copy_values(
 ) -> Result<List<(Name, Formula)>, OutOfMemory>
     ensures { IfOk result (λ xs. xs ≡ items.now) }
 {
-    let mut copies = Vec::new(alloc);
+    let mut copies = Vec::with_capacity(alloc, items.len())?;
     for item in items {
         copies.push((item.0.copy(alloc)?, item.1.copy(alloc)?))?;
     }
@@ -117,7 +117,7 @@ pub fn copy_labelled_actions(
 ) -> Result<List<(Label, Action)>, OutOfMemory>
     ensures { IfOk result (λ xs. xs ≡ items.now) }
 {
-    let mut copies = Vec::new(alloc);
+    let mut copies = Vec::with_capacity(alloc, items.len())?;
     for item in items {
         copies.push((item.0.copy(alloc)?, item.1.copy(alloc)?))?;
     }

@@ -85,14 +85,14 @@ impl Formula {
     pub fn copy(&self, alloc: Global) -> Result<Formula, OutOfMemory>
         ensures { IfOk result (λ f. f ≡ self.now) }
     {
-        let mut out = Vec::new(alloc);
+        let mut out = Vec::with_capacity(alloc, 1)?;
         self.copy_onto(alloc, &mut out)?;
         only_of(out)
     }
 
-    /// Adds a copy at the end of a list.
+    /// Adds a copy at the end of a list. The lists in it have no room for more.
     #[cycle(copy)]
-    fn copy_onto(&self, alloc: Global, out: &mut Vec<Formula>) -> Result<(), OutOfMemory>
+    pub fn copy_onto(&self, alloc: Global, out: &mut Vec<Formula>) -> Result<(), OutOfMemory>
         ensures { OnOk result (out.new.items ≡ out.old.items ++ self.now ∷ []) }
     {
         match self {
@@ -100,13 +100,15 @@ impl Formula {
             Formula::Free(name, ty) => add_identifier(alloc, name, ty, out),
             Formula::Bound(at, ty) => add_index(alloc, *at, ty, out),
             Formula::Node(op, parts, ty) => {
-                let mut copies = Vec::new(alloc);
-                copy_all(parts.items(), alloc, &mut copies)?;
+                let parts = parts.items();
+                let mut copies = Vec::with_capacity(alloc, parts.len())?;
+                copy_all(parts, alloc, &mut copies)?;
                 add_node(alloc, *op, copies, ty, out)
             }
             Formula::Bind(binder, types, parts, ty) => {
-                let mut copies = Vec::new(alloc);
-                copy_all(parts.items(), alloc, &mut copies)?;
+                let parts = parts.items();
+                let mut copies = Vec::with_capacity(alloc, parts.len())?;
+                copy_all(parts, alloc, &mut copies)?;
                 add_binder(alloc, *binder, types.items(), copies, ty, out)
             }
         }
@@ -131,7 +133,7 @@ pub fn same_formulas(xs: &[Formula], ys: &[Formula]) -> bool
 pub fn copy_formulas(alloc: Global, items: &[Formula]) -> Result<List<Formula>, OutOfMemory>
     ensures { IfOk result (λ xs. xs ≡ items.now) }
 {
-    let mut copies = Vec::new(alloc);
+    let mut copies = Vec::with_capacity(alloc, items.len())?;
     copy_all(items, alloc, &mut copies)?;
     Ok(List::of(copies))
 }

@@ -37,7 +37,7 @@ pub fn copy_identifiers(
 ) -> Result<List<(Name, Ty)>, OutOfMemory>
     ensures { IfOk result (λ xs. xs ≡ items.now) }
 {
-    let mut copies = Vec::new(alloc);
+    let mut copies = Vec::with_capacity(alloc, items.len())?;
     for item in items {
         copies.push((item.0.copy(alloc)?, item.1.copy(alloc)?))?;
     }

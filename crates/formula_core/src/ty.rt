@@ -99,7 +99,7 @@ pub fn same_types(xs: &[Ty], ys: &[Ty]) -> bool
 pub fn copy_types(alloc: Global, items: &[Ty]) -> Result<List<Ty>, OutOfMemory>
     ensures { IfOk result (λ xs. xs ≡ items.now) }
 {
-    let mut copies = Vec::new(alloc);
+    let mut copies = Vec::with_capacity(alloc, items.len())?;
     for item in items {
         copies.push(item.copy(alloc)?)?;
     }
