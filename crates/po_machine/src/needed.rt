@@ -55,9 +55,9 @@ fn nodes_with(before: u64, hyps: &[&Formula], goal: &Formula) -> u64
 fn copied(alloc: Global, formulas: &[&Formula]) -> Result<List<Formula>, OutOfMemory>
     ensures { IfOk result (λ copies. copies ≡ behind formulas.now) }
 {
-    let mut copies = Vec::new(alloc);
+    let mut copies = Vec::with_capacity(alloc, formulas.len())?;
     for formula in formulas {
-        copies.push(formula.copy(alloc)?)?;
+        formula.copy_onto(alloc, &mut copies)?;
     }
     Ok(List::of(copies))
 }
