@@ -15,7 +15,7 @@ pub fn copy_texts(
 {
     let mut copy = BTreeMap::new(alloc);
     for (name, text) in texts {
-        copy.insert(name.copy(alloc)?, text.copy(alloc)?)?;
+        copy.insert(name.copy(alloc)?, text.copy()?)?;
     }
     Ok(copy)
 }

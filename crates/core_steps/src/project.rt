@@ -76,7 +76,7 @@ impl Project {
     {
         let mut copy = Project::new(alloc);
         for (name, text) in texts.entries() {
-            copy.put(name.copy(alloc)?, text.copy(alloc)?)?;
+            copy.put(name.copy(alloc)?, text.copy()?)?;
         }
         Ok(copy)
     }

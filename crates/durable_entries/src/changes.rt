@@ -79,7 +79,7 @@ fn add_change(
         (None, None) => {}
         (Some(_), None) => listed.push(Entry::Drop(name.copy(alloc)?))?,
         (Some(old), Some(text)) if old.same(text) => {}
-        (_, Some(text)) => listed.push(Entry::Put(name.copy(alloc)?, text.copy(alloc)?))?,
+        (_, Some(text)) => listed.push(Entry::Put(name.copy(alloc)?, text.copy()?))?,
     }
     Ok(())
 }

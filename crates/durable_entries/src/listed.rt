@@ -27,7 +27,7 @@ fn add_built(alloc: Global, built: &Project, listed: &mut Vec<Entry>) -> Result<
     ensures { OnOk result (listed.new.items ≡ listed.old.items ++ map (λ e. Entry.Put e.0 e.1) (finite.entries built.now)) }
 {
     for (name, text) in built.texts() {
-        listed.push(Entry::Put(name.copy(alloc)?, text.copy(alloc)?))?;
+        listed.push(Entry::Put(name.copy(alloc)?, text.copy()?))?;
     }
     Ok(())
 }

@@ -6,6 +6,7 @@ use crate::memory::OutOfMemory;
 use crate::name::{Name, NameFault};
 use std::alloc::Global;
 use std::marker::Model;
+use std::sync::Arc;
 
 /// A label without its `@`.
 #[derive(Debug, Drop)]
@@ -183,18 +184,19 @@ fn add_part(text: &mut String, part: &str) -> Result<(), OutOfMemory>
     Ok(())
 }
 
-/// A text.
-#[derive(Debug, Drop)]
+/// A text. Its copies share it, so that a copy takes little time and no memory.
+#[derive(Drop)]
 pub struct Text {
-    text: String,
+    text: Arc<String>,
 }
 
 impl Model for Text {
     ghost use Rattle.std.specs.Prelude.{List, ℕ, string_bytes};
+    ghost use Rattle.std.specs.Arc.{arc_value};
 
     ghost Value = { List ℕ };
 
-    ghost view = { λ a. string_bytes a.text };
+    ghost view = { λ a. string_bytes (arc_value a.text) };
 }
 
 impl Text {
@@ -211,10 +213,10 @@ impl Text {
         self.text.as_str() == other.text.as_str()
     }
 
-    pub fn copy(&self, alloc: Global) -> Result<Text, OutOfMemory>
+    pub fn copy(&self) -> Result<Text, OutOfMemory>
         ensures { IfOk result (λ copy. copy ≡ self.now) }
     {
-        let text = String::from_str(alloc, self.text.as_str())?;
+        let text = Arc::try_clone(&self.text)?;
         Ok(Text { text })
     }
 
@@ -223,6 +225,7 @@ impl Text {
         ensures { IfOk result (λ copy. copy ≡ text.now) }
     {
         let text = String::from_str(alloc, text)?;
+        let text = Arc::new(alloc, text)?;
         Ok(Text { text })
     }
 }

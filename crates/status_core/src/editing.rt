@@ -69,7 +69,7 @@ impl Core {
         let room = self.durable.texts.room_for(self.alloc, name)?;
         let edited = name.copy(self.alloc)?;
         let name = name.copy(self.alloc)?;
-        let text = text.copy(self.alloc)?;
+        let text = text.copy()?;
         let reply = Reply::Edited(edited);
         Ok(Prepared::putting(self.alloc, reply, name, text, room))
     }
