@@ -16,11 +16,11 @@ use Rattle.check_input.specs.Inputs.{Component, IsInput}
 use Rattle.check_input.specs.Lines.{input_line}
 use Rattle.check_input.specs.declared.input.InputFault.{InputFault}
 use Rattle.rodin_cli.specs.Session.{Extends}
-use Rattle.rodin_cli.specs.Script.{IsFull, IsWhole, IsFront}
+use Rattle.rodin_cli.specs.Script.{IsFullScript, IsWholeScript, IsFront}
 use Rattle.session_streams.specs.Streams.{Reading, Writing, Writes, WritesCut, WritesNothing}
 use Rattle.session_ends.specs.Written.{WritesOrFails}
-use Rattle.rodin_cli.specs.Texts.{printed}
-use Rattle.rodin_cli.specs.Check.{Leads, IsAnswered, IsTooFull, RanOut, EndsWithLine, ComesOf, Checks, HasNoHistory, TellsFaults, TellsWarnings, IsProved, status_of}
+use Rattle.rodin_cli.specs.Texts.{printed_lines}
+use Rattle.rodin_cli.specs.Check.{LeadsToPart, IsAnswered, IsTooFull, RanOut, EndsWithLine, ComesOf, RunsCheck, HasNoHistory, TellsFaults, TellsWarnings, IsProved, status_of}
 use Rattle.rodin_cli.specs.Completeness.{IsComplete}
 use Rattle.rodin_cli.proofs.Sessions.{front_of_whole}
 use Rattle.rodin_cli.proofs.Folding.{run_folds}
@@ -41,7 +41,7 @@ module _ (answers : Sequent → Attempt → Type 0) (sure : Sequent → Type 0) 
   ran : Run (opened no_texts) exchanges new.core
   ran = subst (λ s. Run s exchanges new.core) did.fresh did.extends.0
 
-  pub leads : Leads part exchanges
+  pub leads : LeadsToPart part exchanges
   leads = record {
     state = new.core;
     run = ran;
@@ -55,15 +55,15 @@ module _ (answers : Sequent → Attempt → Type 0) (sure : Sequent → Type 0) 
   ran_out bytes sink parts status made front nothing =
       record { status_is = status; exchanges = exchanges; front = inr (parts, made, front); leads = leads; text = nothing }
 
-  pub too_full : (bytes : List ℕ) (sink : Writing) (parts : List Component) → part.status ≡ 7 → IsInput bytes (Ok parts) → IsFull parts exchanges → WritesOrFails sink (codes "full: table\n") →
+  pub too_full : (bytes : List ℕ) (sink : Writing) (parts : List Component) → part.status ≡ 7 → IsInput bytes (Ok parts) → IsFullScript parts exchanges → WritesOrFails sink (codes "full: table\n") →
       IsTooFull bytes sink part
   too_full bytes sink parts status made full text =
       record { parts = parts; made = made; exchanges = exchanges; full = full; leads = leads; status_is = status; text = text }
 
-  module _ (parts : List Component) (told : List FaultLine) (warned : List (List ℕ × List ℕ)) (shown : List (List ℕ × Status × Option Origin)) (whole : IsWhole answers sure parts told warned shown exchanges)
+  module _ (parts : List Component) (told : List FaultLine) (warned : List (List ℕ × List ℕ)) (shown : List (List ℕ × Status × Option Origin)) (whole : IsWholeScript answers sure parts told warned shown exchanges)
       (complete : IsComplete sure new.core.durable exchanges) where
     pub answered : (bytes : List ℕ) (sink : Writing) → IsInput bytes (Ok parts) →
-        ((part.status ≡ status_of told) × Writes sink (printed told warned shown)) ⊎ ((part.status ≡ 4) × WritesCut sink (printed told warned shown)) → IsAnswered answers sure bytes sink part
+        ((part.status ≡ status_of told) × Writes sink (printed_lines told warned shown)) ⊎ ((part.status ≡ 4) × WritesCut sink (printed_lines told warned shown)) → IsAnswered answers sure bytes sink part
     answered bytes sink made text =
         let clean = clean_of answers sure parts told warned shown exchanges (opened no_texts) new.core whole ran in
         let tells = told_of answers sure parts told warned shown exchanges (opened no_texts) new.core whole ran in
@@ -99,9 +99,9 @@ ran_out_at_once answers sure bytes sink part status nothing kept =
 
 -- an answer that is written, cut, or not begun for want of memory
 pub comes_of_answer : (answers : Sequent → Attempt → Type 0) (sure : Sequent → Type 0) (old new : Session) (exchanges : List Exchange) (part : Part) → Did old new exchanges part →
-    (parts : List Component) (told : List FaultLine) (warned : List (List ℕ × List ℕ)) (shown : List (List ℕ × Status × Option Origin)) → IsWhole answers sure parts told warned shown exchanges → IsComplete sure new.core.durable exchanges →
+    (parts : List Component) (told : List FaultLine) (warned : List (List ℕ × List ℕ)) (shown : List (List ℕ × Status × Option Origin)) → IsWholeScript answers sure parts told warned shown exchanges → IsComplete sure new.core.durable exchanges →
     (bytes : List ℕ) (sink : Writing) (status : ℕ) → part.status ≡ status → IsInput bytes (Ok parts) →
-    ((status ≡ status_of told) × Writes sink (printed told warned shown)) ⊎ ((status ≡ 4) × WritesCut sink (printed told warned shown)) ⊎ ((status ≡ 9) × WritesNothing sink) →
+    ((status ≡ status_of told) × Writes sink (printed_lines told warned shown)) ⊎ ((status ≡ 4) × WritesCut sink (printed_lines told warned shown)) ⊎ ((status ≡ 9) × WritesNothing sink) →
     ComesOf answers sure bytes sink part
 comes_of_answer answers sure old new exchanges part did parts told warned shown whole complete bytes sink status is made (inl written) =
     inl (answered answers sure old new exchanges part did parts told warned shown whole complete bytes sink made (inl (is ∙ written.0, written.1)))
@@ -126,7 +126,7 @@ answered_not_2 told status A B (inr b) e = omega (arith, b.0, e)
 other : (status k : ℕ) → status ≡ k → k ≢ 2 → status ≢ 2
 other status k is differ e = differ (sym is ∙ e)
 
-pub check_not_2 : (answers : Sequent → Attempt → Type 0) (sure : Sequent → Type 0) (source : Reading) (sink : Writing) (part : Part) → Checks answers sure source sink part → part.status ≢ 2
+pub check_not_2 : (answers : Sequent → Attempt → Type 0) (sure : Sequent → Type 0) (source : Reading) (sink : Writing) (part : Part) → RunsCheck answers sure source sink part → part.status ≢ 2
 check_not_2 answers sure source sink part (inl (bytes, read, most, inl a)) = answered_not_2 a.told part.status _ _ a.text
 check_not_2 answers sure source sink part (inl (bytes, read, most, inr (inl full))) = other part.status 7 full.status_is (omega arith)
 check_not_2 answers sure source sink part (inl (bytes, read, most, inr (inr (inl (fault, made, ends))))) = other part.status 1 ends.status_is (omega arith)

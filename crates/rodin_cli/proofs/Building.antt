@@ -26,8 +26,8 @@ use Rattle.core_steps.proofs.NameMaps.{entries-empty}
 use Rattle.check_input.specs.Inputs.{Component, IsInput}
 use Rattle.check_input.specs.Laws.{AreGoodFrom}
 use Rattle.check_input.proofs.Good.{parts_are_good}
-use Rattle.rodin_cli.specs.Check.{with_part, project_of}
-use Rattle.rodin_cli.specs.Script.{AreEdits, AreTurns, IsBuiltReply, IsWhole}
+use Rattle.rodin_cli.specs.Check.{with_component, project_of}
+use Rattle.rodin_cli.specs.Script.{AreEdits, AreTurns, IsBuiltReply, IsWholeScript}
 use Rattle.rodin_cli.proofs.Sessions.{Run-split, comes}
 
 -- the empty project may be built
@@ -51,7 +51,7 @@ room_for texts name text n h =
     subst (λ k. k ≤ n + 1) (sym (len-insert nat_list_cmp_total texts name text)) (one_more (contains_key texts name) (len texts) n h)
 
 edits_lead : (parts : List Component) (edits : List Exchange) (s t : State) (n : ℕ) → AreGoodFrom n parts → len s.durable.texts ≤ n → AreEdits parts edits → Run s edits t →
-    t.durable.texts ≡ fold with_part s.durable.texts parts
+    t.durable.texts ≡ fold with_component s.durable.texts parts
 edits_lead [] [] s t n good room are run = ap (λ u. u.durable.texts) run
 edits_lead [] (x ∷ edits) s t n good room are run = absurd are
 edits_lead (p ∷ parts) [] s t n good room are run = absurd are
@@ -60,7 +60,7 @@ edits_lead (p ∷ parts) (x ∷ edits) s t n good room are (m, step, rest) =
     let is : m.durable ≡ entered s.durable (Put p.0 p.1) = edited_to s _ p.0 p.1 (comes s m x (Edit p.0 p.1) are.0 step).2 good.0 good.1 (omega (arith, few, room)) in
     let texts : m.durable.texts ≡ insert s.durable.texts p.0 p.1 = ap (λ u. u.texts) is in
     let more : len m.durable.texts ≤ n + 1 = subst (λ u. len u ≤ n + 1) (sym texts) (room_for s.durable.texts p.0 p.1 n room) in
-    edits_lead parts edits m t (n + 1) good.3 more are.1 rest ∙ ap (λ u. fold with_part u parts) texts
+    edits_lead parts edits m t (n + 1) good.3 more are.1 rest ∙ ap (λ u. fold with_component u parts) texts
 
 -- ---- the build, and what comes behind it
 build_takes : (s : State) (x : Outcome) → Builds s x → IsBuiltReply x.reply → x.new.durable.built ≡ s.durable.texts
@@ -101,7 +101,7 @@ module _ (answers : Sequent → Attempt → Type 0) (sure : Sequent → Type 0) 
 
   -- a whole run builds the components of the input
   pub built_of : (bytes : List ℕ) (parts : List Component) (told : List FaultLine) (warned : List (List ℕ × List ℕ)) (shown : List (List ℕ × Status × Option Origin)) (exchanges : List Exchange) (t : State) →
-      IsInput bytes (Ok parts) → IsWhole answers sure parts told warned shown exchanges → Run (opened no_texts) exchanges t → t.durable.built ≡ project_of parts
+      IsInput bytes (Ok parts) → IsWholeScript answers sure parts told warned shown exchanges → Run (opened no_texts) exchanges t → t.durable.built ≡ project_of parts
   built_of bytes parts told warned shown exchanges t made w run =
       let s : State = opened no_texts in
       let cut = Run-split s t (w.round.edits ++ w.round.build ∷ w.round.turns) (w.round.nothing ∷ w.faults ∷ w.statuses ∷ []) (subst (λ xs. Run s xs t) w.round.in_order run) in

@@ -22,7 +22,7 @@ use Rattle.core_steps.specs.State.{State}
 use Rattle.core_steps.specs.Step.{Comes}
 use Rattle.core_steps.specs.Run.{Exchange, Run}
 use Rattle.check_input.specs.Inputs.{Component}
-use Rattle.rodin_cli.specs.Script.{IsWhole}
+use Rattle.rodin_cli.specs.Script.{IsWholeScript}
 use Rattle.rodin_cli.specs.Check.{TellsFaults, TellsWarnings, IsProved, IsProvedWhereDischarged}
 use Rattle.rodin_cli.proofs.Sessions.{Run-split, comes}
 
@@ -49,7 +49,7 @@ asked_stays s x (table, is, (shown, rebuilt, told)) = ap (λ z. z.new) told
 
 -- the last but one of the exchanges tells the faults and the warnings of the built texts
 pub told_of : (answers : Sequent → Attempt → Type 0) (sure : Sequent → Type 0) (parts : List Component) (told : List FaultLine) (warned : List (List ℕ × List ℕ)) (shown : List (List ℕ × Status × Option Origin))
-    (exchanges : List Exchange) (s t : State) → IsWhole answers sure parts told warned shown exchanges → Run s exchanges t → TellsFaults t.durable told × TellsWarnings t.durable warned
+    (exchanges : List Exchange) (s t : State) → IsWholeScript answers sure parts told warned shown exchanges → Run s exchanges t → TellsFaults t.durable told × TellsWarnings t.durable warned
 told_of answers sure parts told warned shown exchanges s t w run =
     let cut = Run-split s t (w.round.edits ++ w.round.build ∷ w.round.turns) (w.round.nothing ∷ w.faults ∷ w.statuses ∷ []) (subst (λ xs. Run s xs t) w.round.in_order run) in
     let r = cut.2 in
@@ -59,7 +59,7 @@ told_of answers sure parts told warned shown exchanges s t w run =
 
 -- the last of the exchanges shows the statuses of a clean rebuild
 pub clean_of : (answers : Sequent → Attempt → Type 0) (sure : Sequent → Type 0) (parts : List Component) (told : List FaultLine) (warned : List (List ℕ × List ℕ)) (shown : List (List ℕ × Status × Option Origin))
-    (exchanges : List Exchange) (s t : State) → IsWhole answers sure parts told warned shown exchanges → Run s exchanges t → IsRebuilt t.durable shown
+    (exchanges : List Exchange) (s t : State) → IsWholeScript answers sure parts told warned shown exchanges → Run s exchanges t → IsRebuilt t.durable shown
 clean_of answers sure parts told warned shown exchanges s t w run =
     let cut = Run-split s t (w.round.edits ++ w.round.build ∷ w.round.turns) (w.round.nothing ∷ w.faults ∷ w.statuses ∷ []) (subst (λ xs. Run s xs t) w.round.in_order run) in
     let r = cut.2 in

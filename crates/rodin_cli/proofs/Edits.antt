@@ -12,7 +12,7 @@ use Rattle.core_steps.specs.Run.{Exchange}
 use Rattle.rodin_cli.specs.declared.round.Numbers.{Numbers}
 use Rattle.rodin_cli.specs.declared.session.Session.{Session}
 use Rattle.check_input.specs.Inputs.{Component}
-use Rattle.rodin_cli.specs.Script.{AreEdits, AreFirstEdits, IsFull}
+use Rattle.rodin_cli.specs.Script.{AreEdits, AreFirstEdits, IsFullScript}
 use Rattle.rodin_cli.specs.Session.{Extends, IsUnchanged, Performs}
 use Rattle.rodin_cli.proofs.Sessions.{both, unchanged, performed}
 
@@ -57,7 +57,7 @@ pub built_or_full : (parts : List Component) (a b c : Session) (reply : Reply) (
     Performs b Build reply c →
     MatchOption built ((components faulted obligations : ℕ) → reply ≢ Built components faulted obligations) (λ n. reply ≡ Built n.components n.faulted n.obligations) →
     MatchOption built
-    ((exchanges : List Exchange) × IsFull parts exchanges × Extends a exchanges c)
+    ((exchanges : List Exchange) × IsFullScript parts exchanges × Extends a exchanges c)
     (λ n. (edits : List Exchange) × (build : Exchange) × AreEdits parts edits × (build.event ≡ Build)
     × (build.reply ≡ Built n.components n.faulted n.obligations) × Extends a (edits ++ build ∷ []) c)
 built_or_full parts a b c reply (Some n) edited done says =

@@ -29,7 +29,7 @@ use Rattle.core_steps.specs.declared.Status.{Status}
 use Rattle.rodin_cli.specs.declared.round.Numbers.{Numbers}
 use Rattle.rodin_cli.specs.declared.session.Session.{Session}
 use Rattle.rodin_cli.specs.Session.{Extends, IsUnchanged}
-use Rattle.rodin_cli.specs.Script.{AreEdits, AreFirstEdits, AreTurns, AreFirstAsks, IsEndFront, IsBuiltReply, IsFull, IsRound, IsRoundFront, IsWhole, IsFront}
+use Rattle.rodin_cli.specs.Script.{AreEdits, AreFirstEdits, AreTurns, AreFirstAsks, IsEndFront, IsBuiltReply, IsFullScript, IsRound, IsRoundFront, IsWholeScript, IsFront}
 use Rattle.rodin_cli.specs.Completeness.{IsComplete}
 use Rattle.rodin_cli.proofs.OneTable.{one_table, distinct_table}
 use Rattle.rodin_cli.proofs.Edits.{then_unchanged}
@@ -157,7 +157,7 @@ begun_stays parts edits build s t are is run =
     subst (Stays s) (sym cut.2.2) (then_stays s cut.0 cut.2.0 (edits_stay parts edits s cut.0 are cut.1).0 built.0)
 
 -- a round whose table is too large is legal
-pub full_legal : (parts : List Component) (exchanges : List Exchange) (s t : State) → IsFull parts exchanges → Run s exchanges t → IsLegal exchanges
+pub full_legal : (parts : List Component) (exchanges : List Exchange) (s t : State) → IsFullScript parts exchanges → Run s exchanges t → IsLegal exchanges
 full_legal parts exchanges s t w run =
     let cut = Run-split s t w.edits (w.build ∷ []) (subst (λ xs. Run s xs t) w.in_order run) in
     let built = build_step cut.0 cut.2.0 w.build w.build_is.0 cut.2.1 in
@@ -282,7 +282,7 @@ module _ (answers : Sequent → Attempt → Type 0) (sure : Sequent → Type 0) 
     -- nothing is left, and the questions are answered
     pub whole_of_asking : DecidesSequents → (told : List FaultLine) (warned : List (List ℕ × List ℕ)) (shown : List (List ℕ × Status × Option Origin)) (x y : Exchange) →
         x.event ≡ Ask AskFaults → x.reply ≡ Faults told warned → y.event ≡ Ask AskStatuses → y.reply ≡ Statuses shown → Extends c (x ∷ y ∷ []) d →
-        (exchanges : List Exchange) × IsWhole answers sure parts told warned shown exchanges × IsLegal exchanges × IsComplete sure d.core.durable exchanges × Extends a exchanges d
+        (exchanges : List Exchange) × IsWholeScript answers sure parts told warned shown exchanges × IsLegal exchanges × IsComplete sure d.core.durable exchanges × Extends a exchanges d
     whole_of_asking decides told warned shown x y asks tells asks_more shows q =
         let exchanges = worked ++ x ∷ y ∷ [] in
         let w = asked_round answers sure parts numbers (x ∷ y ∷ []) worked round in

@@ -27,9 +27,9 @@ use Rattle.rodin_cli.specs.declared.round.Numbers.{Numbers}
 use Rattle.rodin_cli.specs.declared.session.Session.{Session}
 use Rattle.rodin_cli.specs.Completeness.{IsComplete}
 use Rattle.rodin_cli.specs.Demo.{is_discharged, discharged_in, edited_in, line_after, lasting, Counts, ComesAfter, Demonstrates}
-use Rattle.rodin_cli.specs.Check.{HasNoHistory, Leads}
+use Rattle.rodin_cli.specs.Check.{HasNoHistory, LeadsToPart}
 use Rattle.rodin_cli.specs.Private.{Reaches, Finishes, LineStops, RoundShows, RoundStops, ReachesBoth, ReachesStop, Concludes, IsUntouched, stop_status}
-use Rattle.rodin_cli.specs.Script.{IsFull, IsRound, IsRoundFront}
+use Rattle.rodin_cli.specs.Script.{IsFullScript, IsRound, IsRoundFront}
 use Rattle.rodin_cli.specs.Session.{Extends, IsUnchanged}
 use Rattle.session_streams.specs.Streams.{Writing, Writes, WritesCut, SinkFailed, writing}
 use Rattle.rodin_cli.proofs.Answering.{leads}
@@ -106,9 +106,9 @@ few_discharged shown = let both = length-filter_both (λ x. is_discharged x.1) (
 
 -- A ROUND, BY WHAT IT EDITS
 
-pub full_round : (round : Round) (parts : List Component) → parts ≡ edited_in round → (a b : Session) → (exchanges : List Exchange) × IsFull parts exchanges × Extends a exchanges b →
-    (exchanges : List Exchange) × IsFull (edited_in round) exchanges × Extends a exchanges b
-full_round round parts made a b (exchanges, full, p) = (exchanges, subst (λ ps. IsFull ps exchanges) made full, p)
+pub full_round : (round : Round) (parts : List Component) → parts ≡ edited_in round → (a b : Session) → (exchanges : List Exchange) × IsFullScript parts exchanges × Extends a exchanges b →
+    (exchanges : List Exchange) × IsFullScript (edited_in round) exchanges × Extends a exchanges b
+full_round round parts made a b (exchanges, full, p) = (exchanges, subst (λ ps. IsFullScript ps exchanges) made full, p)
 
 module _ (answers : Sequent → Attempt → Type 0) (sure : Sequent → Type 0) (round : Round) (parts : List Component) (made : parts ≡ edited_in round) (a b : Session) where
   pub front_round : (exchanges : List Exchange) × IsRoundFront answers sure parts [] exchanges × Extends a exchanges b →
@@ -291,7 +291,7 @@ module _ (answers : Sequent → Attempt → Type 0) (sure : Sequent → Type 0) 
 
   module _ (seed n : ℕ) (old new : Session) (part : Part) (enters : EntersAll) (fresh : old.core ≡ opened no_texts) (empty : old.history.items ≡ [])
       (history : part.history.items ≡ new.history.items) (last : part.last ≡ new.core.durable) where
-    leads_so : (round : Round) (done : List Exchange) (text : List ℕ) (exchanges : List Exchange) → Reaches answers sure seed n old new round done text exchanges → Leads part (done ++ exchanges)
+    leads_so : (round : Round) (done : List Exchange) (text : List ℕ) (exchanges : List Exchange) → Reaches answers sure seed n old new round done text exchanges → LeadsToPart part (done ++ exchanges)
     leads_so round done text exchanges r =
         leads answers sure old new (done ++ exchanges) part
         (record { enters = enters; fresh = fresh; empty = empty; extends = r.extends; legal = r.legal; history = history; last = last })

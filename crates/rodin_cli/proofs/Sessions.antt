@@ -22,7 +22,7 @@ use Rattle.rodin_cli.specs.declared.round.Numbers.{Numbers}
 use Rattle.rodin_cli.specs.declared.session.Session.{Session}
 use Rattle.check_input.specs.Inputs.{Component}
 use Rattle.rodin_cli.specs.Session.{Performs, IsUnchanged, Extends}
-use Rattle.rodin_cli.specs.Script.{AreEdits, AreTurns, AreFirstAsks, IsEndFront, IsRound, IsRoundFront, IsWhole, IsFront}
+use Rattle.rodin_cli.specs.Script.{AreEdits, AreTurns, AreFirstAsks, IsEndFront, IsRound, IsRoundFront, IsWholeScript, IsFront}
 
 pub Run-both : (a b c : State) (xs ys : List Exchange) → Run a xs b → Run b ys c → Run a (xs ++ ys) c
 Run-both a b c [] ys p q = subst (λ s. Run s ys c) p q
@@ -134,7 +134,7 @@ module _ (answers : Sequent → Attempt → Type 0) (sure : Sequent → Type 0) 
 
   -- a whole run of `check` is a front of one
   pub front_of_whole : (told : List FaultLine) (warned : List (List ℕ × List ℕ)) (shown : List (List ℕ × Status × Option Origin)) (exchanges : List Exchange) →
-      IsWhole answers sure parts told warned shown exchanges → IsFront answers sure parts exchanges
+      IsWholeScript answers sure parts told warned shown exchanges → IsFront answers sure parts exchanges
   front_of_whole told warned shown exchanges w =
       front_of_round w.numbers (AskFaults ∷ AskStatuses ∷ []) (w.faults ∷ w.statuses ∷ []) exchanges (w.faults_is.0, (w.statuses_is.0, tt)) w.round
 

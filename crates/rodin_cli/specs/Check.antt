@@ -22,17 +22,17 @@ use Rattle.core_steps.specs.Run.{Exchange, Run, IsLegal, history_of}
 use Rattle.rodin_cli.specs.declared.outcome.Part.{Part}
 use Rattle.session_streams.specs.Streams.{Reading, Writing, SourceFailed, Writes, WritesCut, WritesNothing}
 use Rattle.session_ends.specs.Written.{WritesOrFails}
-use Rattle.rodin_cli.specs.Streams.{Takes, Ends}
-use Rattle.rodin_cli.specs.Texts.{printed}
+use Rattle.rodin_cli.specs.Streams.{TakesBytes, IsAtInputEnd}
+use Rattle.rodin_cli.specs.Texts.{printed_lines}
 use Rattle.check_input.specs.Inputs.{Component, IsInput}
 use Rattle.check_input.specs.Lines.{input_line}
 use Rattle.check_input.specs.declared.input.InputFault.{InputFault}
-use Rattle.rodin_cli.specs.Script.{IsWhole, IsFront, IsFull}
+use Rattle.rodin_cli.specs.Script.{IsWholeScript, IsFront, IsFullScript}
 use Rattle.rodin_cli.specs.Completeness.{IsComplete}
 
 -- The exchanges are a legal run from the empty project. They are the history, and what lasts is the fold of their
 -- entries.
-pub record Leads (part : Part) (exchanges : List Exchange) : Type 0 where
+pub record LeadsToPart (part : Part) (exchanges : List Exchange) : Type 0 where
   pub state : State
   pub run : Run (opened no_texts) exchanges state
   pub legal : IsLegal exchanges
@@ -58,12 +58,12 @@ abbrev pub TellsWarnings : Durable → List (List ℕ × List ℕ) → Type 0
 TellsWarnings d warned = AreWarnings d.built warned
 
 -- one more component in a project
-abbrev pub with_part : ProjectMap → Component → ProjectMap
-with_part texts part = insert texts part.0 part.1
+abbrev pub with_component : ProjectMap → Component → ProjectMap
+with_component texts part = insert texts part.0 part.1
 
 -- the project of these components
 abbrev pub project_of : List Component → ProjectMap
-project_of parts = fold with_part empty parts
+project_of parts = fold with_component empty parts
 
 -- the status of an answer that is written: 1 where a fault is told
 abbrev pub status_of : List FaultLine → ℕ
@@ -79,15 +79,15 @@ pub record IsAnswered (answers : Sequent → Attempt → Type 0) (sure : Sequent
   pub told : List FaultLine
   pub warned : List (List ℕ × List ℕ)
   pub shown : List (List ℕ × Status × Option Origin)
-  pub whole : IsWhole answers sure parts told warned shown exchanges
-  pub leads : Leads part exchanges
+  pub whole : IsWholeScript answers sure parts told warned shown exchanges
+  pub leads : LeadsToPart part exchanges
   pub built : part.last.built ≡ project_of parts
   pub faults : TellsFaults part.last told
   pub warnings : TellsWarnings part.last warned
   pub clean : IsRebuilt part.last shown
   pub proved : IsProved part.last shown
   pub complete : IsComplete sure part.last exchanges
-  pub text : ((part.status ≡ status_of told) × Writes sink (printed told warned shown)) ⊎ ((part.status ≡ 4) × WritesCut sink (printed told warned shown))
+  pub text : ((part.status ≡ status_of told) × Writes sink (printed_lines told warned shown)) ⊎ ((part.status ≡ 4) × WritesCut sink (printed_lines told warned shown))
 
 -- nothing was done
 abbrev pub HasNoHistory : Part → Type 0
@@ -104,8 +104,8 @@ pub record IsTooFull (bytes : List ℕ) (sink : Writing) (part : Part) : Type 0 
   pub parts : List Component
   pub made : IsInput bytes (Ok parts)
   pub exchanges : List Exchange
-  pub full : IsFull parts exchanges
-  pub leads : Leads part exchanges
+  pub full : IsFullScript parts exchanges
+  pub leads : LeadsToPart part exchanges
   pub status_is : part.status ≡ 7
   pub text : WritesOrFails sink (codes "full: table\n")
 
@@ -114,7 +114,7 @@ pub record RanOut (answers : Sequent → Attempt → Type 0) (sure : Sequent →
   pub status_is : part.status ≡ 9
   pub exchanges : List Exchange
   pub front : (exchanges ≡ []) ⊎ ((parts : List Component) × IsInput bytes (Ok parts) × IsFront answers sure parts exchanges)
-  pub leads : Leads part exchanges
+  pub leads : LeadsToPart part exchanges
   pub text : WritesNothing sink
 
 -- What comes of an input of these bytes: the answer, the last line where its table is too large or something is wrong
@@ -127,21 +127,21 @@ ComesOf answers sure bytes sink part =
     ⊎ RanOut answers sure bytes sink part
 
 -- the input was read: to its end, or its first 67,108,865 bytes
-pub record IsRead (bytes : List ℕ) (source : Reading) : Type 0 where
-  pub taken : Takes source bytes
+pub record IsWholeInput (bytes : List ℕ) (source : Reading) : Type 0 where
+  pub taken : TakesBytes source bytes
   pub most : length bytes ≤ 67108865
-  pub ended : length bytes ≤ 67108864 → Ends source
+  pub ended : length bytes ≤ 67108864 → IsAtInputEnd source
 
 -- a front of the input was read
 abbrev pub IsReadInPart : Reading → Type 0
-IsReadInPart source = (bytes : List ℕ) × Takes source bytes
+IsReadInPart source = (bytes : List ℕ) × TakesBytes source bytes
 
 -- The input was read and answered; or it has more than 67,108,864 bytes; or the source failed; or memory ran out while
 -- it was read.
-abbrev pub Checks : (Sequent → Attempt → Type 0) → (Sequent → Type 0) → Reading → Writing → Part → Type 0
-Checks answers sure source sink part =
-    ((bytes : List ℕ) × IsRead bytes source × (length bytes ≤ 67108864) × ComesOf answers sure bytes sink part)
-    ⊎ ((bytes : List ℕ) × IsRead bytes source × (67108864 < length bytes) × EndsWithLine 7 (codes "full: input\n") sink part)
+abbrev pub RunsCheck : (Sequent → Attempt → Type 0) → (Sequent → Type 0) → Reading → Writing → Part → Type 0
+RunsCheck answers sure source sink part =
+    ((bytes : List ℕ) × IsWholeInput bytes source × (length bytes ≤ 67108864) × ComesOf answers sure bytes sink part)
+    ⊎ ((bytes : List ℕ) × IsWholeInput bytes source × (67108864 < length bytes) × EndsWithLine 7 (codes "full: input\n") sink part)
     ⊎ (SourceFailed source × IsReadInPart source × EndsWithLine 3 (codes "input: read fault\n") sink part)
     ⊎ (IsReadInPart source × (part.status ≡ 9) × HasNoHistory part × WritesNothing sink)
 

@@ -19,9 +19,9 @@ use Rattle.rodin_cli.specs.declared.demo.Counted.{Counted}
 use Rattle.rodin_cli.specs.declared.demo.Round.{Round}
 use Rattle.rodin_cli.specs.declared.demo.Round.TheVariants.{Models, Edit}
 use Rattle.rodin_cli.specs.declared.round.Numbers.{Numbers}
-use Rattle.rodin_cli.specs.Check.{Leads}
+use Rattle.rodin_cli.specs.Check.{LeadsToPart}
 use Rattle.rodin_cli.specs.Completeness.{IsComplete}
-use Rattle.rodin_cli.specs.Script.{IsRound, IsRoundFront, IsFull}
+use Rattle.rodin_cli.specs.Script.{IsRound, IsRoundFront, IsFullScript}
 use Rattle.session_streams.specs.Streams.{Writing, Writes, WritesCut}
 use Rattle.session_ends.specs.Written.{WritesOrFails}
 
@@ -79,7 +79,7 @@ pub record ShowsBoth (answers : Sequent → Attempt → Type 0) (sure : Sequent 
   pub counted : Counted
   pub begins : ComesAfter answers sure seed n (Edit n) done text
   pub counts : Counts answers sure (Edit n) counted exchanges
-  pub leads : Leads part (done ++ exchanges)
+  pub leads : LeadsToPart part (done ++ exchanges)
   pub complete : IsComplete sure part.last (done ++ exchanges)
   pub status_is : part.status ≡ 0
   pub written : Writes sink (text ++ line_after (Edit n) counted)
@@ -93,7 +93,7 @@ pub record ShowsCut (answers : Sequent → Attempt → Type 0) (sure : Sequent �
   pub counted : Counted
   pub begins : ComesAfter answers sure seed n round done text
   pub counts : Counts answers sure round counted exchanges
-  pub leads : Leads part (done ++ exchanges)
+  pub leads : LeadsToPart part (done ++ exchanges)
   pub complete : IsComplete sure part.last (done ++ exchanges)
   pub status_is : part.status ≡ 4
   pub written : WritesCut sink (text ++ line_after round counted)
@@ -105,8 +105,8 @@ pub record ShowsFull (answers : Sequent → Attempt → Type 0) (sure : Sequent 
   pub text : List ℕ
   pub exchanges : List Exchange
   pub begins : ComesAfter answers sure seed n round done text
-  pub full : IsFull (edited_in round) exchanges
-  pub leads : Leads part (done ++ exchanges)
+  pub full : IsFullScript (edited_in round) exchanges
+  pub leads : LeadsToPart part (done ++ exchanges)
   pub status_is : part.status ≡ 7
   pub written : WritesOrFails sink (text ++ codes "full: table\n")
 
@@ -118,7 +118,7 @@ pub record ShowsFront (answers : Sequent → Attempt → Type 0) (sure : Sequent
   pub exchanges : List Exchange
   pub begins : ComesAfter answers sure seed n round done text
   pub front : IsRoundFront answers sure (edited_in round) (AskStatuses ∷ []) exchanges
-  pub leads : Leads part (done ++ exchanges)
+  pub leads : LeadsToPart part (done ++ exchanges)
   pub status_is : part.status ≡ 9
   pub written : Writes sink text
 

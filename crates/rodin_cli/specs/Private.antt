@@ -12,7 +12,7 @@ use Rattle.rodin_cli.specs.declared.demo.Stop.{Stop}
 use Rattle.rodin_cli.specs.declared.demo.Stop.TheVariants.{Full, Cut, OutOfMemory}
 use Rattle.rodin_cli.specs.Completeness.{IsComplete}
 use Rattle.rodin_cli.specs.Demo.{edited_in, line_after, Counts, ComesAfter}
-use Rattle.rodin_cli.specs.Script.{IsFull, IsRoundFront}
+use Rattle.rodin_cli.specs.Script.{IsFullScript, IsRoundFront}
 use Rattle.rodin_cli.specs.Session.{Extends}
 use Rattle.session_streams.specs.Streams.{Writing, Writes, WritesCut, WritesNothing}
 use Rattle.session_ends.specs.Written.{WritesOrFails}
@@ -47,7 +47,7 @@ RoundShows answers sure round old new sink =
 
 -- what the round did where it stopped
 abbrev pub RoundStops : (Sequent → Attempt → Type 0) → (Sequent → Type 0) → Round → Session → Session → Writing → Stop → Type 0
-RoundStops answers sure round old new sink Full = (exchanges : List Exchange) × IsFull (edited_in round) exchanges × Extends old exchanges new × WritesNothing sink
+RoundStops answers sure round old new sink Full = (exchanges : List Exchange) × IsFullScript (edited_in round) exchanges × Extends old exchanges new × WritesNothing sink
 RoundStops answers sure round old new sink Cut =
     (counted : Counted) × (exchanges : List Exchange) × Counts answers sure round counted exchanges × Extends old exchanges new × WritesCut sink (line_after round counted)
 RoundStops answers sure round old new sink OutOfMemory =
@@ -75,7 +75,7 @@ ReachesBoth answers sure seed n old new sink =
 abbrev pub ReachesStop : (Sequent → Attempt → Type 0) → (Sequent → Type 0) → ℕ → ℕ → Session → Session → Writing → Stop → Type 0
 ReachesStop answers sure seed n old new sink Full =
     (round : Round) × (done : List Exchange) × (text : List ℕ) × (exchanges : List Exchange)
-    × Reaches answers sure seed n old new round done text exchanges × IsFull (edited_in round) exchanges × Writes sink text
+    × Reaches answers sure seed n old new round done text exchanges × IsFullScript (edited_in round) exchanges × Writes sink text
 ReachesStop answers sure seed n old new sink Cut =
     (round : Round) × (done : List Exchange) × (text : List ℕ) × (exchanges : List Exchange) × (counted : Counted)
     × Finishes answers sure seed n old new round done text exchanges counted × WritesCut sink (text ++ line_after round counted)

@@ -58,7 +58,7 @@ abbrev pub IsBuiltReply : Reply → Type 0
 IsBuiltReply reply = (components faulted obligations : ℕ) × (reply ≡ Built components faulted obligations)
 
 -- edits of these parts, and a build that is refused for its table's size
-pub record IsFull (parts : List Component) (exchanges : List Exchange) : Type 0 where
+pub record IsFullScript (parts : List Component) (exchanges : List Exchange) : Type 0 where
   pub edits : List Exchange
   pub build : Exchange
   pub nodes : ℕ
@@ -86,7 +86,7 @@ IsRoundFront answers sure parts questions exchanges =
     × (exchanges ≡ (edits ++ build ∷ turns) ++ end) × AreEdits parts edits × (build.event ≡ Build) × IsBuiltReply build.reply × AreTurns answers sure turns × IsEndFront questions end)
 
 -- a whole run of `check`, which tells these faults and shows these statuses
-pub record IsWhole (answers : Sequent → Attempt → Type 0) (sure : Sequent → Type 0) (parts : List Component) (told : List FaultLine) (warned : List (List ℕ × List ℕ)) (shown : List (List ℕ × Status × Option Origin)) (exchanges : List Exchange) : Type 0 where
+pub record IsWholeScript (answers : Sequent → Attempt → Type 0) (sure : Sequent → Type 0) (parts : List Component) (told : List FaultLine) (warned : List (List ℕ × List ℕ)) (shown : List (List ℕ × Status × Option Origin)) (exchanges : List Exchange) : Type 0 where
   pub numbers : Numbers
   pub faults : Exchange
   pub statuses : Exchange

@@ -85,5 +85,5 @@ abbrev pub warning_lines : List (List ℕ × List ℕ) → List ℕ
 warning_lines warned = flat_map warning_line warned
 
 -- the faults and the warnings, and then the statuses
-abbrev pub printed : List FaultLine → List (List ℕ × List ℕ) → List (List ℕ × Status × Option Origin) → List ℕ
-printed told warned shown = fault_lines told ++ warning_lines warned ++ status_lines shown
+abbrev pub printed_lines : List FaultLine → List (List ℕ × List ℕ) → List (List ℕ × Status × Option Origin) → List ℕ
+printed_lines told warned shown = fault_lines told ++ warning_lines warned ++ status_lines shown

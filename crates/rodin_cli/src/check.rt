@@ -9,13 +9,13 @@ ghost use Rattle.core_steps.specs.Run.{Exchange, IsLegal};
 ghost use Rattle.core_steps.specs.State.{opened, no_texts};
 ghost use Rattle.check_input.specs.Inputs.{IsInput};
 ghost use Rattle.rodin_cli.specs.Completeness.{IsComplete};
-ghost use Rattle.rodin_cli.specs.Script.{IsFull, IsWhole, IsFront};
+ghost use Rattle.rodin_cli.specs.Script.{IsFullScript, IsWholeScript, IsFront};
 ghost use Rattle.rodin_cli.specs.Session.{Extends, IsUnchanged};
 ghost use Rattle.session_streams.specs.Streams.{reading, writing, Writes, WritesCut, WritesNothing};
 ghost use Rattle.session_ends.specs.Written.{WritesOrFails};
-ghost use Rattle.rodin_cli.specs.Texts.{printed};
+ghost use Rattle.rodin_cli.specs.Texts.{printed_lines};
 ghost use Rattle.check_input.specs.Lines.{input_line};
-ghost use Rattle.rodin_cli.specs.Check.{HasNoHistory, EndsWithLine, ComesOf, Checks, status_of};
+ghost use Rattle.rodin_cli.specs.Check.{HasNoHistory, EndsWithLine, ComesOf, RunsCheck, status_of};
 
 use crate::outcome::Part;
 use crate::round::work;
@@ -75,9 +75,9 @@ fn play<L: Ledger, P: Prover>(
 ) -> Result<Option<Shown>, OutOfMemory>
     requires { session.old.core ≡ opened no_texts }
     ensures whole { IfOk result (λ played. MatchOption played
-        ((exchanges : List Exchange) × IsFull parts.items exchanges × Extends session.old exchanges session.new)
+        ((exchanges : List Exchange) × IsFullScript parts.items exchanges × Extends session.old exchanges session.new)
         (λ shown. (exchanges : List Exchange)
-        × IsWhole (P.answers prover.now) (P.sure prover.now) parts.items shown.faults shown.warnings shown.statuses exchanges
+        × IsWholeScript (P.answers prover.now) (P.sure prover.now) parts.items shown.faults shown.warnings shown.statuses exchanges
         × IsLegal exchanges × IsComplete (P.sure prover.now) session.new.core.durable exchanges
         × Extends session.old exchanges session.new)) }
     ensures front { OnErr result ((exchanges : List Exchange)
@@ -152,10 +152,10 @@ fn status_of(told: &[FaultLine]) -> u8
 fn answer<O: Sink>(alloc: Global, output: &mut O, shown: &Shown) -> u8
     ensures { ((result ≡ status_of shown.now.faults) × Writes
         (writing (O.written output.old) (O.written output.new) (O.faults output.old) (O.faults output.new))
-        (printed shown.now.faults shown.now.warnings shown.now.statuses))
+        (printed_lines shown.now.faults shown.now.warnings shown.now.statuses))
         ⊎ ((result ≡ 4) × WritesCut
         (writing (O.written output.old) (O.written output.new) (O.faults output.old) (O.faults output.new))
-        (printed shown.now.faults shown.now.warnings shown.now.statuses))
+        (printed_lines shown.now.faults shown.now.warnings shown.now.statuses))
         ⊎ ((result ≡ 9) × WritesNothing
         (writing (O.written output.old) (O.written output.new) (O.faults output.old) (O.faults output.new))) }
 {
@@ -241,7 +241,7 @@ fn check_source<I: Source, O: Sink, P: Prover>(
     output: &mut O,
     prover: &P,
 ) -> Part
-    ensures { Checks (P.answers prover.now) (P.sure prover.now)
+    ensures { RunsCheck (P.answers prover.now) (P.sure prover.now)
         (reading (I.left input.old) (I.left input.new) (I.faults input.old) (I.faults input.new))
         (writing (O.written output.old) (O.written output.new) (O.faults output.old) (O.faults output.new)) result }
 {
@@ -266,7 +266,7 @@ pub fn run_check<I: Source, O: Sink, P: Prover>(
     output: &mut O,
     prover: &P,
 ) -> Part
-    ensures checked { Checks (P.answers prover.now) (P.sure prover.now)
+    ensures checked { RunsCheck (P.answers prover.now) (P.sure prover.now)
         (reading (I.left input.old) (I.left input.new) (I.faults input.old) (I.faults input.new))
         (writing (O.written output.old) (O.written output.new) (O.faults output.old) (O.faults output.new)) result }
     ensures ended { (result.status ≡ 0) ⊎ (result.status ≡ 1) ⊎ (result.status ≡ 4) → IsAtEnd (I.left input.new) }

@@ -7,7 +7,7 @@ ghost use Rattle.core_steps.specs.declared.Question.{Question};
 ghost use Rattle.core_steps.specs.declared.Reply.{Reply};
 ghost use Rattle.core_steps.specs.Run.{Exchange};
 ghost use Rattle.core_steps.specs.State.{opened, no_texts};
-ghost use Rattle.rodin_cli.specs.Script.{IsFull, IsRoundFront};
+ghost use Rattle.rodin_cli.specs.Script.{IsFullScript, IsRoundFront};
 ghost use Rattle.rodin_cli.specs.Session.{Extends, IsUnchanged};
 ghost use Rattle.session_streams.specs.Streams.{writing, Writes};
 ghost use Rattle.rodin_cli.specs.Demo.{is_discharged, discharged_in, edited_in, line_after, Counts, Demonstrates};
@@ -134,7 +134,7 @@ fn count<L: Ledger, P: Prover>(
     requires out { session.old.core.out ≡ [] }
     requires number { session.old.core.next ≤ 8388609 }
     ensures whole { IfOk result (λ played. MatchOption played
-        ((exchanges : List Exchange) × IsFull (edited_in round) exchanges × Extends session.old exchanges session.new)
+        ((exchanges : List Exchange) × IsFullScript (edited_in round) exchanges × Extends session.old exchanges session.new)
         (λ counted. (exchanges : List Exchange) × Counts (P.answers prover.now) (P.sure prover.now) round counted exchanges
         × Extends session.old exchanges session.new)) }
     ensures front { OnErr result ((exchanges : List Exchange)

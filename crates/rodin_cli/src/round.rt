@@ -3,7 +3,7 @@ ghost use Rattle.std.specs.Prelude.{◌≡◌, ◌≢◌, ◌≤◌, ◌<◌, �
 ghost use Rattle.core_steps.specs.declared.Event.{Event};
 ghost use Rattle.core_steps.specs.declared.Reply.{Reply};
 ghost use Rattle.core_steps.specs.Run.{Exchange};
-ghost use Rattle.rodin_cli.specs.Script.{AreEdits, AreFirstEdits, AreTurns, IsTurn, IsEndFront, IsFull, IsRound, IsRoundFront};
+ghost use Rattle.rodin_cli.specs.Script.{AreEdits, AreFirstEdits, AreTurns, IsTurn, IsEndFront, IsFullScript, IsRound, IsRoundFront};
 ghost use Rattle.rodin_cli.specs.Session.{Extends};
 
 use crate::session::{Session, finish, perform, take};
@@ -59,7 +59,7 @@ fn begin<L: Ledger>(
     steps: &mut Steps<L>,
 ) -> Result<Option<Numbers>, OutOfMemory>
     ensures whole { IfOk result (λ begun. MatchOption begun
-        ((exchanges : List Exchange) × IsFull parts.items exchanges × Extends session.old exchanges session.new)
+        ((exchanges : List Exchange) × IsFullScript parts.items exchanges × Extends session.old exchanges session.new)
         (λ n. (edits : List Exchange) × (build : Exchange) × AreEdits parts.items edits
         × (build.event ≡ Event.Build) × (build.reply ≡ Reply.Built n.components n.faulted n.obligations)
         × Extends session.old (edits ++ build ∷ []) session.new)) }
@@ -132,7 +132,7 @@ pub fn work<L: Ledger, P: Prover>(
     requires out { session.old.core.out ≡ [] }
     requires number { session.old.core.next ≤ 8388609 }
     ensures whole { IfOk result (λ worked. MatchOption worked
-        ((exchanges : List Exchange) × IsFull parts.items exchanges × Extends session.old exchanges session.new)
+        ((exchanges : List Exchange) × IsFullScript parts.items exchanges × Extends session.old exchanges session.new)
         (λ n. (exchanges : List Exchange) × IsRound (P.answers prover.now) (P.sure prover.now) parts.items n [] exchanges
         × Extends session.old exchanges session.new)) }
     ensures front { OnErr result ((exchanges : List Exchange)

@@ -1,6 +1,6 @@
 // What is printed.
 ghost use Rattle.std.specs.Prelude.{◌≡◌, ◌++◌, IfOk, OnOk, string_bytes};
-ghost use Rattle.rodin_cli.specs.Texts.{word_of, status_line, status_lines, front, back, is_at_end, fault_text, fault_line, fault_lines, warning_line, warning_lines, printed};
+ghost use Rattle.rodin_cli.specs.Texts.{word_of, status_line, status_lines, front, back, is_at_end, fault_text, fault_line, fault_lines, warning_line, warning_lines, printed_lines};
 
 use core_steps::{FaultLine, Origin, Status};
 use formula_core::{Name, OutOfMemory, PoName};
@@ -157,7 +157,7 @@ pub fn printed(
     warned: &[(Name, Name)],
     shown: &[(PoName, Status, Option<Origin>)],
 ) -> Result<String, OutOfMemory>
-    ensures { IfOk result (λ text. string_bytes text ≡ printed told.now warned.now shown.now) }
+    ensures { IfOk result (λ text. string_bytes text ≡ printed_lines told.now warned.now shown.now) }
 {
     let mut text = String::new(alloc);
     add_faults(&mut text, told)?;

@@ -3,7 +3,7 @@ ghost use Rattle.std.specs.Prelude.{◌≡◌, ◌⊎◌, ◌↔◌, ℕ};
 ghost use Rattle.std.specs.Io.KnownBytes.{IsAtEnd};
 ghost use Rattle.outside.specs.Cause.{Rose};
 ghost use Rattle.session_streams.specs.Streams.{reading, writing};
-ghost use Rattle.rodin_cli.specs.Check.{Checks, EndsWithLine, IsCheckWords, usage_line};
+ghost use Rattle.rodin_cli.specs.Check.{RunsCheck, EndsWithLine, IsCheckWords, usage_line};
 ghost use Rattle.rodin_cli.specs.Demo.{Demonstrates};
 ghost use Rattle.prover_pool.specs.Shift.{fair};
 ghost use Rattle.session_ends.specs.Sessions.{Sessions};
@@ -42,7 +42,7 @@ pub fn run<
     prover: &P,
     gate: &G,
 ) -> Run<D>
-    ensures checked { IsCheckWords words.now → Checks (P.answers prover.now) (P.sure prover.now)
+    ensures checked { IsCheckWords words.now → RunsCheck (P.answers prover.now) (P.sure prover.now)
         (reading (I.left input.old) (I.left input.new) (I.faults input.old) (I.faults input.new))
         (writing (O.written output.old) (O.written output.new) (O.faults output.old) (O.faults output.new))
         (record { status = result.status; history = result.history; last = result.last }) }
