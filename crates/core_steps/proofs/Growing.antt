@@ -8,7 +8,7 @@ use Rattle.proof_entries.specs.declared.Entry.TheVariants.{Put, Drop, Build, Set
 use Rattle.core_steps.specs.Durable.{text_cmp}
 use Rattle.core_steps.specs.declared.durable.Durable.{Durable}
 use Rattle.core_steps.specs.State.{State, entered, without_all}
-use Rattle.core_steps.specs.Outcomes.{Outcome}
+use Rattle.core_steps.specs.Outcomes.{StepOutcome}
 use Rattle.core_steps.proofs.Sorts.{Sort, tells, enters, takes, hands_in, stores}
 
 one_more : (b : Bool) (n : ℕ) → cond b n (n + 1) ≤ n + 1
@@ -31,10 +31,10 @@ entered_slowly d Build = omega arith
 entered_slowly d (SetProof name proof) = omega (arith, len-insert nat_list_cmp_total d.proofs name proof, one_more (contains_key d.proofs name) (len d.proofs))
 entered_slowly d (Purge names) = omega (arith, fewer d.proofs names)
 
-abbrev Slow : State → Outcome → Type 0
+abbrev Slow : State → StepOutcome → Type 0
 Slow s x = (x.new.next ≤ s.next + 1) × (len x.new.durable.proofs ≤ len s.durable.proofs + 1)
 
-pub slowly : (s : State) (x : Outcome) → Sort s x → Slow s x
+pub slowly : (s : State) (x : StepOutcome) → Sort s x → Slow s x
 slowly s x (tells reply is) = subst (Slow s) (sym is) (omega arith, omega arith)
 slowly s x (enters reply entry is) = subst (Slow s) (sym is) (omega arith, entered_slowly s.durable entry)
 slowly s x (takes o is) = subst (Slow s) (sym is) (omega arith, omega arith)

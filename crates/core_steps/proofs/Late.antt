@@ -16,8 +16,8 @@ use Rattle.core_steps.specs.declared.events.Reply.TheVariants.{Stored}
 use Rattle.core_steps.specs.State.{State}
 use Rattle.core_steps.specs.Status.{IsStatus}
 use Rattle.core_steps.specs.Table.{IsTable, IsPresent}
-use Rattle.core_steps.specs.Outcomes.{Outcome}
-use Rattle.core_steps.specs.Tickets.{CanStore, IsPresentStatus, Ends, Finishes, by_prover}
+use Rattle.core_steps.specs.Outcomes.{StepOutcome}
+use Rattle.core_steps.specs.Tickets.{CanStore, IsPresentStatus, EndsTicket, Finishes, by_prover}
 use Rattle.core_steps.specs.Laws.{AreApart, IsOrderly, IsStoredOrStale, StoresLate}
 use Rattle.core_steps.proofs.NameMaps.{get_same, names_differ}
 use Rattle.core_steps.proofs.OneWay.{one_status, one_present, ticket_cut, among_cut}
@@ -31,24 +31,24 @@ good_status s k (Some q) tree status can shown =
     subst (λ o. IsStatus o q Discharged) (sym (get_same s.durable.proofs k.name (by_prover tree))) can.1.derives in
     shown.1 ∙ ap Some (one_status _ q shown.0 Discharged shown.2 stored)
 
-late_ends : (s : State) (k : Ticket) (q : Option Sequent) (tree : Tree) (x : Outcome) → IsGoodTree tree k.sequent → Ends s k q (Found tree) x → IsStoredOrStale s k q tree x
+late_ends : (s : State) (k : Ticket) (q : Option Sequent) (tree : Tree) (x : StepOutcome) → IsGoodTree tree k.sequent → EndsTicket s k q (Found tree) x → IsStoredOrStale s k q tree x
 late_ends s k q tree x good (status, shown, inl y) =
-    let is = good_status s k q tree status y.0 (subst (λ (z : Outcome). IsPresentStatus z.new.durable.proofs k.name q status) y.1 shown) in (
+    let is = good_status s k q tree status y.0 (subst (λ (z : StepOutcome). IsPresentStatus z.new.durable.proofs k.name q status) y.1 shown) in (
       (λ can. (ap (λ z. z.reply) y.1 ∙ ap (Stored k.name) is, ap (λ z. get z.new.durable.proofs k.name) y.1 ∙ get_same s.durable.proofs k.name (by_prover tree))),
       (λ cannot. absurd (cannot y.0)),
     )
 late_ends s k q tree x good (status, shown, inr (cannot, inl y)) = ((λ can. absurd (cannot can)), (λ n. (status, ap (λ z. z.reply) y.1, ap (λ z. z.new.durable) y.1)))
 late_ends s k q tree x good (status, shown, inr (cannot, inr y)) = absurd (y.0 good)
 
-abbrev EndsBeside : State → List Obligation → Tree → Outcome → Ticket × List Ticket → Type 0
-EndsBeside s table tree x z = (q : Option Sequent) × IsPresent table z.0.name q × Ends (record s { out = z.1 }) z.0 q (Found tree) x
+abbrev EndsBeside : State → List Obligation → Tree → StepOutcome → Ticket × List Ticket → Type 0
+EndsBeside s table tree x z = (q : Option Sequent) × IsPresent table z.0.name q × EndsTicket (record s { out = z.1 }) z.0 q (Found tree) x
 
-late_beside : (s : State) (table : List Obligation) (tree : Tree) (x : Outcome) (k : Ticket) (out : List Ticket) (q : Option Sequent) → IsPresent table k.name q →
+late_beside : (s : State) (table : List Obligation) (tree : Tree) (x : StepOutcome) (k : Ticket) (out : List Ticket) (q : Option Sequent) → IsPresent table k.name q →
     IsGoodTree tree k.sequent → EndsBeside s table tree x (k, out) → IsStoredOrStale s k q tree x
 late_beside s table tree x k out q present good e =
     subst (λ p. IsStoredOrStale s k p tree x) (one_present table k.name e.0 q e.1 present) (late_ends (record s { out = out }) k e.0 tree x good e.2)
 
-late_finish : (s : State) (table : List Obligation) (before : List Ticket) (k : Ticket) (behind : List Ticket) (tree : Tree) (x : Outcome) (q : Option Sequent) → IsOrderly s →
+late_finish : (s : State) (table : List Obligation) (before : List Ticket) (k : Ticket) (behind : List Ticket) (tree : Tree) (x : StepOutcome) (q : Option Sequent) → IsOrderly s →
     s.out ≡ before ++ k ∷ behind → IsGoodTree tree k.sequent → IsPresent table k.name q → Finishes s table k.number (Found tree) x → IsStoredOrStale s k q tree x
 late_finish s table before k behind tree x q o cut good present (inl none) = absurd (among_cut k.number s.out before behind k cut refl none.0)
 late_finish s table before k behind tree x q o cut good present (inr f) =

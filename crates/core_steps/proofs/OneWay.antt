@@ -42,10 +42,10 @@ use Rattle.build_core.specs.Tables.{counted_nodes}
 use Rattle.core_steps.proofs.Counted.{too_large}
 use Rattle.core_steps.specs.Table.{IsTable, IsPresent}
 use Rattle.core_steps.specs.Faults.{AreFaults, AreWarnings}
-use Rattle.core_steps.specs.Outcomes.{Outcome, told, entering, Where, Unless}
+use Rattle.core_steps.specs.Outcomes.{StepOutcome, told, entering, Where, Unless}
 use Rattle.core_steps.specs.Editing.{Edits, Deletes, Builds, Purges}
 use Rattle.core_steps.specs.Proving.{OnObligation, stored_tree, Keeps, Puts, StepsAt, PrunesAt, ShowsOne, ShowsAt, ShowsTree}
-use Rattle.core_steps.specs.Tickets.{IsOpen, TakesFirst, TakesNamed, TellsNotOpen, taking, IsIdle, CanStore, IsPresentStatus, Ends, Finishes, tried_with, by_prover}
+use Rattle.core_steps.specs.Tickets.{IsOpen, TakesFirst, TakesNamed, TellsNotOpen, taking, IsIdle, CanStore, IsPresentStatus, EndsTicket, Finishes, tried_with, by_prover}
 use Rattle.core_steps.specs.Step.{Tells, ComesBeside, Comes}
 use Rattle.core_steps.specs.Laws.{AreApart, IsOrderly}
 use Rattle.core_steps.proofs.Alls.{all_first, all_last}
@@ -170,16 +170,16 @@ one_present_status proofs name (Some q) a b x y = x.1 ∙ ap Some (one_status (g
 
 -- OUTCOMES
 
-join : {x y : Outcome} (z : Outcome) → x ≡ z → y ≡ z → x ≡ y
+join : {x y : StepOutcome} (z : StepOutcome) → x ≡ z → y ≡ z → x ≡ y
 join z a b = a ∙ sym b
 
-edits : (s : State) (name text : List ℕ) (x y : Outcome) → Edits s name text x → Edits s name text y → x ≡ y
+edits : (s : State) (name text : List ℕ) (x y : StepOutcome) → Edits s name text x → Edits s name text y → x ≡ y
 edits s name text x y = unless_one (join _) (where_one (join _) (where_one (join _) (join _)))
 
-deletes : (s : State) (name : List ℕ) (x y : Outcome) → Deletes s name x → Deletes s name y → x ≡ y
+deletes : (s : State) (name : List ℕ) (x y : StepOutcome) → Deletes s name x → Deletes s name y → x ≡ y
 deletes s name x y = unless_one (join _) (join _)
 
-on_obligation : (s : State) (table : List Obligation) (name : List ℕ) (x y : Outcome) (X Y : Sequent → Type 0) → ((q : Sequent) → X q → Y q → x ≡ y) →
+on_obligation : (s : State) (table : List Obligation) (name : List ℕ) (x y : StepOutcome) (X Y : Sequent → Type 0) → ((q : Sequent) → X q → Y q → x ≡ y) →
     OnObligation s table name X x → OnObligation s table name Y y → x ≡ y
 on_obligation s table name x y X Y f (inl a) (inl b) = join _ a.1 b.1
 on_obligation s table name x y X Y f (inl a) (inr b) = absurd (none_some b.0 (one_present table name None (Some b.0) a.0 b.1))
@@ -187,54 +187,54 @@ on_obligation s table name x y X Y f (inr a) (inl b) = absurd (none_some a.0 (on
 on_obligation s table name x y X Y f (inr a) (inr b) =
     f b.0 (subst X (some_one a.0 b.0 (one_present table name (Some a.0) (Some b.0) a.1 b.1)) a.2) b.2
 
-keeps : (s : State) (name : List ℕ) (q : Sequent) (tree : Tree) (x y : Outcome) → Keeps s name q tree x → Keeps s name q tree y → x ≡ y
+keeps : (s : State) (name : List ℕ) (q : Sequent) (tree : Tree) (x y : StepOutcome) → Keeps s name q tree x → Keeps s name q tree y → x ≡ y
 keeps s name q tree x y a b =
     a.2 ∙ ap (λ status. entering s (Now name status) (SetProof name _)) (one_tree_status tree q a.0 b.0 a.1 b.1) ∙ sym b.2
 
-puts : (s : State) (name : List ℕ) (q : Sequent) (tree : Tree) (path : List ℕ) (made : Result Rule RuleFault) (x y : Outcome) →
+puts : (s : State) (name : List ℕ) (q : Sequent) (tree : Tree) (path : List ℕ) (made : Result Rule RuleFault) (x y : StepOutcome) →
     Puts s name q tree path made x → Puts s name q tree path made y → x ≡ y
 puts s name q tree path (Err fault) x y a b = join _ a.1 b.1
 puts s name q tree path (Ok rule) x y a b = where_one (join _) (keeps s name q (grown rule path tree) x y) a b
 
 -- what is put is no answer for want of memory
-in_memory : (s : State) (name : List ℕ) (q : Sequent) (tree : Tree) (path : List ℕ) (made : Result Rule RuleFault) (x : Outcome) →
+in_memory : (s : State) (name : List ℕ) (q : Sequent) (tree : Tree) (path : List ℕ) (made : Result Rule RuleFault) (x : StepOutcome) →
     Puts s name q tree path made x → made ≢ Err OutOfMemory
 in_memory s name q tree path (Err fault) x a e = let same : fault ≡ OutOfMemory = cc in a.0 same
 in_memory s name q tree path (Ok rule) x a e = cc
 
-abbrev StepsWith : State → List ℕ → List ℕ → ℕ → Hint → Sequent → Tree → Sequent → Outcome → Type 0
+abbrev StepsWith : State → List ℕ → List ℕ → ℕ → Hint → Sequent → Tree → Sequent → StepOutcome → Type 0
 StepsWith s name path kind hint q tree leaf x = (made : Result Rule RuleFault) × Answers kind hint leaf made × Puts s name q tree path made x
 
-steps_with : AnswersAreOne → (s : State) (name path : List ℕ) (kind : ℕ) (hint : Hint) (q : Sequent) (tree : Tree) (leaf : Sequent) (x y : Outcome) →
+steps_with : AnswersAreOne → (s : State) (name path : List ℕ) (kind : ℕ) (hint : Hint) (q : Sequent) (tree : Tree) (leaf : Sequent) (x y : StepOutcome) →
     StepsWith s name path kind hint q tree leaf x → StepsWith s name path kind hint q tree leaf y → x ≡ y
 steps_with rule s name path kind hint q tree leaf x y a b =
     let same = rule kind hint leaf a.0 b.0 (in_memory s name q tree path a.0 x a.2) (in_memory s name q tree path b.0 y b.2) a.1 b.1 in
     puts s name q tree path b.0 x y (subst (λ made. Puts s name q tree path made x) same a.2) b.2
 
-steps_at : AnswersAreOne → (s : State) (name path : List ℕ) (kind : ℕ) (hint : Hint) (q : Sequent) (x y : Outcome) →
+steps_at : AnswersAreOne → (s : State) (name path : List ℕ) (kind : ℕ) (hint : Hint) (q : Sequent) (x y : StepOutcome) →
     StepsAt s name path kind hint q x → StepsAt s name path kind hint q y → x ≡ y
 steps_at rule s name path kind hint q x y =
     unless_one (join _)
     (match_one (leaf_at path (stored_tree s.durable.proofs name) q) (join _)
     (λ leaf. steps_with rule s name path kind hint q (stored_tree s.durable.proofs name) leaf x y))
 
-prunes_at : (s : State) (name path : List ℕ) (q : Sequent) (x y : Outcome) → PrunesAt s name path q x → PrunesAt s name path q y → x ≡ y
+prunes_at : (s : State) (name path : List ℕ) (q : Sequent) (x y : StepOutcome) → PrunesAt s name path q x → PrunesAt s name path q y → x ≡ y
 prunes_at s name path q x y =
     match_one (rule_at path (stored_tree s.durable.proofs name)) (join _) (λ rule. keeps s name q (put path Leaf (stored_tree s.durable.proofs name)) x y)
 
-shows_one : (s : State) (name : List ℕ) (q shown : Sequent) (x y : Outcome) → ShowsOne s name q shown x → ShowsOne s name q shown y → x ≡ y
+shows_one : (s : State) (name : List ℕ) (q shown : Sequent) (x y : StepOutcome) → ShowsOne s name q shown x → ShowsOne s name q shown y → x ≡ y
 shows_one s name q shown x y a b =
     a.2 ∙ ap (λ status. told s (Shown name status shown)) (one_status (get s.durable.proofs name) q a.0 b.0 a.1 b.1) ∙ sym b.2
 
-shows_at : (s : State) (name : List ℕ) (path : Option (List ℕ)) (q : Sequent) (x y : Outcome) → ShowsAt s name path q x → ShowsAt s name path q y → x ≡ y
+shows_at : (s : State) (name : List ℕ) (path : Option (List ℕ)) (q : Sequent) (x y : StepOutcome) → ShowsAt s name path q x → ShowsAt s name path q y → x ≡ y
 shows_at s name None q x y = shows_one s name q q x y
 shows_at s name (Some path) q x y =
     unless_one (join _) (match_one (leaf_at path (stored_tree s.durable.proofs name) q) (join _) (λ leaf. shows_one s name q leaf x y))
 
-shows_tree : (s : State) (name : List ℕ) (q : Sequent) (x y : Outcome) → ShowsTree s name q x → ShowsTree s name q y → x ≡ y
+shows_tree : (s : State) (name : List ℕ) (q : Sequent) (x y : StepOutcome) → ShowsTree s name q x → ShowsTree s name q y → x ≡ y
 shows_tree s name q x y = where_one (join _) (join _)
 
-takes_first : (s : State) (table : List Obligation) (x y : Outcome) → TakesFirst s table x → TakesFirst s table y → x ≡ y
+takes_first : (s : State) (table : List Obligation) (x y : StepOutcome) → TakesFirst s table x → TakesFirst s table y → x ≡ y
 takes_first s table x y (inl a) (inl b) = join _ a.1 b.1
 takes_first s table x y (inl a) (inr b) = absurd (none_cut (IsOpen s) table b.0 b.2 b.1 b.3 a.0 b.5)
 takes_first s table x y (inr a) (inl b) = absurd (none_cut (IsOpen s) table a.0 a.2 a.1 a.3 b.0 a.5)
@@ -242,24 +242,24 @@ takes_first s table x y (inr a) (inr b) =
     let o = first_cut (IsOpen s) a.0 a.2 b.0 b.2 a.1 b.1 (sym a.3 ∙ b.3) a.4 a.5 b.4 b.5 in
     a.6 ∙ ap (taking s) o ∙ sym b.6
 
-tells_not_open : (s : State) (name : List ℕ) (q : Sequent) (x y : Outcome) → TellsNotOpen s name q x → TellsNotOpen s name q y → x ≡ y
+tells_not_open : (s : State) (name : List ℕ) (q : Sequent) (x y : StepOutcome) → TellsNotOpen s name q x → TellsNotOpen s name q y → x ≡ y
 tells_not_open s name q x y a b =
     a.2 ∙ ap (λ status. told s (NotOpen name status)) (one_status (get s.durable.proofs name) q a.0 b.0 a.1 b.1) ∙ sym b.2
 
-takes_named : (s : State) (table : List Obligation) (name : List ℕ) (x y : Outcome) → TakesNamed s table name x → TakesNamed s table name y → x ≡ y
+takes_named : (s : State) (table : List Obligation) (name : List ℕ) (x y : StepOutcome) → TakesNamed s table name x → TakesNamed s table name y → x ≡ y
 takes_named s table name x y =
     on_obligation s table name x y _ _ (λ q. where_one (join _) (tells_not_open s name q x y))
 
 -- FINISHES
 
-abbrev EndsWith : State → Ticket → Option Sequent → Tree → Option Status → Outcome → Type 0
+abbrev EndsWith : State → Ticket → Option Sequent → Tree → Option Status → StepOutcome → Type 0
 EndsWith s k q tree status x =
     Where (CanStore s.durable.proofs k.name q tree)
     (x ≡ entering s (Stored k.name status) (SetProof k.name (by_prover tree)))
     (Where (IsGoodTree tree k.sequent) (x ≡ told s (Stale k.name status)) (x ≡ told (tried_with s k) (Refused k.name status)))
 
 -- the durables are the same first, and with them the statuses
-durable_same : (s : State) (k : Ticket) (q : Option Sequent) (tree : Tree) (a b : Option Status) (x y : Outcome) →
+durable_same : (s : State) (k : Ticket) (q : Option Sequent) (tree : Tree) (a b : Option Status) (x y : StepOutcome) →
     EndsWith s k q tree a x → EndsWith s k q tree b y → (x.new.durable ≡ y.new.durable) × (a ≡ b → x ≡ y)
 durable_same s k q tree a b x y =
     where_one
@@ -268,7 +268,7 @@ durable_same s k q tree a b x y =
     (λ u v. (ap (λ z. z.new.durable) u ∙ sym (ap (λ z. z.new.durable) v), λ e. u ∙ ap (λ status. told s (Stale k.name status)) e ∙ sym v))
     (λ u v. (ap (λ z. z.new.durable) u ∙ sym (ap (λ z. z.new.durable) v), λ e. u ∙ ap (λ status. told (tried_with s k) (Refused k.name status)) e ∙ sym v)))
 
-ends : (s : State) (k : Ticket) (q : Option Sequent) (a : Attempt) (x y : Outcome) → Ends s k q a x → Ends s k q a y → x ≡ y
+ends : (s : State) (k : Ticket) (q : Option Sequent) (a : Attempt) (x y : StepOutcome) → EndsTicket s k q a x → EndsTicket s k q a y → x ≡ y
 ends s k q NoProof x y u v =
     u.2 ∙ ap (λ status. told (tried_with s k) (Noted k.name status)) (one_present_status s.durable.proofs k.name q u.0 v.0 u.1 v.1) ∙ sym v.2
 ends s k q AttemptNoMemory x y u v =
@@ -280,14 +280,14 @@ ends s k q (Found tree) x y u v =
 pub among_cut : (number : ℕ) (out before behind : List Ticket) (k : Ticket) → out ≡ before ++ k ∷ behind → k.number ≡ number → AllByRecursion (λ ticket. ticket.number ≢ number) out → ⊥
 among_cut number out before behind k cut is none = (all_last (λ ticket. ticket.number ≢ number) before (k ∷ behind) (subst (AllByRecursion (λ ticket. ticket.number ≢ number)) cut none)).0 is
 
-abbrev EndsAt : State → List Obligation → Attempt → Outcome → Ticket × List Ticket → Type 0
-EndsAt s table a x z = (q : Option Sequent) × IsPresent table z.0.name q × Ends (record s { out = z.1 }) z.0 q a x
+abbrev EndsAt : State → List Obligation → Attempt → StepOutcome → Ticket × List Ticket → Type 0
+EndsAt s table a x z = (q : Option Sequent) × IsPresent table z.0.name q × EndsTicket (record s { out = z.1 }) z.0 q a x
 
-ends_at : (s : State) (table : List Obligation) (a : Attempt) (x y : Outcome) (z : Ticket × List Ticket) → EndsAt s table a x z → EndsAt s table a y z → x ≡ y
+ends_at : (s : State) (table : List Obligation) (a : Attempt) (x y : StepOutcome) (z : Ticket × List Ticket) → EndsAt s table a x z → EndsAt s table a y z → x ≡ y
 ends_at s table a x y z u v =
-    ends (record s { out = z.1 }) z.0 v.0 a x y (subst (λ q. Ends (record s { out = z.1 }) z.0 q a x) (one_present table z.0.name u.0 v.0 u.1 v.1) u.2) v.2
+    ends (record s { out = z.1 }) z.0 v.0 a x y (subst (λ q. EndsTicket (record s { out = z.1 }) z.0 q a x) (one_present table z.0.name u.0 v.0 u.1 v.1) u.2) v.2
 
-finishes : (s : State) (table : List Obligation) (number : ℕ) (a : Attempt) (x y : Outcome) → IsOrderly s → Finishes s table number a x → Finishes s table number a y → x ≡ y
+finishes : (s : State) (table : List Obligation) (number : ℕ) (a : Attempt) (x y : StepOutcome) → IsOrderly s → Finishes s table number a x → Finishes s table number a y → x ≡ y
 finishes s table number a x y o (inl u) (inl v) = join _ u.1 v.1
 finishes s table number a x y o (inl u) (inr v) = absurd (among_cut number s.out v.0 v.2 v.1 v.3 v.4 u.0)
 finishes s table number a x y o (inr u) (inl v) = absurd (among_cut number s.out u.0 u.2 u.1 u.3 u.4 v.0)
@@ -314,7 +314,7 @@ module _ (laws : Laws) where
   one_warnings : (project : ProjectMap) (t u : List (List ℕ × List ℕ)) → AreWarnings project t → AreWarnings project u → t ≡ u
   one_warnings project t u x y = laws.warnings (entries project) (names_differ project) t u x y
 
-  pub builds : (s : State) (x y : Outcome) → Builds s x → Builds s y → x ≡ y
+  pub builds : (s : State) (x y : StepOutcome) → Builds s x → Builds s y → x ≡ y
   builds s x y (inl u) (inl v) =
       let table = one_table s.durable.texts u.1.0 v.1.0 u.1.1 v.1.1 in
       u.2 ∙ ap (λ n. told s (TableFull n)) (u.1.3 ∙ ap counted_nodes table ∙ sym v.1.3) ∙ sym v.2
@@ -329,7 +329,7 @@ module _ (laws : Laws) where
       let faults = one_faults s.durable.texts u.1 v.1 u.3 v.3 in
       u.4 ∙ (λ i. entering s (Built (len s.durable.texts) (length (faults i)) (length (table i))) BuildEntry) ∙ sym v.4
 
-  tells : (s : State) (table : List Obligation) (question : Question) (x y : Outcome) → Tells s table question x → Tells s table question y → x ≡ y
+  tells : (s : State) (table : List Obligation) (question : Question) (x y : StepOutcome) → Tells s table question x → Tells s table question y → x ≡ y
   tells s table AskStatuses x y u v =
       let same = one_table s.durable.built u.1.0 v.1.0 u.1.1 v.1.1 in
       u.2 ∙ ap (λ shown. told s (Statuses shown)) (one_shown s.durable.proofs v.1.0 u.0 v.0 (subst (λ t. AllZip (Shows s.durable.proofs) t u.0) same u.1.2) v.1.2) ∙ sym v.2
@@ -342,7 +342,7 @@ module _ (laws : Laws) where
   tells s table AskDigest x y u v = join _ u v
   tells s table AskIdle x y u v = where_one (join _) (join _) u v
 
-  beside : (s : State) (table : List Obligation) (event : Event) (x y : Outcome) → IsOrderly s → ComesBeside s table event x → ComesBeside s table event y → x ≡ y
+  beside : (s : State) (table : List Obligation) (event : Event) (x y : StepOutcome) → IsOrderly s → ComesBeside s table event x → ComesBeside s table event y → x ≡ y
   beside s table (Edit name text) x y o u v = edits s name text x y u v
   beside s table (Delete name) x y o u v = deletes s name x y u v
   beside s table Build x y o u v = builds s x y u v
@@ -354,6 +354,6 @@ module _ (laws : Laws) where
   beside s table Purge x y o u v = join _ u v
   beside s table (Ask question) x y o u v = tells s table question x y u v
 
-  pub comes_one : (s : State) (event : Event) (x y : Outcome) → IsOrderly s → Comes s event x → Comes s event y → x ≡ y
+  pub comes_one : (s : State) (event : Event) (x y : StepOutcome) → IsOrderly s → Comes s event x → Comes s event y → x ≡ y
   comes_one s event x y o u v =
       beside s v.0 event x y o (subst (λ t. ComesBeside s t event x) (one_table s.durable.built u.0 v.0 u.1 v.1) u.2) v.2

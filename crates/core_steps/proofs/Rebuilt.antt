@@ -26,22 +26,22 @@ use Rattle.core_steps.specs.declared.events.Question.TheVariants.{Statuses as As
 use Rattle.core_steps.specs.State.{State, entered}
 use Rattle.core_steps.specs.Status.{IsStatus}
 use Rattle.core_steps.specs.Table.{IsTable, IsPresent}
-use Rattle.core_steps.specs.Outcomes.{Outcome}
+use Rattle.core_steps.specs.Outcomes.{StepOutcome}
 use Rattle.core_steps.specs.Proving.{OnObligation, stored_tree, Keeps, Puts, StepsAt, ShowsAt}
-use Rattle.core_steps.specs.Tickets.{IsPresentStatus, Ends, Finishes, by_prover}
+use Rattle.core_steps.specs.Tickets.{IsPresentStatus, EndsTicket, Finishes, by_prover}
 use Rattle.proof_entries.specs.declared.Entry.TheVariants.{SetProof}
 use Rattle.core_steps.specs.Step.{Tells, ComesBeside}
 use Rattle.core_steps.specs.Laws.{TellsRebuilt, IsRebuiltIf, IsRebuiltAs}
 use Rattle.core_steps.proofs.NameMaps.{get_same}
 use Rattle.core_steps.proofs.Sorts.{where_any, unless_any, match_any}
 
-abbrev Right : Outcome → Type 0
+abbrev Right : StepOutcome → Type 0
 Right x = TellsRebuilt x.new.durable x.reply
 
-right : {x : Outcome} (z : Outcome) → Right z → x ≡ z → Right x
+right : {x : StepOutcome} (z : StepOutcome) → Right z → x ≡ z → Right x
 right z r is = subst Right (sym is) r
 
-module _ (s : State) (x : Outcome) (table : List Obligation) (is : IsTable s.durable.built table) where
+module _ (s : State) (x : StepOutcome) (table : List Obligation) (is : IsTable s.durable.built table) where
   shown_as : (name : List ℕ) (q : Sequent) (status : Status) → IsPresent table name (Some q) → IsStatus (get s.durable.proofs name) q status → IsRebuiltAs s.durable name status
   shown_as name q status present st = (table, q, is, present, st)
 
@@ -75,9 +75,9 @@ if_shown : (d : Durable) (table : List Obligation) (name : List ℕ) (q : Option
 if_shown d table name None status is present st = subst (IsRebuiltIf d name) (sym st) (table, is, present)
 if_shown d table name (Some q) status is present st = subst (IsRebuiltIf d name) (sym st.1) (table, q, is, present, st.2)
 
-module _ (s : State) (x : Outcome) (table : List Obligation) (is : IsTable s.durable.built table) where
+module _ (s : State) (x : StepOutcome) (table : List Obligation) (is : IsTable s.durable.built table) where
   ends : (before behind : List Ticket) (k : Ticket) (q : Option Sequent) (a : Attempt) → IsPresent table k.name q →
-      Ends (record s { out = before ++ behind }) k q a x → Right x
+      EndsTicket (record s { out = before ++ behind }) k q a x → Right x
   ends before behind k q NoProof present e = right _ (if_shown s.durable table k.name q e.0 is present e.1) e.2
   ends before behind k q AttemptNoMemory present e = right _ (if_shown s.durable table k.name q e.0 is present e.1) e.2
   ends before behind k q (Found tree) present e =

@@ -10,7 +10,7 @@ use Rattle.proof_entries.specs.declared.Entry.TheVariants.{Put}
 use Rattle.core_steps.specs.Durable.{text_cmp}
 use Rattle.core_steps.specs.declared.durable.Durable.{Durable}
 use Rattle.core_steps.specs.State.{State, entered}
-use Rattle.core_steps.specs.Outcomes.{Outcome}
+use Rattle.core_steps.specs.Outcomes.{StepOutcome}
 use Rattle.core_steps.specs.Editing.{Builds}
 use Rattle.core_steps.proofs.NameMaps.{same_name}
 use Rattle.core_steps.proofs.OneWay.{Laws, builds}
@@ -37,7 +37,7 @@ edited_back d name old text was i = record d { texts = inserted_back d.texts nam
 abbrev built_of : State → State
 built_of s = record s { durable = record s.durable { built = s.durable.texts } }
 
-pub built_once : Laws → (s : State) (x y : Outcome) → Builds s x → Builds x.new y → y.new ≡ x.new
+pub built_once : Laws → (s : State) (x y : StepOutcome) → Builds s x → Builds x.new y → y.new ≡ x.new
 built_once laws s x y (inl a) b =
     let same : x.new ≡ s = ap (λ z. z.new) a.2 in
     ap (λ z. z.new) (sym (builds laws s x y (inl a) (subst (λ t. Builds t y) same b)))

@@ -22,15 +22,15 @@ use Rattle.core_steps.specs.declared.events.Question.{Question}
 use Rattle.core_steps.specs.declared.events.Question.TheVariants.{Statuses as AskStatuses, Faults as AskFaults, Show, TreeOf, Digest as AskDigest, Idle as AskIdle}
 use Rattle.core_steps.specs.declared.events.Reply.{Reply}
 use Rattle.core_steps.specs.State.{State, entered_if}
-use Rattle.core_steps.specs.Outcomes.{Outcome, told, entering, Where, Unless}
+use Rattle.core_steps.specs.Outcomes.{StepOutcome, told, entering, Where, Unless}
 use Rattle.core_steps.specs.Editing.{Edits, Builds}
 use Rattle.core_steps.specs.Proving.{OnObligation, stored_tree, Keeps, Puts, StepsAt, PrunesAt, ShowsOne, ShowsAt, ShowsTree}
-use Rattle.core_steps.specs.Tickets.{TakesFirst, TakesNamed, taking, ticket_for, Ends, Finishes}
+use Rattle.core_steps.specs.Tickets.{TakesFirst, TakesNamed, taking, ticket_for, EndsTicket, Finishes}
 use Rattle.core_steps.specs.Step.{Tells, ComesBeside, Comes}
 use Rattle.core_steps.specs.Laws.{AreApart, IsOrderly}
 use Rattle.core_steps.proofs.Alls.{all_both, all_first, all_last, all_so}
 
-pub data Sort (s : State) (x : Outcome) : Type 0 where
+pub data Sort (s : State) (x : StepOutcome) : Type 0 where
   tells : (reply : Reply) → x ≡ told s reply → Sort s x
   enters : (reply : Reply) (entry : Entry) → x ≡ entering s reply entry → Sort s x
   takes : (o : Obligation) → x ≡ taking s o → Sort s x
@@ -52,7 +52,7 @@ pub match_any : {X C P : Type 0} {Q : X → Type 0} (found : Option X) → (P �
 match_any None f g x = f x
 match_any (Some v) f g x = g v x
 
-module _ (s : State) (x : Outcome) where
+module _ (s : State) (x : StepOutcome) where
   on_obligation : (table : List Obligation) (name : List ℕ) (X : Sequent → Type 0) → ((q : Sequent) → X q → Sort s x) → OnObligation s table name X x → Sort s x
   on_obligation table name X f (inl a) = tells _ a.1
   on_obligation table name X f (inr a) = f a.0 a.2
@@ -80,7 +80,7 @@ module _ (s : State) (x : Outcome) where
       unless_any (tells _) (match_any (leaf_at path (stored_tree s.durable.proofs name) q) (tells _) (λ leaf b. tells _ b.2)) a
 
   ends : (before : List Ticket) (k : Ticket) (behind : List Ticket) → s.out ≡ before ++ k ∷ behind → (q : Option Sequent) (a : Attempt) →
-      Ends (record s { out = before ++ behind }) k q a x → Sort s x
+      EndsTicket (record s { out = before ++ behind }) k q a x → Sort s x
   ends before k behind cut q NoProof e = hands_in before k behind cut (insert s.tried k.name k.sequent) _ e.2
   ends before k behind cut q AttemptNoMemory e = hands_in before k behind cut (insert s.tried k.name k.sequent) _ e.2
   ends before k behind cut q (Found tree) e =
@@ -145,7 +145,7 @@ orderly_taking s o ordered = record {
 }
 
 -- each sort of outcome keeps the tickets in order
-pub orderly_after : (s : State) (x : Outcome) → Sort s x → IsOrderly s → IsOrderly x.new
+pub orderly_after : (s : State) (x : StepOutcome) → Sort s x → IsOrderly s → IsOrderly x.new
 orderly_after s x (tells reply is) o = subst (λ z. IsOrderly z.new) (sym is) o
 orderly_after s x (enters reply entry is) o = subst (λ z. IsOrderly z.new) (sym is) (record { apart = o.apart; below = o.below })
 orderly_after s x (takes ob is) o = subst (λ z. IsOrderly z.new) (sym is) (orderly_taking s ob o)
@@ -155,7 +155,7 @@ orderly_after s x (stores before k behind cut reply entry is) o =
     subst (λ z. IsOrderly z.new) (sym is) (record { apart = left.apart; below = left.below })
 
 -- the entry makes the new durable
-pub entered_after : (s : State) (x : Outcome) → Sort s x → x.new.durable ≡ entered_if s.durable x.entry
+pub entered_after : (s : State) (x : StepOutcome) → Sort s x → x.new.durable ≡ entered_if s.durable x.entry
 entered_after s x (tells reply is) = subst (λ z. z.new.durable ≡ entered_if s.durable z.entry) (sym is) refl
 entered_after s x (enters reply entry is) = subst (λ z. z.new.durable ≡ entered_if s.durable z.entry) (sym is) refl
 entered_after s x (takes o is) = subst (λ z. z.new.durable ≡ entered_if s.durable z.entry) (sym is) refl

@@ -9,16 +9,16 @@ use Rattle.proof_entries.specs.declared.Entry.TheVariants.{Put, Drop, Build as B
 use Rattle.core_steps.specs.declared.events.Reply.TheVariants.{BadName, TextTooLong, ProjectFull, Edited, NoSuch, Deleted, Built, TableFull, Purged}
 use Rattle.core_steps.specs.Durable.{text_cmp, ProjectMap}
 use Rattle.core_steps.specs.Faults.{AreFaults}
-use Rattle.core_steps.specs.Table.{IsTableWithin, IsTooLarge, is_named}
+use Rattle.core_steps.specs.Table.{IsTableWithin, IsTooLarge, is_obligation}
 use Rattle.core_steps.specs.State.{State}
-use Rattle.core_steps.specs.Outcomes.{Outcome, told, entering, Where, Unless}
+use Rattle.core_steps.specs.Outcomes.{StepOutcome, told, entering, Where, Unless}
 
 -- the project has 256 components, and none of this name
 abbrev pub IsFullFor : ProjectMap → List ℕ → Type 0
 IsFullFor texts name = (contains_key texts name ≡ false) × (256 ≤ len texts)
 
 -- an edit sets the text, unless the name is primed, the text too long, or the project full
-abbrev pub Edits : State → List ℕ → List ℕ → Outcome → Type 0
+abbrev pub Edits : State → List ℕ → List ℕ → StepOutcome → Type 0
 Edits s name text x =
     Unless (is_identifier name ≡ true) (x ≡ told s BadName)
     (Where (65536 < length text) (x ≡ told s TextTooLong)
@@ -26,13 +26,13 @@ Edits s name text x =
     (x ≡ entering s (Edited name) (Put name text))))
 
 -- a delete drops the text, unless there is none
-abbrev pub Deletes : State → List ℕ → Outcome → Type 0
+abbrev pub Deletes : State → List ℕ → StepOutcome → Type 0
 Deletes s name x =
     Unless (contains_key s.durable.texts name ≡ true) (x ≡ told s (NoSuch name))
     (x ≡ entering s (Deleted name) (Drop name))
 
 -- the texts are built, unless their table is too large
-abbrev pub Builds : State → Outcome → Type 0
+abbrev pub Builds : State → StepOutcome → Type 0
 Builds s x =
     ((n : ℕ) × IsTooLarge s.durable.texts n × (x ≡ told s (TableFull n)))
     ⊎ ((table : List Obligation) × (faults : List FaultLine) × IsTableWithin s.durable.texts table × AreFaults s.durable.texts faults
@@ -40,8 +40,8 @@ Builds s x =
 
 -- the names of the stored proofs that the table lacks, in byte order
 abbrev pub lacking : FinMap text_cmp Proof → List Obligation → List (List ℕ)
-lacking proofs table = filter (λ name. not (is_named table name)) (keys proofs)
+lacking proofs table = filter (λ name. not (is_obligation table name)) (keys proofs)
 
 -- a purge removes the proofs that the table lacks, also where there are none
-abbrev pub Purges : State → List Obligation → Outcome → Type 0
+abbrev pub Purges : State → List Obligation → StepOutcome → Type 0
 Purges s table x = x ≡ entering s (Purged (length (lacking s.durable.proofs table))) (Purge (lacking s.durable.proofs table))

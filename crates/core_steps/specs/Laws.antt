@@ -22,7 +22,7 @@ use Rattle.core_steps.specs.declared.events.Reply.TheVariants.{Now, NotOpen, Not
 use Rattle.core_steps.specs.Status.{IsRebuilt, IsStatus}
 use Rattle.core_steps.specs.Table.{IsTable, IsPresent}
 use Rattle.core_steps.specs.State.{State, opened, entered, entered_if}
-use Rattle.core_steps.specs.Outcomes.{Outcome}
+use Rattle.core_steps.specs.Outcomes.{StepOutcome}
 use Rattle.core_steps.specs.Tickets.{CanStore, by_prover}
 use Rattle.core_steps.specs.Step.{Comes, Does}
 
@@ -109,7 +109,7 @@ DecidesSequents = (p q : Sequent) → (p ≡ q) ⊎ (p ≢ q)
 
 -- The proof is stored where it is good for the present sequent, whose status is unattempted or broken, and else it is
 -- stale.
-abbrev pub IsStoredOrStale : State → Ticket → Option Sequent → Tree → Outcome → Type 0
+abbrev pub IsStoredOrStale : State → Ticket → Option Sequent → Tree → StepOutcome → Type 0
 IsStoredOrStale s ticket sequent tree x =
     (CanStore s.durable.proofs ticket.name sequent tree →
     (x.reply ≡ Stored ticket.name (Some Discharged)) × (get x.new.durable.proofs ticket.name ≡ Some (by_prover tree)))
@@ -119,7 +119,7 @@ IsStoredOrStale s ticket sequent tree x =
 -- what comes of the finish of a ticket that is out, with a proof that is good for the ticket's own sequent
 abbrev pub StoresLate : Type 0
 StoresLate =
-    (s : State) (before : List Ticket) (ticket : Ticket) (behind : List Ticket) (tree : Tree) (x : Outcome) →
+    (s : State) (before : List Ticket) (ticket : Ticket) (behind : List Ticket) (tree : Tree) (x : StepOutcome) →
     IsOrderly s → s.out ≡ before ++ ticket ∷ behind → IsGoodTree tree ticket.sequent → Comes s (Finish ticket.number (Found tree)) x →
     (table : List Obligation) (sequent : Option Sequent) → IsTable s.durable.built table → IsPresent table ticket.name sequent →
     IsStoredOrStale s ticket sequent tree x

@@ -6,17 +6,17 @@ use Rattle.proof_entries.specs.declared.Entry.{Entry}
 use Rattle.core_steps.specs.State.{State, entered}
 use Rattle.core_steps.specs.declared.events.Reply.{Reply}
 
-pub record Outcome : Type 0 where
+pub record StepOutcome : Type 0 where
   pub reply : Reply
   pub entry : Option Entry
   pub new : State
 
 -- the reply is given, and nothing changes
-abbrev pub told : State → Reply → Outcome
+abbrev pub told : State → Reply → StepOutcome
 told s reply = record { reply = reply; entry = None; new = s }
 
 -- the reply is given, and the entry is made
-abbrev pub entering : State → Reply → Entry → Outcome
+abbrev pub entering : State → Reply → Entry → StepOutcome
 entering s reply entry = record { reply = reply; entry = Some entry; new = record s { durable = entered s.durable entry } }
 
 -- where the test holds the one, and else the other

@@ -28,10 +28,10 @@ use Rattle.core_steps.specs.declared.events.Reply.TheVariants.{NoObligation, Bro
 use Rattle.core_steps.specs.Status.{IsStatus, IsTreeStatus}
 use Rattle.core_steps.specs.Table.{IsPresent}
 use Rattle.core_steps.specs.State.{State}
-use Rattle.core_steps.specs.Outcomes.{Outcome, told, entering, Where, Unless}
+use Rattle.core_steps.specs.Outcomes.{StepOutcome, told, entering, Where, Unless}
 
 -- what holds of the present sequent of the name, or it is told that there is no such obligation
-abbrev pub OnObligation : State → List Obligation → List ℕ → (Sequent → Type 0) → Outcome → Type 0
+abbrev pub OnObligation : State → List Obligation → List ℕ → (Sequent → Type 0) → StepOutcome → Type 0
 OnObligation s table name X x =
     (IsPresent table name None × (x ≡ told s (NoObligation name)))
     ⊎ ((sequent : Sequent) × IsPresent table name (Some sequent) × X sequent)
@@ -45,46 +45,46 @@ abbrev pub stored_tree : FinMap text_cmp Proof → List ℕ → Tree
 stored_tree proofs name = tree_in (get proofs name)
 
 -- the user's tree is stored, and its status is told
-abbrev pub Keeps : State → List ℕ → Sequent → Tree → Outcome → Type 0
+abbrev pub Keeps : State → List ℕ → Sequent → Tree → StepOutcome → Type 0
 Keeps s name sequent tree x =
     (status : Status) × IsTreeStatus tree sequent status
     × (x ≡ entering s (Now name status) (SetProof name (record { tree = tree; origin = User })))
 
 -- the rule is put at the leaf, unless none was made, or the tree would have more than 2,048 nodes
-abbrev pub Puts : State → List ℕ → Sequent → Tree → List ℕ → Result Rule RuleFault → Outcome → Type 0
+abbrev pub Puts : State → List ℕ → Sequent → Tree → List ℕ → Result Rule RuleFault → StepOutcome → Type 0
 Puts s name sequent tree path (Err fault) x = (fault ≢ OutOfMemory) × (x ≡ told s (RuleReply fault))
 Puts s name sequent tree path (Ok rule) x =
     Where (2048 < node_count (grown rule path tree)) (x ≡ told s TreeFull) (Keeps s name sequent (grown rule path tree) x)
 
 -- the rule that the hint names for the sequent at the leaf is put there, unless none is made
-abbrev pub MakesAt : State → List ℕ → List ℕ → ℕ → Hint → Sequent → Tree → Sequent → Outcome → Type 0
+abbrev pub MakesAt : State → List ℕ → List ℕ → ℕ → Hint → Sequent → Tree → Sequent → StepOutcome → Type 0
 MakesAt s name path kind hint sequent tree leaf x =
     (made : Result Rule RuleFault) × Answers kind hint leaf made × Puts s name sequent tree path made x
 
 -- a step at the leaf of the path, unless there is none
-abbrev pub StepsIn : State → List ℕ → List ℕ → ℕ → Hint → Sequent → Tree → Outcome → Type 0
+abbrev pub StepsIn : State → List ℕ → List ℕ → ℕ → Hint → Sequent → Tree → StepOutcome → Type 0
 StepsIn s name path kind hint sequent tree x =
     MatchOption (leaf_at path tree sequent) (x ≡ told s NoLeaf) (λ leaf. MakesAt s name path kind hint sequent tree leaf x)
 
 -- a step in the stored tree, unless it is broken
-abbrev pub StepsAt : State → List ℕ → List ℕ → ℕ → Hint → Sequent → Outcome → Type 0
+abbrev pub StepsAt : State → List ℕ → List ℕ → ℕ → Hint → Sequent → StepOutcome → Type 0
 StepsAt s name path kind hint sequent x =
     let tree = stored_tree s.durable.proofs name in
     Unless (Applies tree sequent) (x ≡ told s Broken) (StepsIn s name path kind hint sequent tree x)
 
 -- the rule at the path gives way to a leaf, unless none stands there
-abbrev pub PrunesAt : State → List ℕ → List ℕ → Sequent → Outcome → Type 0
+abbrev pub PrunesAt : State → List ℕ → List ℕ → Sequent → StepOutcome → Type 0
 PrunesAt s name path sequent x =
     let tree = stored_tree s.durable.proofs name in
     MatchOption (rule_at path tree) (x ≡ told s NoNode) (λ rule. Keeps s name sequent (put path Leaf tree) x)
 
 -- the status is told with the sequent
-abbrev pub ShowsOne : State → List ℕ → Sequent → Sequent → Outcome → Type 0
+abbrev pub ShowsOne : State → List ℕ → Sequent → Sequent → StepOutcome → Type 0
 ShowsOne s name sequent shown x =
     (status : Status) × IsStatus (get s.durable.proofs name) sequent status × (x ≡ told s (Shown name status shown))
 
 -- the sequent of the obligation, or that at a leaf of its tree
-abbrev pub ShowsAt : State → List ℕ → Option (List ℕ) → Sequent → Outcome → Type 0
+abbrev pub ShowsAt : State → List ℕ → Option (List ℕ) → Sequent → StepOutcome → Type 0
 ShowsAt s name None sequent x = ShowsOne s name sequent sequent x
 ShowsAt s name (Some path) sequent x =
     Unless (Applies (stored_tree s.durable.proofs name) sequent) (x ≡ told s NoLeaf)
@@ -112,7 +112,7 @@ abbrev pub node_lines : Tree → List ℕ → Option Formula → List NodeLine
 node_lines = fold-Tree (List ℕ → Option Formula → List NodeLine) lines_step
 
 -- the nodes of the stored tree, whose leaves have goals where it applies
-abbrev pub ShowsTree : State → List ℕ → Sequent → Outcome → Type 0
+abbrev pub ShowsTree : State → List ℕ → Sequent → StepOutcome → Type 0
 ShowsTree s name sequent x =
     let tree = stored_tree s.durable.proofs name in
     Where (Applies tree sequent) (x ≡ told s (Nodes (node_lines tree [] (Some sequent.goal)))) (x ≡ told s (Nodes (node_lines tree [] None)))

@@ -14,13 +14,13 @@ pub record Exchange : Type 0 where
   pub reply : Reply
   pub entry : Option Entry
 
-abbrev pub Step : State → Exchange → State → Type 0
-Step old x new = Does old x.event x.reply x.entry new
+abbrev pub IsStepOf : State → Exchange → State → Type 0
+IsStepOf old x new = Does old x.event x.reply x.entry new
 
 -- these exchanges lead from the one state to the other
-abbrev pub Run : State → List Exchange → State → Type 0
-Run old [] new = new ≡ old
-Run old (x ∷ exchanges) new = (mid : State) × Step old x mid × Run mid exchanges new
+abbrev pub Runs : State → List Exchange → State → Type 0
+Runs old [] new = new ≡ old
+Runs old (x ∷ exchanges) new = (mid : State) × IsStepOf old x mid × Runs mid exchanges new
 
 -- one chair's history of these exchanges
 abbrev pub history_of : ℕ → List Exchange → List (ℕ × Event)

@@ -17,13 +17,13 @@ use Rattle.core_steps.specs.Table.{IsTable}
 use Rattle.core_steps.specs.Status.{IsRebuilt}
 use Rattle.core_steps.specs.State.{State}
 use Rattle.core_steps.specs.StateDigest.{state_digest}
-use Rattle.core_steps.specs.Outcomes.{Outcome, told, Where}
+use Rattle.core_steps.specs.Outcomes.{StepOutcome, told, Where}
 use Rattle.core_steps.specs.Editing.{Edits, Deletes, Builds, Purges}
 use Rattle.core_steps.specs.Proving.{OnObligation, StepsAt, PrunesAt, ShowsAt, ShowsTree}
 use Rattle.core_steps.specs.Tickets.{TakesFirst, TakesNamed, IsIdle, Finishes}
 
 -- what comes of a question, beside the table of the built texts: nothing changes
-abbrev pub Tells : State → List Obligation → Question → Outcome → Type 0
+abbrev pub Tells : State → List Obligation → Question → StepOutcome → Type 0
 Tells s table AskStatuses x = (shown : List (List ℕ × Status × Option Origin)) × IsRebuilt s.durable shown × (x ≡ told s (Statuses shown))
 Tells s table AskFaults x =
     (faults : List FaultLine) × (warnings : List (List ℕ × List ℕ)) × AreFaults s.durable.built faults × AreWarnings s.durable.built warnings
@@ -34,7 +34,7 @@ Tells s table AskDigest x = x ≡ told s (Digest (state_digest s.durable))
 Tells s table AskIdle x = Where (IsIdle s table) (x ≡ told s (Idle true)) (x ≡ told s (Idle false))
 
 -- what comes of an event, beside the table of the built texts
-abbrev pub ComesBeside : State → List Obligation → Event → Outcome → Type 0
+abbrev pub ComesBeside : State → List Obligation → Event → StepOutcome → Type 0
 ComesBeside s table (Edit name text) x = Edits s name text x
 ComesBeside s table (Delete name) x = Deletes s name x
 ComesBeside s table Build x = Builds s x
@@ -47,7 +47,7 @@ ComesBeside s table Purge x = Purges s table x
 ComesBeside s table (Ask question) x = Tells s table question x
 
 -- what comes of an event
-abbrev pub Comes : State → Event → Outcome → Type 0
+abbrev pub Comes : State → Event → StepOutcome → Type 0
 Comes s event x = (table : List Obligation) × IsTable s.durable.built table × ComesBeside s table event x
 
 -- the event is answered by this reply, adds this entry, if any, and leaves this state

@@ -28,5 +28,5 @@ IsPresent table name (Some sequent) =
     × AllByRecursion (λ o. o.name ≢ name) before
 
 -- whether the table has an obligation of this name
-abbrev pub is_named : List Obligation → List ℕ → Bool
-is_named table name = list_any (λ o. bytes_eq o.name name) table
+abbrev pub is_obligation : List Obligation → List ℕ → Bool
+is_obligation table name = list_any (λ o. bytes_eq o.name name) table

@@ -18,7 +18,7 @@ use Rattle.core_steps.specs.declared.events.Reply.TheVariants.{Nothing, Taken, N
 use Rattle.core_steps.specs.Table.{IsPresent}
 use Rattle.core_steps.specs.Status.{IsStatus, IsUnsettledBy}
 use Rattle.core_steps.specs.State.{State, entered}
-use Rattle.core_steps.specs.Outcomes.{Outcome, told, entering, Where}
+use Rattle.core_steps.specs.Outcomes.{StepOutcome, told, entering, Where}
 use Rattle.core_steps.specs.Proving.{OnObligation}
 
 -- TAKE
@@ -41,7 +41,7 @@ abbrev pub ticket_for : ℕ → Obligation → Ticket
 ticket_for number o = record { number = number; name = o.name; sequent = o.sequent }
 
 -- a ticket for the obligation goes out
-abbrev pub taking : State → Obligation → Outcome
+abbrev pub taking : State → Obligation → StepOutcome
 taking s o = record {
   reply = Taken (ticket_for s.next o);
   entry = None;
@@ -49,7 +49,7 @@ taking s o = record {
 }
 
 -- the first open obligation is taken, or there is none
-abbrev pub TakesFirst : State → List Obligation → Outcome → Type 0
+abbrev pub TakesFirst : State → List Obligation → StepOutcome → Type 0
 TakesFirst s table x =
     (AllByRecursion (λ o. IsOpen s o → ⊥) table × (x ≡ told s Nothing))
     ⊎ ((before : List Obligation) × (o : Obligation) × (behind : List Obligation) × (table ≡ before ++ o ∷ behind)
@@ -60,11 +60,11 @@ abbrev pub CanTakeNamed : State → Obligation → Type 0
 CanTakeNamed s o = IsUnsettledBy s.durable.proofs o × AllByRecursion (λ ticket. IsFor o ticket → ⊥) s.out
 
 -- it is told that the obligation isn't open, with its status
-abbrev pub TellsNotOpen : State → List ℕ → Sequent → Outcome → Type 0
+abbrev pub TellsNotOpen : State → List ℕ → Sequent → StepOutcome → Type 0
 TellsNotOpen s name sequent x = (status : Status) × IsStatus (get s.durable.proofs name) sequent status × (x ≡ told s (NotOpen name status))
 
 -- the obligation of this name is taken, also where it was tried last
-abbrev pub TakesNamed : State → List Obligation → List ℕ → Outcome → Type 0
+abbrev pub TakesNamed : State → List Obligation → List ℕ → StepOutcome → Type 0
 TakesNamed s table name x =
     OnObligation s table name (λ sequent.
     let o : Obligation = record { name = name; sequent = sequent } in
@@ -95,22 +95,22 @@ by_prover tree = record { tree = tree; origin = Prover }
 
 -- What comes of a ticket that was taken in, by the attempt: a good proof is stored, and a sequent for which none came
 -- is tried.
-abbrev pub Ends : State → Ticket → Option Sequent → Attempt → Outcome → Type 0
-Ends s ticket sequent NoProof x =
+abbrev pub EndsTicket : State → Ticket → Option Sequent → Attempt → StepOutcome → Type 0
+EndsTicket s ticket sequent NoProof x =
     (status : Option Status) × IsPresentStatus s.durable.proofs ticket.name sequent status
     × (x ≡ told (tried_with s ticket) (Noted ticket.name status))
-Ends s ticket sequent AttemptNoMemory x =
+EndsTicket s ticket sequent AttemptNoMemory x =
     (status : Option Status) × IsPresentStatus s.durable.proofs ticket.name sequent status
     × (x ≡ told (tried_with s ticket) (NoMemory ticket.name status))
-Ends s ticket sequent (Found tree) x =
+EndsTicket s ticket sequent (Found tree) x =
     (status : Option Status) × IsPresentStatus x.new.durable.proofs ticket.name sequent status
     × Where (CanStore s.durable.proofs ticket.name sequent tree)
     (x ≡ entering s (Stored ticket.name status) (SetProof ticket.name (by_prover tree)))
     (Where (IsGoodTree tree ticket.sequent) (x ≡ told s (Stale ticket.name status)) (x ≡ told (tried_with s ticket) (Refused ticket.name status)))
 
 -- a finish takes the ticket of this number in, if it is out
-abbrev pub Finishes : State → List Obligation → ℕ → Attempt → Outcome → Type 0
+abbrev pub Finishes : State → List Obligation → ℕ → Attempt → StepOutcome → Type 0
 Finishes s table number attempt x =
     (AllByRecursion (λ ticket. ticket.number ≢ number) s.out × (x ≡ told s (NoTicket number)))
     ⊎ ((before : List Ticket) × (ticket : Ticket) × (behind : List Ticket) × (s.out ≡ before ++ ticket ∷ behind) × (ticket.number ≡ number)
-    × ((sequent : Option Sequent) × IsPresent table ticket.name sequent × Ends (record s { out = before ++ behind }) ticket sequent attempt x))
+    × ((sequent : Option Sequent) × IsPresent table ticket.name sequent × EndsTicket (record s { out = before ++ behind }) ticket sequent attempt x))

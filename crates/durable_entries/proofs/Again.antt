@@ -13,7 +13,7 @@ use Rattle.proof_entries.specs.declared.Proof.{Proof}
 use Rattle.core_steps.specs.Durable.{text_cmp, ProjectMap}
 use Rattle.core_steps.specs.declared.durable.Durable.{Durable}
 use Rattle.core_steps.specs.State.{entered, after, no_texts}
-use Rattle.core_steps.specs.StateEntries.{change_at, build_of, with_names, names_of, state_entries}
+use Rattle.core_steps.specs.StateEntries.{entries_for_change, build_of, with_names_of, names_of_both, state_entries}
 use Rattle.durable_entries.proofs.Maps.{with_all, exact, itself, same_or_not, NotIn, here, there, all_again, none_in}
 
 -- the texts after a name's change
@@ -68,7 +68,7 @@ built_if : (es : List (List ℕ × List ℕ)) (b : ProjectMap) → with_all empt
 built_if [] b is = ap (bare b) is
 built_if (e ∷ es) b is = refl
 
-one : (d : Durable) (a t : Option (List ℕ)) (name : List ℕ) → all d (change_at a t name) ≡ record d { texts = step a t name d.texts }
+one : (d : Durable) (a t : Option (List ℕ)) (name : List ℕ) → all d (entries_for_change a t name) ≡ record d { texts = step a t name d.texts }
 one d None None name = refl
 one d (Some a) None name = refl
 one d None (Some t) name = refl
@@ -80,7 +80,7 @@ one d (Some a) (Some t) name = elim (bytes_eq a t) as (λ b. all d (cond b [] (P
 abbrev blanks : List (List ℕ × List ℕ) → List (List ℕ × List ℕ)
 blanks es = map (λ e. (e.0, [])) es
 
-names_kept : (m : ProjectMap) (es : List (List ℕ × List ℕ)) (q : List ℕ) → get (with_names m es) q ≡ None → (get m q ≡ None) × (find text_cmp q es ≡ None)
+names_kept : (m : ProjectMap) (es : List (List ℕ × List ℕ)) (q : List ℕ) → get (with_names_of m es) q ≡ None → (get m q ≡ None) × (find text_cmp q es ≡ None)
 names_kept m [] q none = (none, refl)
 names_kept m (e ∷ es) q none =
     let before = names_kept (insert m e.0 []) es q none in
@@ -92,12 +92,12 @@ module _ (built texts : ProjectMap) where
   walk m [] = m
   walk m (name ∷ names) = walk (step (get built name) (get texts name) name m) names
 
-  walked : (d : Durable) (names : List (List ℕ)) → all d (flat_map (λ name. change_at (get built name) (get texts name) name) names) ≡ record d { texts = walk d.texts names }
+  walked : (d : Durable) (names : List (List ℕ)) → all d (flat_map (λ name. entries_for_change (get built name) (get texts name) name) names) ≡ record d { texts = walk d.texts names }
   walked d [] = refl
   walked d (name ∷ names) =
-      ap (all d) (flat_map-cons (λ name. change_at (get built name) (get texts name) name) name names)
-      ∙ in_order d (change_at (get built name) (get texts name) name) (flat_map (λ name. change_at (get built name) (get texts name) name) names)
-      ∙ ap (λ e. all e (flat_map (λ name. change_at (get built name) (get texts name) name) names)) (one d (get built name) (get texts name) name)
+      ap (all d) (flat_map-cons (λ name. entries_for_change (get built name) (get texts name) name) name names)
+      ∙ in_order d (entries_for_change (get built name) (get texts name) name) (flat_map (λ name. entries_for_change (get built name) (get texts name) name) names)
+      ∙ ap (λ e. all e (flat_map (λ name. entries_for_change (get built name) (get texts name) name) names)) (one d (get built name) (get texts name) name)
       ∙ walked (record d { texts = step (get built name) (get texts name) name d.texts }) names
 
   -- each name has its built text or its present one
@@ -121,30 +121,30 @@ module _ (built texts : ProjectMap) where
       (walk_gets names (step (get built name) (get texts name) name m) (mixed_on name m mixed) q)
 
   abbrev both : ProjectMap
-  both = with_names (with_names empty (entries built)) (entries texts)
+  both = with_names_of (with_names_of empty (entries built)) (entries texts)
 
   -- a name of neither project
   of_neither : (q : List ℕ) → get both q ≡ None → get built q ≡ get texts q
   of_neither q none =
-      let later = names_kept (with_names empty (entries built)) (entries texts) q none in
+      let later = names_kept (with_names_of empty (entries built)) (entries texts) q none in
       let first = names_kept empty (entries built) q later.0 in
       get-entries built q ∙ first.1 ∙ sym (get-entries texts q ∙ later.1)
 
-  walk_ends : walk built (names_of built texts) ≡ texts
-  walk_ends = same_map nat_list_cmp_total exact (walk built (names_of built texts)) texts (λ q. ⊎_elim
+  walk_ends : walk built (names_of_both built texts) ≡ texts
+  walk_ends = same_map nat_list_cmp_total exact (walk built (names_of_both built texts)) texts (λ q. ⊎_elim
       (λ is. is)
       (λ w. w.0 ∙ of_neither q (get-entries both q ∙ none_in q (entries both) w.1))
-      (walk_gets (names_of built texts) built (λ q. inl refl) q))
+      (walk_gets (names_of_both built texts) built (λ q. inl refl) q))
 
 pub state_again : (d : Durable) → after no_texts (map Some (state_entries d)) ≡ d
 state_again d =
     let A : List Entry = map (λ e. Put e.0 e.1) (entries d.built) in
     let B : List Entry = build_of (entries d.built) in
-    let C : List Entry = flat_map (λ name. change_at (get d.built name) (get d.texts name) name) (names_of d.built d.texts) in
+    let C : List Entry = flat_map (λ name. entries_for_change (get d.built name) (get d.texts name) name) (names_of_both d.built d.texts) in
     let D : List Entry = map (λ e. SetProof e.0 e.1) (entries d.proofs) in
     let a : all no_texts A ≡ bare d.built empty = puts no_texts (entries d.built) ∙ ap (λ (m : ProjectMap). bare m empty) (all_again d.built) in
     let b : all (bare d.built empty) B ≡ bare d.built d.built = built_if (entries d.built) d.built (all_again d.built) in
-    let c : all (bare d.built d.built) C ≡ bare d.texts d.built = walked d.built d.texts (bare d.built d.built) (names_of d.built d.texts) ∙ ap (λ (m : ProjectMap). bare m d.built) (walk_ends d.built d.texts) in
+    let c : all (bare d.built d.built) C ≡ bare d.texts d.built = walked d.built d.texts (bare d.built d.built) (names_of_both d.built d.texts) ∙ ap (λ (m : ProjectMap). bare m d.built) (walk_ends d.built d.texts) in
     let e : all (bare d.texts d.built) D ≡ d = sets (bare d.texts d.built) (entries d.proofs) ∙ ap (λ (m : FinMap text_cmp Proof). let e : Durable = record { texts = d.texts; built = d.built; proofs = m } in e) (all_again d.proofs) in
     as_all no_texts (state_entries d) ∙ in_order no_texts A (B ++ (C ++ D)) ∙ ap (λ s. all s (B ++ (C ++ D))) a
     ∙ in_order (bare d.built empty) B (C ++ D) ∙ ap (λ s. all s (C ++ D)) b

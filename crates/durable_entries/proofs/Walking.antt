@@ -10,9 +10,9 @@ use Rattle.std.specs.BTreeMap.{is_at}
 use Rattle.std.specs.Ordering.{eq_by_cmp}
 use Rattle.std.specs.FinMap.{insert, find}
 use Rattle.core_steps.specs.Durable.{text_cmp, ProjectMap}
-use Rattle.core_steps.specs.StateEntries.{with_names}
+use Rattle.core_steps.specs.StateEntries.{with_names_of}
 
-pub with_one_more : (m : ProjectMap) (es : List (List ℕ × List ℕ)) (e : List ℕ × List ℕ) → with_names m (es ++ e ∷ []) ≡ insert (with_names m es) e.0 []
+pub with_one_more : (m : ProjectMap) (es : List (List ℕ × List ℕ)) (e : List ℕ × List ℕ) → with_names_of m (es ++ e ∷ []) ≡ insert (with_names_of m es) e.0 []
 with_one_more m [] e = refl
 with_one_more m (d ∷ es) e = with_one_more (insert m d.0 []) es e
 

@@ -3,7 +3,7 @@ ghost use Rattle.std.specs.Prelude.{◌≡◌, ◌++◌, [], IfOk, OnOk};
 ghost use Rattle.std.specs.List.{flat_map};
 ghost use Rattle.std.specs.Option.{option_copied};
 ghost use Rattle.std.specs.FinMap as finite;
-ghost use Rattle.core_steps.specs.StateEntries.{change_at, with_names, names_of};
+ghost use Rattle.core_steps.specs.StateEntries.{entries_for_change, with_names_of, names_of_both};
 
 use core_steps::{Entry, Project, Texts};
 use formula_core::{Name, OutOfMemory, Text};
@@ -16,7 +16,7 @@ pub fn add_changes(
     texts: &Texts,
     listed: &mut Vec<Entry>,
 ) -> Result<(), OutOfMemory>
-    ensures { OnOk result (listed.new.items ≡ listed.old.items ++ flat_map (λ name. change_at (finite.get built.now name) (finite.get texts.now name) name) (names_of built.now texts.now)) }
+    ensures { OnOk result (listed.new.items ≡ listed.old.items ++ flat_map (λ name. entries_for_change (finite.get built.now name) (finite.get texts.now name) name) (names_of_both built.now texts.now)) }
 {
     let names = names_of(alloc, built, texts)?;
     add_each(alloc, built, texts, &names, listed)
@@ -30,7 +30,7 @@ fn add_each(
     names: &Project,
     listed: &mut Vec<Entry>,
 ) -> Result<(), OutOfMemory>
-    ensures { OnOk result (listed.new.items ≡ listed.old.items ++ flat_map (λ name. change_at (finite.get built.now name) (finite.get texts.now name) name) (finite.keys names.now)) }
+    ensures { OnOk result (listed.new.items ≡ listed.old.items ++ flat_map (λ name. entries_for_change (finite.get built.now name) (finite.get texts.now name) name) (finite.keys names.now)) }
 {
     for (name, _) in names.texts() {
         add_change(alloc, text_in(built, name), texts.get(name), name, listed)?;
@@ -47,7 +47,7 @@ fn text_in<'a>(built: &'a Project, name: &Name) -> Option<&'a Text>
 
 /// The names of two projects.
 fn names_of(alloc: Global, built: &Project, texts: &Texts) -> Result<Project, OutOfMemory>
-    ensures { IfOk result (λ names. finite.keys names ≡ names_of built.now texts.now) }
+    ensures { IfOk result (λ names. finite.keys names ≡ names_of_both built.now texts.now) }
 {
     let mut names = Project::new(alloc);
     for (name, _) in built.texts() {
@@ -73,7 +73,7 @@ fn add_change(
     name: &Name,
     listed: &mut Vec<Entry>,
 ) -> Result<(), OutOfMemory>
-    ensures { OnOk result (listed.new.items ≡ listed.old.items ++ change_at (option_copied built.entry) (option_copied present.entry) name.now) }
+    ensures { OnOk result (listed.new.items ≡ listed.old.items ++ entries_for_change (option_copied built.entry) (option_copied present.entry) name.now) }
 {
     match (built, present) {
         (None, None) => {}

@@ -12,7 +12,7 @@ use Rattle.core_steps.specs.declared.durable.Durable.{Durable}
 use Rattle.core_steps.specs.declared.events.Event.{Event}
 use Rattle.core_steps.specs.declared.events.Reply.{Reply}
 use Rattle.core_steps.specs.State.{State, entered_if}
-use Rattle.core_steps.specs.Outcomes.{Outcome}
+use Rattle.core_steps.specs.Outcomes.{StepOutcome}
 use Rattle.core_steps.specs.Step.{Comes}
 use Rattle.prepared_events.specs.declared.moves.TicketMove.{TicketMove}
 use Rattle.prepared_events.specs.declared.moves.TicketMove.TheVariants.{Stay, SendOut, TakeIn, Try}
@@ -49,7 +49,7 @@ abbrev pub changed : Ready → State → State
 changed p s = moved p.tickets (record s { durable = entered_if s.durable p.entry })
 
 -- what comes of it
-abbrev pub made : Ready → State → Outcome
+abbrev pub made : Ready → State → StepOutcome
 made p s = record { reply = p.reply; entry = p.entry; new = changed p s }
 
 -- there is memory for what the entry adds to the texts or to the proofs
@@ -82,7 +82,7 @@ pub record IsReady (s : State) (p : Ready) : Type 0 where
   pub ticket_room : FitsMove s.out s.tried s.next p.tried_room p.ticket_room p.tickets
 
 -- in this state something comes of it, and all is there for it
-pub record ComesAs (s : State) (X : Outcome → Type 0) (p : Ready) : Type 0 where
+pub record ComesAs (s : State) (X : StepOutcome → Type 0) (p : Ready) : Type 0 where
   pub comes : X (made p s)
   pub ready : IsReady s p
 

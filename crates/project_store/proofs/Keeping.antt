@@ -9,7 +9,7 @@ use Rattle.core_steps.specs.declared.durable.Durable.{Durable}
 use Rattle.core_steps.specs.declared.events.Event.{Event}
 use Rattle.core_steps.specs.declared.events.Reply.{Reply}
 use Rattle.core_steps.specs.Laws.{IsOrderly}
-use Rattle.core_steps.specs.Run.{Exchange, Run, Step}
+use Rattle.core_steps.specs.Run.{Exchange, Runs, IsStepOf}
 use Rattle.core_steps.specs.State.{State, opened}
 use Rattle.core_steps.specs.Step.{Does}
 use Rattle.event_weights.specs.Weights.{weight_of}
@@ -22,8 +22,8 @@ use Rattle.project_store.specs.Private.{IsDone, IsUndone, IsActed, IsStopped}
 use Rattle.project_store.specs.Store.{met, StoreState, IsSound, IsBeforeOrAfter, IsImage, IsTooHeavy, HasNoRoomFor, HasCauseOf, weight}
 use Rattle.project_store.proofs.Preparing.{no_memory}
 
-run_on : (s : State) (xs : List Exchange) (t : State) (x : Exchange) (u : State) → Run s xs t → Step t x u → Run s (xs ++ x ∷ []) u
-run_on s [] t x u run step = (u, subst (λ y. Step y x u) run step, refl)
+run_on : (s : State) (xs : List Exchange) (t : State) (x : Exchange) (u : State) → Runs s xs t → IsStepOf t x u → Runs s (xs ++ x ∷ []) u
+run_on s [] t x u run step = (u, subst (λ y. IsStepOf y x u) run step, refl)
 run_on s (y ∷ ys) t x u run step = (run.0, run.1, run_on run.0 ys t x u run.2 step)
 
 pub weight_on : (acts : List (ℕ × Event)) (chair : ℕ) (event : Event) → weight (acts ++ (chair, event) ∷ []) ≡ weight acts + weight_of event
@@ -56,7 +56,7 @@ module _ {D : Type 0} (told : Type 0) (bytes_of : D → Sides) (images : D → S
           exchanges = s.exchanges ++ x ∷ [];
           run = record {
             events = is ∙ ap (λ l. l ++ (chair, event) ∷ []) s.run.events ∙ sym (map-append (λ (y : ℕ × Exchange). (y.0, y.1.event)) s.exchanges (x ∷ []));
-            run = subst (λ l. Run (opened base) l new) (sym (map-append (λ (y : ℕ × Exchange). y.1) s.exchanges (x ∷ []))) (run_on (opened base) (exchanges_of s.exchanges) core x.1 new s.run.run does);
+            run = subst (λ l. Runs (opened base) l new) (sym (map-append (λ (y : ℕ × Exchange). y.1) s.exchanges (x ∷ []))) (run_on (opened base) (exchanges_of s.exchanges) core x.1 new s.run.run does);
           };
           small = small;
           orderly = orderly;

@@ -10,7 +10,7 @@ use Rattle.core_steps.specs.declared.events.Reply.{Reply}
 use Rattle.core_steps.specs.State.{State, opened}
 use Rattle.core_steps.specs.Laws.{IsOrderly}
 use Rattle.core_steps.specs.Step.{Does}
-use Rattle.core_steps.specs.Run.{Exchange, Run}
+use Rattle.core_steps.specs.Run.{Exchange, Runs}
 use Rattle.event_weights.specs.Weights.{weight_of}
 use Rattle.store_log.specs.History.{exchanges_of, events_of}
 use Rattle.store_log.specs.StoreLog.{marks}
@@ -100,7 +100,7 @@ pub record Performs {D : Type 0} (old : StoreState D) (event : Event) (reply : R
 -- these exchanges of chairs are the history, and lead from what was opened to the state
 pub record IsHistoryOf {D : Type 0} (s : StoreState D) (xs : List (ℕ × Exchange)) : Type 0 where
   pub events : s.history ≡ events_of xs
-  pub run : Run (opened s.base) (exchanges_of xs) s.core
+  pub run : Runs (opened s.base) (exchanges_of xs) s.core
 
 -- what holds of a store before and after each call
 pub record IsSound {D : Type 0} (told : Type 0) (bytes_of : D → Sides) (images : D → Sides → Type 0) (faults : D → ℕ) (s : StoreState D) : Type 0 where

@@ -43,12 +43,12 @@ use Rattle.core_steps.specs.declared.Question.{Question}
 use Rattle.core_steps.specs.declared.Question.TheVariants as ask
 use Rattle.core_steps.specs.declared.NodeLine.{NodeLine}
 use Rattle.core_steps.specs.declared.Reply.{Reply}
-use Rattle.core_steps.specs.Outcomes.{Outcome, Where, Unless}
+use Rattle.core_steps.specs.Outcomes.{StepOutcome, Where, Unless}
 use Rattle.core_steps.specs.Proving.{OnObligation, stored_tree, Puts, StepsAt, ShowsAt, ShowsTree, goal_of, lines_below, lines_step, node_lines}
 use Rattle.core_steps.specs.State.{State}
 use Rattle.core_steps.specs.Step.{Tells, ComesBeside, Comes}
 use Rattle.core_steps.specs.Table.{IsTable, IsPresent}
-use Rattle.core_steps.specs.Tickets.{Ends}
+use Rattle.core_steps.specs.Tickets.{EndsTicket}
 use Rattle.core_steps.proofs.Alls.{all_so}
 use Rattle.core_steps.proofs.NameMaps.{names_differ}
 use Rattle.reply_text.specs.Replies.{goals_of, shown_formulas}
@@ -196,10 +196,10 @@ present_well table name q sequents p =
     let is : IsSequent q = (all_last (λ o. IsSequent o.sequent) p.0 (o ∷ p.1) all).0 in
     (is.goal.0.well, all_so (IsPredicateIn q.env) Well (λ f g. g.0.well) q.hyps is.hyps)
 
-abbrev Right : Outcome → Type 0
+abbrev Right : StepOutcome → Type 0
 Right x = AreWell (shown_formulas x.reply)
 
-right : {x : Outcome} (z : Outcome) → Right z → x ≡ z → Right x
+right : {x : StepOutcome} (z : StepOutcome) → Right z → x ≡ z → Right x
 right z r is = subst Right (sym is) r
 
 module _ {test one other C : Type 0} (f : one → C) (g : other → C) where
@@ -227,7 +227,7 @@ match_so : {X C P : Type 0} {Q : X → Type 0} (found : Option X) → (P → C) 
 match_so None f g x = f x
 match_so (Some v) f g x = g v refl x
 
-module _ (s : State) (x : Outcome) (table : List Obligation) (sequents : AreSequents table) where
+module _ (s : State) (x : StepOutcome) (table : List Obligation) (sequents : AreSequents table) where
   on_obligation : (name : List ℕ) (X : Sequent → Type 0) → ((q : Sequent) → WellSequent q → X q → Right x) → OnObligation s table name X x → Right x
   on_obligation name X f (inl a) = right _ tt a.1
   on_obligation name X f (inr a) = f a.0 (present_well table name a.0 sequents a.1) a.2
@@ -254,7 +254,7 @@ module _ (s : State) (x : Outcome) (table : List Obligation) (sequents : AreSequ
       let tree = stored_tree s.durable.proofs name in
       where_so (λ applied. right _ (goals_well tree q [] applied w)) (right _ (bare_well tree [])) a
 
-  ends : (before behind : List Ticket) (k : Ticket) (q : Option Sequent) (a : Attempt) → Ends (record s { out = before ++ behind }) k q a x → Right x
+  ends : (before behind : List Ticket) (k : Ticket) (q : Option Sequent) (a : Attempt) → EndsTicket (record s { out = before ++ behind }) k q a x → Right x
   ends before behind k q NoProof e = right _ tt e.2
   ends before behind k q NoMemory e = right _ tt e.2
   ends before behind k q (Found tree) e = where_any (right _ tt) (where_any (right _ tt) (right _ tt)) e.2
@@ -284,5 +284,5 @@ module _ (s : State) (x : Outcome) (table : List Obligation) (sequents : AreSequ
   well_beside (event.Ask question) a = told_well question a
 
 -- the formulas that a reply shows are well
-pub shown_well : AreSequentsOfTables → (s : State) (e : Event) (x : Outcome) → Comes s e x → AreWell (shown_formulas x.reply)
+pub shown_well : AreSequentsOfTables → (s : State) (e : Event) (x : StepOutcome) → Comes s e x → AreWell (shown_formulas x.reply)
 shown_well typed s e x a = well_beside s x a.0 (typed (entries s.durable.built) (names_differ s.durable.built) a.0 a.1) e a.2

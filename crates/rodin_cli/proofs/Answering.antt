@@ -9,7 +9,7 @@ use Rattle.core_steps.specs.declared.Status.{Status}
 use Rattle.core_steps.specs.Laws.{EntersAll}
 use Rattle.core_steps.specs.Status.{IsRebuilt}
 use Rattle.core_steps.specs.State.{opened, no_texts}
-use Rattle.core_steps.specs.Run.{Exchange, Run, IsLegal, history_of}
+use Rattle.core_steps.specs.Run.{Exchange, Runs, IsLegal, history_of}
 use Rattle.rodin_cli.specs.declared.session.Session.{Session}
 use Rattle.rodin_cli.specs.declared.outcome.Part.{Part}
 use Rattle.check_input.specs.Inputs.{Component, IsInput}
@@ -38,8 +38,8 @@ pub record Did (old new : Session) (exchanges : List Exchange) (part : Part) : T
   pub last : part.last ≡ new.core.durable
 
 module _ (answers : Sequent → Attempt → Type 0) (sure : Sequent → Type 0) (old new : Session) (exchanges : List Exchange) (part : Part) (did : Did old new exchanges part) where
-  ran : Run (opened no_texts) exchanges new.core
-  ran = subst (λ s. Run s exchanges new.core) did.fresh did.extends.0
+  ran : Runs (opened no_texts) exchanges new.core
+  ran = subst (λ s. Runs s exchanges new.core) did.fresh did.extends.0
 
   pub leads : LeadsToPart part exchanges
   leads = record {

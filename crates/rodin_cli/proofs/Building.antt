@@ -17,11 +17,11 @@ use Rattle.core_steps.specs.declared.Question.TheVariants.{Statuses as AskStatus
 use Rattle.core_steps.specs.declared.Reply.TheVariants.{TableFull, Built}
 use Rattle.core_steps.specs.Durable.{ProjectMap, text_cmp, IsBuildable}
 use Rattle.core_steps.specs.State.{State, entered, opened, no_texts}
-use Rattle.core_steps.specs.Outcomes.{Outcome}
+use Rattle.core_steps.specs.Outcomes.{StepOutcome}
 use Rattle.core_steps.specs.Editing.{Edits, Builds}
-use Rattle.core_steps.specs.Tickets.{Ends}
+use Rattle.core_steps.specs.Tickets.{EndsTicket}
 use Rattle.core_steps.specs.Step.{Comes}
-use Rattle.core_steps.specs.Run.{Exchange, Run}
+use Rattle.core_steps.specs.Run.{Exchange, Runs}
 use Rattle.core_steps.proofs.NameMaps.{entries-empty}
 use Rattle.check_input.specs.Inputs.{Component, IsInput}
 use Rattle.check_input.specs.Laws.{AreGoodFrom}
@@ -35,7 +35,7 @@ pub empty_buildable : IsBuildable (empty {X = List ℕ} {R = text_cmp})
 empty_buildable = rw (entries-empty {X = List ℕ}) (omega arith, tt)
 
 -- ---- edits
-edited_to : (s : State) (x : Outcome) (name text : List ℕ) → Edits s name text x → is_identifier name ≡ true → length text ≤ 65536 → len s.durable.texts < 256 →
+edited_to : (s : State) (x : StepOutcome) (name text : List ℕ) → Edits s name text x → is_identifier name ≡ true → length text ≤ 65536 → len s.durable.texts < 256 →
     x.new.durable ≡ entered s.durable (Put name text)
 edited_to s x name text (inl d) is short room = absurd (d.0 is)
 edited_to s x name text (inr (named, inl d)) is short room = absurd (let long = d.0 in omega (arith, long, short))
@@ -50,7 +50,7 @@ room_for : (texts : ProjectMap) (name text : List ℕ) (n : ℕ) → len texts �
 room_for texts name text n h =
     subst (λ k. k ≤ n + 1) (sym (len-insert nat_list_cmp_total texts name text)) (one_more (contains_key texts name) (len texts) n h)
 
-edits_lead : (parts : List Component) (edits : List Exchange) (s t : State) (n : ℕ) → AreGoodFrom n parts → len s.durable.texts ≤ n → AreEdits parts edits → Run s edits t →
+edits_lead : (parts : List Component) (edits : List Exchange) (s t : State) (n : ℕ) → AreGoodFrom n parts → len s.durable.texts ≤ n → AreEdits parts edits → Runs s edits t →
     t.durable.texts ≡ fold with_component s.durable.texts parts
 edits_lead [] [] s t n good room are run = ap (λ u. u.durable.texts) run
 edits_lead [] (x ∷ edits) s t n good room are run = absurd are
@@ -63,34 +63,34 @@ edits_lead (p ∷ parts) (x ∷ edits) s t n good room are (m, step, rest) =
     edits_lead parts edits m t (n + 1) good.3 more are.1 rest ∙ ap (λ u. fold with_component u parts) texts
 
 -- ---- the build, and what comes behind it
-build_takes : (s : State) (x : Outcome) → Builds s x → IsBuiltReply x.reply → x.new.durable.built ≡ s.durable.texts
+build_takes : (s : State) (x : StepOutcome) → Builds s x → IsBuiltReply x.reply → x.new.durable.built ≡ s.durable.texts
 build_takes s x (inl d) (components, faulted, obligations, is) = let no : TableFull d.0 ≡ Built components faulted obligations = sym (ap (λ z. z.reply) d.2) ∙ is in cc
 build_takes s x (inr d) replied = ap (λ z. z.new.durable.built) d.4
 
-take_keeps : (s : State) (x : Outcome) → Comes s (Take None) x → x.new.durable.built ≡ s.durable.built
+take_keeps : (s : State) (x : StepOutcome) → Comes s (Take None) x → x.new.durable.built ≡ s.durable.built
 take_keeps s x (table, is, inl d) = ap (λ z. z.new.durable.built) d.1
 take_keeps s x (table, is, inr d) = ap (λ z. z.new.durable.built) d.6
 
-ends_keep : (s : State) (ticket : Ticket) (sequent : Option Sequent) (attempt : Attempt) (x : Outcome) → Ends s ticket sequent attempt x → x.new.durable.built ≡ s.durable.built
+ends_keep : (s : State) (ticket : Ticket) (sequent : Option Sequent) (attempt : Attempt) (x : StepOutcome) → EndsTicket s ticket sequent attempt x → x.new.durable.built ≡ s.durable.built
 ends_keep s ticket sequent NoProof x e = ap (λ z. z.new.durable.built) e.2
 ends_keep s ticket sequent AttemptNoMemory x e = ap (λ z. z.new.durable.built) e.2
 ends_keep s ticket sequent (Found tree) x (status, shown, inl d) = ap (λ z. z.new.durable.built) d.1
 ends_keep s ticket sequent (Found tree) x (status, shown, inr (never, inl d)) = ap (λ z. z.new.durable.built) d.1
 ends_keep s ticket sequent (Found tree) x (status, shown, inr (never, inr d)) = ap (λ z. z.new.durable.built) d.1
 
-finish_keeps : (s : State) (x : Outcome) (number : ℕ) (attempt : Attempt) → Comes s (Finish number attempt) x → x.new.durable.built ≡ s.durable.built
+finish_keeps : (s : State) (x : StepOutcome) (number : ℕ) (attempt : Attempt) → Comes s (Finish number attempt) x → x.new.durable.built ≡ s.durable.built
 finish_keeps s x number attempt (table, is, inl d) = ap (λ z. z.new.durable.built) d.1
 finish_keeps s x number attempt (table, is, inr (before, ticket, behind, cut, numbered, (sequent, present, e))) =
     ends_keep (record s { out = before ++ behind }) ticket sequent attempt x e
 
-faults_keep : (s : State) (x : Outcome) → Comes s (Ask AskFaults) x → x.new.durable.built ≡ s.durable.built
+faults_keep : (s : State) (x : StepOutcome) → Comes s (Ask AskFaults) x → x.new.durable.built ≡ s.durable.built
 faults_keep s x (table, is, d) = ap (λ z. z.new.durable.built) d.4
 
-statuses_keep : (s : State) (x : Outcome) → Comes s (Ask AskStatuses) x → x.new.durable.built ≡ s.durable.built
+statuses_keep : (s : State) (x : StepOutcome) → Comes s (Ask AskStatuses) x → x.new.durable.built ≡ s.durable.built
 statuses_keep s x (table, is, d) = ap (λ z. z.new.durable.built) d.2
 
 module _ (answers : Sequent → Attempt → Type 0) (sure : Sequent → Type 0) where
-  turns_keep : (turns : List Exchange) (s t : State) → AreTurns answers sure turns → Run s turns t → t.durable.built ≡ s.durable.built
+  turns_keep : (turns : List Exchange) (s t : State) → AreTurns answers sure turns → Runs s turns t → t.durable.built ≡ s.durable.built
   turns_keep [] s t are run = ap (λ u. u.durable.built) run
   turns_keep (x ∷ []) s t are run = absurd are
   turns_keep (x ∷ y ∷ turns) s t are (m, first, (n, second, rest)) =
@@ -101,10 +101,10 @@ module _ (answers : Sequent → Attempt → Type 0) (sure : Sequent → Type 0) 
 
   -- a whole run builds the components of the input
   pub built_of : (bytes : List ℕ) (parts : List Component) (told : List FaultLine) (warned : List (List ℕ × List ℕ)) (shown : List (List ℕ × Status × Option Origin)) (exchanges : List Exchange) (t : State) →
-      IsInput bytes (Ok parts) → IsWholeScript answers sure parts told warned shown exchanges → Run (opened no_texts) exchanges t → t.durable.built ≡ project_of parts
+      IsInput bytes (Ok parts) → IsWholeScript answers sure parts told warned shown exchanges → Runs (opened no_texts) exchanges t → t.durable.built ≡ project_of parts
   built_of bytes parts told warned shown exchanges t made w run =
       let s : State = opened no_texts in
-      let cut = Run-split s t (w.round.edits ++ w.round.build ∷ w.round.turns) (w.round.nothing ∷ w.faults ∷ w.statuses ∷ []) (subst (λ xs. Run s xs t) w.round.in_order run) in
+      let cut = Run-split s t (w.round.edits ++ w.round.build ∷ w.round.turns) (w.round.nothing ∷ w.faults ∷ w.statuses ∷ []) (subst (λ xs. Runs s xs t) w.round.in_order run) in
       let front = Run-split s cut.0 w.round.edits (w.round.build ∷ w.round.turns) cut.1 in
       let none : len s.durable.texts ≡ 0 = len-empty text_cmp (List ℕ) in
       let texts = edits_lead parts w.round.edits s front.0 0 (parts_are_good bytes parts made) (omega (arith, none)) w.round.edits_are front.1 in

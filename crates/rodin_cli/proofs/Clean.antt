@@ -17,10 +17,10 @@ use Rattle.core_steps.specs.declared.Event.TheVariants.{Ask}
 use Rattle.core_steps.specs.declared.Question.TheVariants.{Statuses as AskStatuses, Faults as AskFaults}
 use Rattle.core_steps.specs.declared.Reply.TheVariants.{Statuses, Faults}
 use Rattle.core_steps.specs.Status.{IsStatus, Shows, IsRebuilt}
-use Rattle.core_steps.specs.Outcomes.{Outcome}
+use Rattle.core_steps.specs.Outcomes.{StepOutcome}
 use Rattle.core_steps.specs.State.{State}
 use Rattle.core_steps.specs.Step.{Comes}
-use Rattle.core_steps.specs.Run.{Exchange, Run}
+use Rattle.core_steps.specs.Run.{Exchange, Runs}
 use Rattle.check_input.specs.Inputs.{Component}
 use Rattle.rodin_cli.specs.Script.{IsWholeScript}
 use Rattle.rodin_cli.specs.Check.{TellsFaults, TellsWarnings, IsProved, IsProvedWhereDischarged}
@@ -29,7 +29,7 @@ use Rattle.rodin_cli.proofs.Sessions.{Run-split, comes}
 same_shown : (shown shown' : List (List ℕ × Status × Option Origin)) → Statuses shown ≡ Statuses shown' → shown' ≡ shown
 same_shown shown shown' e = cc
 
-asked : (s : State) (x : Outcome) (shown : List (List ℕ × Status × Option Origin)) → x.reply ≡ Statuses shown → Comes s (Ask AskStatuses) x → IsRebuilt x.new.durable shown
+asked : (s : State) (x : StepOutcome) (shown : List (List ℕ × Status × Option Origin)) → x.reply ≡ Statuses shown → Comes s (Ask AskStatuses) x → IsRebuilt x.new.durable shown
 asked s x shown replied (table, is, (shown', rebuilt, told)) =
     subst (λ t. IsRebuilt t.durable shown) (sym (ap (λ z. z.new) told))
     (subst (IsRebuilt s.durable) (same_shown shown shown' (sym replied ∙ ap (λ z. z.reply) told)) rebuilt)
@@ -37,21 +37,21 @@ asked s x shown replied (table, is, (shown', rebuilt, told)) =
 same_told : (told told' : List FaultLine) (warned warned' : List (List ℕ × List ℕ)) → Faults told warned ≡ Faults told' warned' → (told' ≡ told) × (warned' ≡ warned)
 same_told told told' warned warned' e = (cc, cc)
 
-asked_faults : (s : State) (x : Outcome) (told : List FaultLine) (warned : List (List ℕ × List ℕ)) → x.reply ≡ Faults told warned → Comes s (Ask AskFaults) x →
+asked_faults : (s : State) (x : StepOutcome) (told : List FaultLine) (warned : List (List ℕ × List ℕ)) → x.reply ≡ Faults told warned → Comes s (Ask AskFaults) x →
     TellsFaults x.new.durable told × TellsWarnings x.new.durable warned
 asked_faults s x told warned replied (table, is, (told', warned', faults, warnings, answered)) =
     let same = same_told told told' warned warned' (sym replied ∙ ap (λ z. z.reply) answered) in
     subst (λ t. TellsFaults t.durable told × TellsWarnings t.durable warned) (sym (ap (λ z. z.new) answered))
     (subst (TellsFaults s.durable) same.0 faults, subst (TellsWarnings s.durable) same.1 warnings)
 
-asked_stays : (s : State) (x : Outcome) → Comes s (Ask AskStatuses) x → x.new ≡ s
+asked_stays : (s : State) (x : StepOutcome) → Comes s (Ask AskStatuses) x → x.new ≡ s
 asked_stays s x (table, is, (shown, rebuilt, told)) = ap (λ z. z.new) told
 
 -- the last but one of the exchanges tells the faults and the warnings of the built texts
 pub told_of : (answers : Sequent → Attempt → Type 0) (sure : Sequent → Type 0) (parts : List Component) (told : List FaultLine) (warned : List (List ℕ × List ℕ)) (shown : List (List ℕ × Status × Option Origin))
-    (exchanges : List Exchange) (s t : State) → IsWholeScript answers sure parts told warned shown exchanges → Run s exchanges t → TellsFaults t.durable told × TellsWarnings t.durable warned
+    (exchanges : List Exchange) (s t : State) → IsWholeScript answers sure parts told warned shown exchanges → Runs s exchanges t → TellsFaults t.durable told × TellsWarnings t.durable warned
 told_of answers sure parts told warned shown exchanges s t w run =
-    let cut = Run-split s t (w.round.edits ++ w.round.build ∷ w.round.turns) (w.round.nothing ∷ w.faults ∷ w.statuses ∷ []) (subst (λ xs. Run s xs t) w.round.in_order run) in
+    let cut = Run-split s t (w.round.edits ++ w.round.build ∷ w.round.turns) (w.round.nothing ∷ w.faults ∷ w.statuses ∷ []) (subst (λ xs. Runs s xs t) w.round.in_order run) in
     let r = cut.2 in
     let tells = asked_faults r.0 _ told warned w.faults_is.1 (comes r.0 r.2.0 w.faults (Ask AskFaults) w.faults_is.0 r.2.1) in
     let same = asked_stays r.2.0 _ (comes r.2.0 r.2.2.0 w.statuses (Ask AskStatuses) w.statuses_is.0 r.2.2.1) in
@@ -59,9 +59,9 @@ told_of answers sure parts told warned shown exchanges s t w run =
 
 -- the last of the exchanges shows the statuses of a clean rebuild
 pub clean_of : (answers : Sequent → Attempt → Type 0) (sure : Sequent → Type 0) (parts : List Component) (told : List FaultLine) (warned : List (List ℕ × List ℕ)) (shown : List (List ℕ × Status × Option Origin))
-    (exchanges : List Exchange) (s t : State) → IsWholeScript answers sure parts told warned shown exchanges → Run s exchanges t → IsRebuilt t.durable shown
+    (exchanges : List Exchange) (s t : State) → IsWholeScript answers sure parts told warned shown exchanges → Runs s exchanges t → IsRebuilt t.durable shown
 clean_of answers sure parts told warned shown exchanges s t w run =
-    let cut = Run-split s t (w.round.edits ++ w.round.build ∷ w.round.turns) (w.round.nothing ∷ w.faults ∷ w.statuses ∷ []) (subst (λ xs. Run s xs t) w.round.in_order run) in
+    let cut = Run-split s t (w.round.edits ++ w.round.build ∷ w.round.turns) (w.round.nothing ∷ w.faults ∷ w.statuses ∷ []) (subst (λ xs. Runs s xs t) w.round.in_order run) in
     let r = cut.2 in
     let shows = asked r.2.0 _ shown w.statuses_is.1 (comes r.2.0 r.2.2.0 w.statuses (Ask AskStatuses) w.statuses_is.0 r.2.2.1) in
     subst (λ d. IsRebuilt d shown) (sym (ap (λ u. u.durable) r.2.2.2)) shows

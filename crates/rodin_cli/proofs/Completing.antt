@@ -25,10 +25,10 @@ use Rattle.core_steps.specs.Table.{IsTable, IsPresent}
 use Rattle.core_steps.specs.Status.{IsStatus, IsUnsettled, IsUnsettledBy}
 use Rattle.core_steps.specs.Laws.{DecidesSequents}
 use Rattle.core_steps.specs.State.{State, entered}
-use Rattle.core_steps.specs.Outcomes.{Outcome}
+use Rattle.core_steps.specs.Outcomes.{StepOutcome}
 use Rattle.core_steps.specs.Step.{Comes}
-use Rattle.core_steps.specs.Tickets.{CanStore, Ends, IsOpen, IsFor, TakesFirst, by_prover, ticket_for, tried_with}
-use Rattle.core_steps.specs.Run.{Exchange, Run, IsLegal}
+use Rattle.core_steps.specs.Tickets.{CanStore, EndsTicket, IsOpen, IsFor, TakesFirst, by_prover, ticket_for, tried_with}
+use Rattle.core_steps.specs.Run.{Exchange, Runs, IsLegal}
 use Rattle.core_steps.proofs.Alls.{all_both, all_so_both}
 use Rattle.core_steps.proofs.NameMaps.{get_same, get_other}
 use Rattle.rodin_cli.specs.Script.{IsTurn, AreTurns}
@@ -126,7 +126,7 @@ settled_by proofs o proof derives unsettled = by unsettled.0 (subst (λ stored. 
   by status is (inr e) = (subst (λ q. IsStatus (Some proof) o.sequent q) e is).1 derives.applies
 
 module _ (sure : Sequent → Type 0) (s : State) (number : ℕ) (o : Obligation) (xs : List Exchange) where
-  closes_as : (x z : Outcome) → x ≡ z → Closes sure s z.new o xs z.reply → Closes sure s x.new o xs x.reply
+  closes_as : (x z : StepOutcome) → x ≡ z → Closes sure s z.new o xs z.reply → Closes sure s x.new o xs x.reply
   closes_as x z is closes = subst (λ u. Closes sure s u.new o xs u.reply) (sym is) closes
 
   tried_closes : (reply : Reply) → ((n : ℕ) → reply ≢ NoTicket n) → HasReason sure xs o → Closes sure s (tried_with s (ticket_for number o)) o xs reply
@@ -161,9 +161,9 @@ module _ (sure : Sequent → Type 0) (s : State) (number : ℕ) (o : Obligation)
   stores sequent tree is can = (subst (λ q. CanStore s.durable.proofs o.name q tree) is can).1.derives
 
   -- the finish of the one ticket that was out, with an attempt that is good where the sequent is sure
-  pub finish_closes : (sequent : Option Sequent) (attempt : Attempt) (x : Outcome) → sequent ≡ Some o.sequent → IsUnsettledBy s.durable.proofs o →
+  pub finish_closes : (sequent : Option Sequent) (attempt : Attempt) (x : StepOutcome) → sequent ≡ Some o.sequent → IsUnsettledBy s.durable.proofs o →
       (sure o.sequent → IsGood attempt o.sequent) → (attempt ≡ AttemptNoMemory → HasNoMemory o xs) →
-      Ends s (ticket_for number o) sequent attempt x → Closes sure s x.new o xs x.reply
+      EndsTicket s (ticket_for number o) sequent attempt x → Closes sure s x.new o xs x.reply
   finish_closes sequent NoProof x is unsettled fair memory e =
       closes_as x _ e.2 (tried_closes (Noted o.name e.0) (λ n k. let no : Noted o.name e.0 ≡ NoTicket n = k in cc) (inl fair))
   finish_closes sequent AttemptNoMemory x is unsettled fair memory e =
@@ -199,7 +199,7 @@ pub record Turned (sure : Sequent → Type 0) (table before : List Obligation) (
   pub legal : IsLegal turns
 
 -- a take that gives a ticket gives one for the first open obligation
-taken_open : (table : List Obligation) (s : State) (x : Outcome) (ticket : Ticket) → x.reply ≡ Taken ticket → s.out ≡ [] → TakesFirst s table x →
+taken_open : (table : List Obligation) (s : State) (x : StepOutcome) (ticket : Ticket) → x.reply ≡ Taken ticket → s.out ≡ [] → TakesFirst s table x →
     (b : List Obligation) × (o : Obligation) × (behind : List Obligation) × (table ≡ b ++ o ∷ behind) × AllByRecursion (λ p. IsOpen s p → ⊥) b × IsOpen s o
     × (ticket ≡ ticket_for s.next o) × (x.new ≡ record s { out = ticket_for s.next o ∷ []; next = s.next + 1 })
 taken_open table s x ticket replied out (inl none) = let no : Taken ticket ≡ Nothing = sym replied ∙ ap (λ z. z.reply) none.1 in cc
@@ -209,7 +209,7 @@ taken_open table s x ticket replied out (inr (b, o, behind, cut, closed, open_, 
     (b, o, behind, cut, closed, open_, is, ap (λ z. z.new) takes ∙ ap (λ tickets. record s { out = tickets ++ ticket_for s.next o ∷ []; next = s.next + 1 }) out)
 
 -- nothing is left to take only where no obligation is open
-pub nothing_left : (table : List Obligation) (s : State) (x : Outcome) → x.reply ≡ Nothing → TakesFirst s table x → AllByRecursion (λ o. IsOpen s o → ⊥) table × (x.new ≡ s)
+pub nothing_left : (table : List Obligation) (s : State) (x : StepOutcome) → x.reply ≡ Nothing → TakesFirst s table x → AllByRecursion (λ o. IsOpen s o → ⊥) table × (x.new ≡ s)
 nothing_left table s x replied (inl none) = (none.0, ap (λ z. z.new) none.1)
 nothing_left table s x replied (inr (b, o, behind, cut, closed, open_, takes)) =
     let no : Nothing ≡ Taken (ticket_for s.next o) = sym replied ∙ ap (λ z. z.reply) takes in cc
@@ -230,7 +230,7 @@ left_over decides sure s xs o rest closed unsettled = by (get s.tried o.name) re
 
 module _ (answers : Sequent → Attempt → Type 0) (sure : Sequent → Type 0) where
   -- the finish of the ticket that was taken
-  finish_step : (table b behind : List Obligation) (o : Obligation) (s : State) (ys : List Exchange) (attempt : Attempt) (x : Outcome) →
+  finish_step : (table b behind : List Obligation) (o : Obligation) (s : State) (ys : List Exchange) (attempt : Attempt) (x : StepOutcome) →
       IsTable s.durable.built table → HasDistinctPoNames table → table ≡ b ++ o ∷ behind → IsUnsettledBy s.durable.proofs o →
       (sure o.sequent → IsGood attempt o.sequent) → (attempt ≡ AttemptNoMemory → HasNoMemory o ys) →
       Comes (record s { out = ticket_for s.next o ∷ []; next = s.next + 1 }) (Finish s.next attempt) x →
@@ -240,8 +240,8 @@ module _ (answers : Sequent → Attempt → Type 0) (sure : Sequent → Type 0) 
       let single = single_cut (ticket_for s.next o) ticket front back tickets in
       let m : State = record s { out = []; next = s.next + 1 } in
       let left : front ++ back ≡ [] = ap (λ bs. bs ++ back) single.0 ∙ single.2 in
-      let ends' : Ends m (ticket_for s.next o) sequent attempt x =
-      subst (λ k. Ends m k sequent attempt x) (sym single.1) (subst (λ out. Ends (record m { out = out }) ticket sequent attempt x) left ends) in
+      let ends' : EndsTicket m (ticket_for s.next o) sequent attempt x =
+      subst (λ k. EndsTicket m k sequent attempt x) (sym single.1) (subst (λ out. EndsTicket (record m { out = out }) ticket sequent attempt x) left ends) in
       let present' : IsPresent (b ++ o ∷ behind) o.name sequent =
       subst (λ k. IsPresent (b ++ o ∷ behind) k.name sequent) (sym single.1)
       (subst (λ os. IsPresent os ticket.name sequent) (one_table s.durable.built table' table is' is ∙ cut) present) in
@@ -250,7 +250,7 @@ module _ (answers : Sequent → Attempt → Type 0) (sure : Sequent → Type 0) 
   -- a turn closes the first open obligation
   turned : (table before ahead : List Obligation) (s t : State) (xs : List Exchange) (x y : Exchange) →
       IsTable s.durable.built table → HasDistinctPoNames table → table ≡ before ++ ahead → AllByRecursion (λ o. IsOpen s o → ⊥) before → AtRest sure s xs →
-      IsTurn answers sure x y → Run s (x ∷ y ∷ []) t → Turned sure table before s t xs (x ∷ y ∷ [])
+      IsTurn answers sure x y → Runs s (x ∷ y ∷ []) t → Turned sure table before s t xs (x ∷ y ∷ [])
   turned table before ahead s t xs x y is distinct cut closed rest (ticket, attempt, takes, given, finishes, fair) (m, first, (n, second, last)) =
       let d = comes s m x (Take None) takes first in
       let taken = subst (λ os. TakesFirst s os (outcome x m)) (one_table s.durable.built d.0 table d.1 is) d.2 in
@@ -282,7 +282,7 @@ module _ (answers : Sequent → Attempt → Type 0) (sure : Sequent → Type 0) 
   -- each turn closes an obligation more
   pub turns_close : (turns : List Exchange) (table before ahead : List Obligation) (s t : State) (xs : List Exchange) →
       IsTable s.durable.built table → HasDistinctPoNames table → table ≡ before ++ ahead → AllByRecursion (λ o. IsOpen s o → ⊥) before → AtRest sure s xs →
-      AreTurns answers sure turns → Run s turns t → Turned sure table before s t xs turns
+      AreTurns answers sure turns → Runs s turns t → Turned sure table before s t xs turns
   turns_close [] table before ahead s t xs is distinct cut closed rest are run =
       subst (λ u. Turned sure table before s u xs []) (sym run)
       (record {
@@ -321,7 +321,7 @@ unsure_turns answers sure (x ∷ y ∷ turns) ((ticket, attempt, takes, given, f
 
 -- turns are no more than there are obligations, and each takes the next number
 pub turns_bound : (answers : Sequent → Attempt → Type 0) (sure : Sequent → Type 0) (turns : List Exchange) (table : List Obligation) (s t : State) (r : ℕ) →
-    s.out ≡ [] → IsTable s.durable.built table → AreTurns answers sure turns → Run s turns t → length turns ≡ 2 * r → (r ≤ length table) × (t.next ≡ s.next + r)
+    s.out ≡ [] → IsTable s.durable.built table → AreTurns answers sure turns → Runs s turns t → length turns ≡ 2 * r → (r ≤ length table) × (t.next ≡ s.next + r)
 turns_bound answers sure turns table s t r out is are run count =
     let all = turns_close answers (λ s. ⊥) turns table [] table s t [] is (distinct_table s.durable.built table is) refl tt
     (record { out = out; reasons = λ o tried. inl (λ never. never) }) (unsure_turns answers sure turns are) run in

@@ -6,7 +6,7 @@ use Rattle.core_steps.specs.declared.Event.TheVariants.{Edit, Build}
 use Rattle.core_steps.specs.declared.Reply.{Reply}
 use Rattle.core_steps.specs.declared.Reply.TheVariants.{Built, TableFull}
 use Rattle.core_steps.specs.State.{State}
-use Rattle.core_steps.specs.Outcomes.{Outcome}
+use Rattle.core_steps.specs.Outcomes.{StepOutcome}
 use Rattle.core_steps.specs.Editing.{Builds}
 use Rattle.core_steps.specs.Run.{Exchange}
 use Rattle.rodin_cli.specs.declared.round.Numbers.{Numbers}
@@ -48,7 +48,7 @@ next_edit a b c done part reply edited performs =
 pub then_unchanged : (a b c : Session) (xs : List Exchange) → Extends a xs b → IsUnchanged b c → Extends a xs c
 then_unchanged a b c xs p same = subst (λ ys. Extends a ys c) (append-nil xs) (both a b c xs [] p (unchanged b c same))
 
-full_nodes : (s : State) (x : Outcome) → Builds s x → ((components faulted obligations : ℕ) → x.reply ≢ Built components faulted obligations) → (n : ℕ) × (x.reply ≡ TableFull n)
+full_nodes : (s : State) (x : StepOutcome) → Builds s x → ((components faulted obligations : ℕ) → x.reply ≢ Built components faulted obligations) → (n : ℕ) × (x.reply ≡ TableFull n)
 full_nodes s x (inl d) never = (d.0, ap (λ z. z.reply) d.2)
 full_nodes s x (inr d) never = absurd (never _ _ _ (ap (λ z. z.reply) d.4))
 

@@ -17,10 +17,10 @@ use Rattle.core_steps.specs.Laws.{DecidesSequents}
 use Rattle.core_steps.specs.Status.{IsUnsettledBy}
 use Rattle.core_steps.specs.Table.{IsTable, IsTableWithin}
 use Rattle.core_steps.specs.State.{State, opened, no_texts}
-use Rattle.core_steps.specs.Outcomes.{Outcome}
+use Rattle.core_steps.specs.Outcomes.{StepOutcome}
 use Rattle.core_steps.specs.Editing.{Edits, Builds}
 use Rattle.core_steps.specs.Tickets.{IsOpen, TakesFirst, ticket_for}
-use Rattle.core_steps.specs.Run.{Exchange, Step, Run, IsLegal}
+use Rattle.core_steps.specs.Run.{Exchange, IsStepOf, Runs, IsLegal}
 use Rattle.core_steps.proofs.Alls.{all_both, all_so}
 use Rattle.check_input.specs.Inputs.{Component}
 use Rattle.build_core.specs.declared.FaultLine.{FaultLine}
@@ -47,7 +47,7 @@ IsLegalExchange x = IsLegalReply x.reply
 gathered : (xs edits : List Exchange) (build : Exchange) (turns : List Exchange) → (xs ++ (edits ++ build ∷ [])) ++ turns ≡ xs ++ (edits ++ build ∷ turns)
 gathered xs edits build turns = simp append_assoc
 
-legal_as : (x z : Outcome) → x ≡ z → IsLegalReply z.reply → IsLegalReply x.reply
+legal_as : (x z : StepOutcome) → x ≡ z → IsLegalReply z.reply → IsLegalReply x.reply
 legal_as x z is legal = subst (λ u. IsLegalReply u.reply) (sym is) legal
 
 -- what provers changed stays as it is: the tickets out, what was tried, and the next number
@@ -56,7 +56,7 @@ pub record Stays (s t : State) : Type 0 where
   pub tried : t.tried ≡ s.tried
   pub next : t.next ≡ s.next
 
-stays_as : (s : State) (x z : Outcome) → x ≡ z → Stays s z.new → IsLegalReply z.reply → Stays s x.new × IsLegalReply x.reply
+stays_as : (s : State) (x z : StepOutcome) → x ≡ z → Stays s z.new → IsLegalReply z.reply → Stays s x.new × IsLegalReply x.reply
 stays_as s x z is stays legal = (subst (λ u. Stays s u.new) (sym is) stays, legal_as x z is legal)
 
 same_stays : (s : State) → Stays s s
@@ -65,18 +65,18 @@ same_stays s = record { out = refl; tried = refl; next = refl }
 then_stays : (s t u : State) → Stays s t → Stays t u → Stays s u
 then_stays s t u p q = record { out = q.out ∙ p.out; tried = q.tried ∙ p.tried; next = q.next ∙ p.next }
 
-edit_stays : (s : State) (x : Outcome) (name text : List ℕ) → Edits s name text x → Stays s x.new × IsLegalReply x.reply
+edit_stays : (s : State) (x : StepOutcome) (name text : List ℕ) → Edits s name text x → Stays s x.new × IsLegalReply x.reply
 edit_stays s x name text (inl d) = stays_as s x _ d.1 (same_stays s) (λ n e. let no : BadName ≡ NoTicket n = e in cc)
 edit_stays s x name text (inr (named, inl d)) = stays_as s x _ d.1 (same_stays s) (λ n e. let no : TextTooLong ≡ NoTicket n = e in cc)
 edit_stays s x name text (inr (named, inr (within, inl d))) = stays_as s x _ d.1 (same_stays s) (λ n e. let no : ProjectFull ≡ NoTicket n = e in cc)
 edit_stays s x name text (inr (named, inr (within, inr d))) =
     stays_as s x _ d.1 (record { out = refl; tried = refl; next = refl }) (λ n e. let no : Edited name ≡ NoTicket n = e in cc)
 
-edit_step : (s t : State) (x : Exchange) (name text : List ℕ) → x.event ≡ Edit name text → Step s x t → Stays s t × IsLegalReply x.reply
+edit_step : (s t : State) (x : Exchange) (name text : List ℕ) → x.event ≡ Edit name text → IsStepOf s x t → Stays s t × IsLegalReply x.reply
 edit_step s t x name text e d = edit_stays s (outcome x t) name text (comes s t x (Edit name text) e d).2
 
 -- edits change nothing of it, and are legal
-edits_stay : (parts : List Component) (edits : List Exchange) (s t : State) → AreEdits parts edits → Run s edits t → Stays s t × IsLegal edits
+edits_stay : (parts : List Component) (edits : List Exchange) (s t : State) → AreEdits parts edits → Runs s edits t → Stays s t × IsLegal edits
 edits_stay [] [] s t are run = (subst (Stays s) (sym run) (same_stays s), tt)
 edits_stay [] (x ∷ edits) s t are run = absurd are
 edits_stay (part ∷ parts) [] s t are run = absurd are
@@ -86,30 +86,30 @@ edits_stay (part ∷ parts) (x ∷ edits) s t are run =
     (then_stays s run.0 t one.0 rest.0, (one.1, rest.1))
 
 -- the first edits of a round are legal
-first_edits_legal : (parts : List Component) (edits : List Exchange) (s t : State) → AreFirstEdits parts edits → Run s edits t → IsLegal edits
+first_edits_legal : (parts : List Component) (edits : List Exchange) (s t : State) → AreFirstEdits parts edits → Runs s edits t → IsLegal edits
 first_edits_legal parts [] s t are run = tt
 first_edits_legal [] (x ∷ edits) s t are run = absurd are
 first_edits_legal (part ∷ parts) (x ∷ edits) s t are run =
     ((edit_step s run.0 x part.0 part.1 are.0 run.1).1, first_edits_legal parts edits run.0 t are.1 run.2)
 
-built_stays : (s : State) (x : Outcome) → Builds s x → Stays s x.new × IsLegalReply x.reply
+built_stays : (s : State) (x : StepOutcome) → Builds s x → Stays s x.new × IsLegalReply x.reply
 built_stays s x (inl d) = stays_as s x _ d.2 (same_stays s) (λ n e. let no : TableFull d.0 ≡ NoTicket n = e in cc)
 built_stays s x (inr d) =
     stays_as s x _ d.4 (record { out = refl; tried = refl; next = refl }) (λ n e. let no : Built _ _ _ ≡ NoTicket n = e in cc)
 
-build_step : (s t : State) (x : Exchange) → x.event ≡ Build → Step s x t → Stays s t × IsLegalReply x.reply
+build_step : (s t : State) (x : Exchange) → x.event ≡ Build → IsStepOf s x t → Stays s t × IsLegalReply x.reply
 build_step s t x e d = built_stays s (outcome x t) (comes s t x Build e d).2
 
 -- where the texts are built, they have a table within the limit
-built_table : (s : State) (x : Outcome) → Builds s x → IsBuiltReply x.reply → (table : List Obligation) × IsTableWithin x.new.durable.built table
+built_table : (s : State) (x : StepOutcome) → Builds s x → IsBuiltReply x.reply → (table : List Obligation) × IsTableWithin x.new.durable.built table
 built_table s x (inl d) (components, faulted, obligations, is) = let no : TableFull d.0 ≡ Built components faulted obligations = sym (ap (λ z. z.reply) d.2) ∙ is in cc
 built_table s x (inr d) built = (d.0, subst (λ u. IsTableWithin u.new.durable.built d.0) (sym d.4) d.2)
 
-taken_legal : (s : State) (x : Outcome) (table : List Obligation) → TakesFirst s table x → IsLegalReply x.reply
+taken_legal : (s : State) (x : StepOutcome) (table : List Obligation) → TakesFirst s table x → IsLegalReply x.reply
 taken_legal s x table (inl none) = legal_as x _ none.1 (λ n e. let no : Nothing ≡ NoTicket n = e in cc)
 taken_legal s x table (inr taken) = legal_as x _ taken.6 (λ n e. let no : Taken (ticket_for s.next taken.1) ≡ NoTicket n = e in cc)
 
-take_step : (s t : State) (x : Exchange) → x.event ≡ Take None → Step s x t → IsLegalReply x.reply
+take_step : (s t : State) (x : Exchange) → x.event ≡ Take None → IsStepOf s x t → IsLegalReply x.reply
 take_step s t x e d = let a = comes s t x (Take None) e d in taken_legal s (outcome x t) a.0 a.2
 
 -- THE QUESTIONS
@@ -118,7 +118,7 @@ take_step s t x e d = let a = comes s t x (Take None) e d in taken_legal s (outc
 abbrev pub IsSimple : Question → Type 0
 IsSimple question = (question ≡ AskFaults) ⊎ (question ≡ AskStatuses)
 
-ask_step : (s t : State) (x : Exchange) (question : Question) → IsSimple question → x.event ≡ Ask question → Step s x t → (t ≡ s) × IsLegalReply x.reply
+ask_step : (s t : State) (x : Exchange) (question : Question) → IsSimple question → x.event ≡ Ask question → IsStepOf s x t → (t ≡ s) × IsLegalReply x.reply
 ask_step s t x question (inl is) e d =
     let a = (comes s t x (Ask AskFaults) (e ∙ ap Ask is) d).2 in
     (ap (λ z. z.new) a.4, legal_as (outcome x t) _ a.4 (λ n f. let no : Faults a.0 a.1 ≡ NoTicket n = f in cc))
@@ -126,7 +126,7 @@ ask_step s t x question (inr is) e d =
     let a = (comes s t x (Ask AskStatuses) (e ∙ ap Ask is) d).2 in
     (ap (λ z. z.new) a.2, legal_as (outcome x t) _ a.2 (λ n f. let no : Statuses a.0 ≡ NoTicket n = f in cc))
 
-asks_legal : (questions : List Question) (asked : List Exchange) (s t : State) → AllByRecursion IsSimple questions → AreFirstAsks questions asked → Run s asked t → (t ≡ s) × IsLegal asked
+asks_legal : (questions : List Question) (asked : List Exchange) (s t : State) → AllByRecursion IsSimple questions → AreFirstAsks questions asked → Runs s asked t → (t ≡ s) × IsLegal asked
 asks_legal questions [] s t simple are run = (run, tt)
 asks_legal [] (x ∷ asked) s t simple are run = absurd are
 asks_legal (question ∷ questions) (x ∷ asked) s t simple are run =
@@ -134,7 +134,7 @@ asks_legal (question ∷ questions) (x ∷ asked) s t simple are run =
     let more = asks_legal questions asked run.0 t simple.1 are.1 run.2 in
     (more.0 ∙ one.0, (one.1, more.1))
 
-end_legal : (questions : List Question) (end : List Exchange) (s t : State) → AllByRecursion IsSimple questions → IsEndFront questions end → Run s end t → IsLegal end
+end_legal : (questions : List Question) (end : List Exchange) (s t : State) → AllByRecursion IsSimple questions → IsEndFront questions end → Runs s end t → IsLegal end
 end_legal questions [] s t simple are run = tt
 end_legal questions (x ∷ []) s t simple are run = (take_step s run.0 x are run.1, tt)
 end_legal questions (x ∷ y ∷ end) s t simple are run =
@@ -150,16 +150,16 @@ opened_rests sure = record {
 }
 
 -- edits and a build leave the tickets that are out, and the next number
-pub begun_stays : (parts : List Component) (edits : List Exchange) (build : Exchange) (s t : State) → AreEdits parts edits → build.event ≡ Build → Run s (edits ++ build ∷ []) t → Stays s t
+pub begun_stays : (parts : List Component) (edits : List Exchange) (build : Exchange) (s t : State) → AreEdits parts edits → build.event ≡ Build → Runs s (edits ++ build ∷ []) t → Stays s t
 begun_stays parts edits build s t are is run =
     let cut = Run-split s t edits (build ∷ []) run in
     let built = build_step cut.0 cut.2.0 build is cut.2.1 in
     subst (Stays s) (sym cut.2.2) (then_stays s cut.0 cut.2.0 (edits_stay parts edits s cut.0 are cut.1).0 built.0)
 
 -- a round whose table is too large is legal
-pub full_legal : (parts : List Component) (exchanges : List Exchange) (s t : State) → IsFullScript parts exchanges → Run s exchanges t → IsLegal exchanges
+pub full_legal : (parts : List Component) (exchanges : List Exchange) (s t : State) → IsFullScript parts exchanges → Runs s exchanges t → IsLegal exchanges
 full_legal parts exchanges s t w run =
-    let cut = Run-split s t w.edits (w.build ∷ []) (subst (λ xs. Run s xs t) w.in_order run) in
+    let cut = Run-split s t w.edits (w.build ∷ []) (subst (λ xs. Runs s xs t) w.in_order run) in
     let built = build_step cut.0 cut.2.0 w.build w.build_is.0 cut.2.1 in
     subst IsLegal (sym w.in_order) (all_both IsLegalExchange w.edits (w.build ∷ []) (edits_stay parts w.edits s cut.0 w.edits_are cut.1).1 (built.1, tt))
 
@@ -181,7 +181,7 @@ pub record Led (sure : Sequent → Type 0) (s t : State) (xs exchanges : List Ex
 
 module _ (answers : Sequent → Attempt → Type 0) (sure : Sequent → Type 0) where
   begun : (parts : List Component) (edits : List Exchange) (build : Exchange) (turns : List Exchange) (s t : State) (xs : List Exchange) → AtRest sure s xs →
-      AreEdits parts edits → build.event ≡ Build → IsBuiltReply build.reply → AreTurns answers sure turns → Run s (edits ++ build ∷ turns) t → Begun sure s t xs (edits ++ build ∷ turns)
+      AreEdits parts edits → build.event ≡ Build → IsBuiltReply build.reply → AreTurns answers sure turns → Runs s (edits ++ build ∷ turns) t → Begun sure s t xs (edits ++ build ∷ turns)
   begun parts edits build turns s t xs rest are is replied turned run =
       let cut = Run-split s t edits (build ∷ turns) run in
       let m = cut.2.0 in
@@ -208,19 +208,19 @@ module _ (answers : Sequent → Attempt → Type 0) (sure : Sequent → Type 0) 
 
   -- a front of a round is legal
   pub front_legal : (parts : List Component) (questions : List Question) (exchanges : List Exchange) (s t : State) (xs : List Exchange) → AtRest sure s xs → AllByRecursion IsSimple questions →
-      IsRoundFront answers sure parts questions exchanges → Run s exchanges t → IsLegal exchanges
+      IsRoundFront answers sure parts questions exchanges → Runs s exchanges t → IsLegal exchanges
   front_legal parts questions exchanges s t xs rest simple (inl are) run = first_edits_legal parts exchanges s t are run
   front_legal parts questions exchanges s t xs rest simple (inr (edits, build, turns, end, in_order, are, is, replied, turned, ends)) run =
-      let cut = Run-split s t (edits ++ build ∷ turns) end (subst (λ ys. Run s ys t) in_order run) in
+      let cut = Run-split s t (edits ++ build ∷ turns) end (subst (λ ys. Runs s ys t) in_order run) in
       let begins = begun parts edits build turns s cut.0 xs rest are is replied turned cut.1 in
       subst IsLegal (sym in_order) (all_both IsLegalExchange (edits ++ build ∷ turns) end begins.legal (end_legal questions end cut.0 t simple ends cut.2))
 
   pub round_leads : DecidesSequents → (parts : List Component) (numbers : Numbers) (questions : List Question) (asked exchanges : List Exchange) (s t : State) (xs : List Exchange) → AtRest sure s xs →
-      AllByRecursion IsSimple questions → AreFirstAsks questions asked → IsRound answers sure parts numbers asked exchanges → Run s exchanges t → Led sure s t xs exchanges
+      AllByRecursion IsSimple questions → AreFirstAsks questions asked → IsRound answers sure parts numbers asked exchanges → Runs s exchanges t → Led sure s t xs exchanges
   round_leads decides parts numbers questions asked exchanges s t xs rest simple asks w run =
       let front = w.edits ++ w.build ∷ w.turns in
       let end = w.nothing ∷ asked in
-      let cut = Run-split s t front end (subst (λ ys. Run s ys t) w.in_order run) in
+      let cut = Run-split s t front end (subst (λ ys. Runs s ys t) w.in_order run) in
       let m = cut.0 in
       let k = cut.2.0 in
       let begins = begun parts w.edits w.build w.turns s m xs rest w.edits_are w.build_is.0 (numbers.components, numbers.faulted, numbers.obligations, w.build_is.1) w.turns_are cut.1 in

@@ -14,7 +14,7 @@ use Rattle.core_steps.specs.declared.Question.{Question}
 use Rattle.core_steps.specs.declared.Question.TheVariants.{Statuses as AskStatuses}
 use Rattle.core_steps.specs.Laws.{EntersAll, DecidesSequents}
 use Rattle.core_steps.specs.State.{State, opened, no_texts}
-use Rattle.core_steps.specs.Run.{Exchange, Run, IsLegal}
+use Rattle.core_steps.specs.Run.{Exchange, Runs, IsLegal}
 use Rattle.core_steps.proofs.Alls.{all_both}
 use Rattle.check_input.specs.Inputs.{Component}
 use Rattle.rodin_cli.specs.declared.demo.Counted.{Counted}
@@ -151,7 +151,7 @@ module _ (answers : Sequent → Attempt → Type 0) (sure : Sequent → Type 0) 
       front_of_round answers sure (edited_in round) w.numbers one_ask (w.statuses ∷ []) exchanges (w.statuses_is.0, tt) w.whole
 
   count_leads : DecidesSequents → (round : Round) (counted : Counted) (exchanges : List Exchange) (s t : State) (xs : List Exchange) → AtRest sure s xs →
-      Counts answers sure round counted exchanges → Run s exchanges t → Led sure s t xs exchanges
+      Counts answers sure round counted exchanges → Runs s exchanges t → Led sure s t xs exchanges
   count_leads decides round counted exchanges s t xs rest w run =
       round_leads answers sure decides (edited_in round) w.numbers one_ask (w.statuses ∷ []) exchanges s t xs rest simple (w.statuses_is.0, tt) w.whole run
 
@@ -214,7 +214,7 @@ module _ (answers : Sequent → Attempt → Type 0) (sure : Sequent → Type 0) 
       first = first_led counted done w p
 
       lasts : b.core.durable ≡ lasting done
-      lasts = run_folds enters (opened no_texts) b.core done (subst (λ s. Run s done b.core) empty p.0)
+      lasts = run_folds enters (opened no_texts) b.core done (subst (λ s. Runs s done b.core) empty p.0)
 
       begins : ComesAfter answers sure seed n (Edit n) done (line_after (Models seed n) counted)
       begins = inr (counted, refl, w, subst (λ d. IsComplete sure d done) lasts first.complete, refl)

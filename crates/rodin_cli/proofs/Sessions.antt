@@ -14,29 +14,29 @@ use Rattle.core_steps.specs.declared.Question.{Question}
 use Rattle.core_steps.specs.declared.Question.TheVariants.{Statuses as AskStatuses, Faults as AskFaults}
 use Rattle.core_steps.specs.declared.Reply.{Reply}
 use Rattle.core_steps.specs.declared.Reply.TheVariants.{Built, Nothing}
-use Rattle.core_steps.specs.Outcomes.{Outcome}
+use Rattle.core_steps.specs.Outcomes.{StepOutcome}
 use Rattle.core_steps.specs.State.{State}
 use Rattle.core_steps.specs.Step.{Comes}
-use Rattle.core_steps.specs.Run.{Exchange, Step, Run, history_of}
+use Rattle.core_steps.specs.Run.{Exchange, IsStepOf, Runs, history_of}
 use Rattle.rodin_cli.specs.declared.round.Numbers.{Numbers}
 use Rattle.rodin_cli.specs.declared.session.Session.{Session}
 use Rattle.check_input.specs.Inputs.{Component}
 use Rattle.rodin_cli.specs.Session.{Performs, IsUnchanged, Extends}
 use Rattle.rodin_cli.specs.Script.{AreEdits, AreTurns, AreFirstAsks, IsEndFront, IsRound, IsRoundFront, IsWholeScript, IsFront}
 
-pub Run-both : (a b c : State) (xs ys : List Exchange) → Run a xs b → Run b ys c → Run a (xs ++ ys) c
-Run-both a b c [] ys p q = subst (λ s. Run s ys c) p q
+pub Run-both : (a b c : State) (xs ys : List Exchange) → Runs a xs b → Runs b ys c → Runs a (xs ++ ys) c
+Run-both a b c [] ys p q = subst (λ s. Runs s ys c) p q
 Run-both a b c (x ∷ xs) ys p q = (p.0, p.1, Run-both p.0 b c xs ys p.2 q)
 
-pub Run-split : (a b : State) (xs ys : List Exchange) → Run a (xs ++ ys) b → (s : State) × Run a xs s × Run s ys b
+pub Run-split : (a b : State) (xs ys : List Exchange) → Runs a (xs ++ ys) b → (s : State) × Runs a xs s × Runs s ys b
 Run-split a b [] ys r = (a, refl, r)
 Run-split a b (x ∷ xs) ys r = let t = Run-split r.0 b xs ys r.2 in (t.0, (r.0, r.1, t.1), t.2)
 
 -- what comes of the event of an exchange
-abbrev pub outcome : Exchange → State → Outcome
+abbrev pub outcome : Exchange → State → StepOutcome
 outcome x new = record { reply = x.reply; entry = x.entry; new = new }
 
-pub comes : (s t : State) (x : Exchange) (event : Event) → x.event ≡ event → Step s x t → Comes s event (outcome x t)
+pub comes : (s t : State) (x : Exchange) (event : Event) → x.event ≡ event → IsStepOf s x t → Comes s event (outcome x t)
 comes s t x event is step = subst (λ e. Comes s e (outcome x t)) is step
 
 pub performed : (old new : Session) (event : Event) (reply : Reply) → Performs old event reply new →

@@ -18,7 +18,7 @@ use Rattle.core_steps.specs.Status.{IsRebuilt}
 use Rattle.core_steps.specs.Faults.{AreFaults, AreWarnings}
 use Rattle.core_steps.specs.Table.{IsTable}
 use Rattle.core_steps.specs.State.{State, opened, no_texts, after}
-use Rattle.core_steps.specs.Run.{Exchange, Run, IsLegal, history_of}
+use Rattle.core_steps.specs.Run.{Exchange, Runs, IsLegal, history_of}
 use Rattle.rodin_cli.specs.declared.outcome.Part.{Part}
 use Rattle.session_streams.specs.Streams.{Reading, Writing, SourceFailed, Writes, WritesCut, WritesNothing}
 use Rattle.session_ends.specs.Written.{WritesOrFails}
@@ -34,7 +34,7 @@ use Rattle.rodin_cli.specs.Completeness.{IsComplete}
 -- entries.
 pub record LeadsToPart (part : Part) (exchanges : List Exchange) : Type 0 where
   pub state : State
-  pub run : Run (opened no_texts) exchanges state
+  pub run : Runs (opened no_texts) exchanges state
   pub legal : IsLegal exchanges
   pub history : part.history.items ≡ history_of 0 exchanges
   pub last : part.last ≡ after no_texts (map (λ x. x.entry) exchanges)

@@ -9,7 +9,7 @@ use Rattle.core_steps.specs.declared.Durable.{Durable}
 use Rattle.core_steps.specs.declared.Event.{Event}
 use Rattle.core_steps.specs.Laws.{EntersAll, TellsTheRebuilt, TellsRebuilt}
 use Rattle.core_steps.specs.State.{State, opened, after}
-use Rattle.core_steps.specs.Run.{Exchange, Run}
+use Rattle.core_steps.specs.Run.{Exchange, Runs}
 use Rattle.store_log.specs.declared.Logged.{Logged}
 use Rattle.store_log.specs.declared.StoreBase.{StoreBase}
 use Rattle.store_log.specs.History.{exchanges_of, events_of}
@@ -37,7 +37,7 @@ use Rattle.session_ends.proofs.Endings.{by_none, by_some}
 -- THE RUN
 
 -- what lasts is the fold of the entries
-folds : EntersAll → (xs : List Exchange) (s t : State) → Run s xs t → t.durable ≡ after s.durable (map (λ x. x.entry) xs)
+folds : EntersAll → (xs : List Exchange) (s t : State) → Runs s xs t → t.durable ≡ after s.durable (map (λ x. x.entry) xs)
 folds law [] s t run = ap (λ z. z.durable) run
 folds law (x ∷ xs) s t (m, step, rest) = folds law xs m t rest ∙ ap (λ d. after d (map (λ y. y.entry) xs)) (law s x.event x.reply x.entry m step)
 

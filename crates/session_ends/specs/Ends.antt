@@ -7,7 +7,7 @@ use Rattle.core_steps.specs.declared.durable.Durable.{Durable}
 use Rattle.core_steps.specs.declared.events.Event.{Event}
 use Rattle.core_steps.specs.Laws.{TellsRebuilt}
 use Rattle.core_steps.specs.State.{State, opened, after}
-use Rattle.core_steps.specs.Run.{Exchange, Run, IsLegal}
+use Rattle.core_steps.specs.Run.{Exchange, Runs, IsLegal}
 use Rattle.session_lines.specs.declared.command.Command.{Command}
 use Rattle.session_words.specs.declared.line.Line.{Line}
 use Rattle.session_words.specs.declared.line.Line.TheVariants.{Quit, CutEdit}
@@ -24,7 +24,7 @@ use Rattle.session_ends.specs.Written.{WritesThen, WritesUpTo}
 abbrev pub IsClean : Durable → List Exchange → Type 0
 IsClean d xs =
     (before : List Exchange) (x : Exchange) (behind : List Exchange) (s : State) → xs ≡ before ++ x ∷ behind →
-    Run (opened d) (before ++ x ∷ []) s → TellsRebuilt s.durable x.reply
+    Runs (opened d) (before ++ x ∷ []) s → TellsRebuilt s.durable x.reply
 
 -- the line that was begun, if one was, is the next one
 abbrev pub IsAt : List Command → Option (Line × Next) → Type 0
@@ -67,7 +67,7 @@ module _ (fair : Sequent → Attempt → Type 0) (sure : Sequent → Type 0) (wo
   pub record HasHistory
       (d : Durable) (history : List (ℕ × Event)) (last : Durable) (xs : List (ℕ × Exchange)) (s : State) :
       Type 0 where
-    pub run : Run (opened d) (exchanges_of xs) s
+    pub run : Runs (opened d) (exchanges_of xs) s
     pub legal : IsLegal (exchanges_of xs)
     pub events : history ≡ events_of xs
     pub lasts : last ≡ s.durable

@@ -25,7 +25,7 @@ use Rattle.core_steps.specs.Step.{Does}
 use Rattle.core_steps.specs.Tickets.{IsFor, IsIdle, IsOpen}
 use Rattle.core_steps.specs.Table.{IsTable}
 use Rattle.core_steps.specs.Status.{IsUnsettledBy}
-use Rattle.core_steps.specs.Run.{Exchange, Step, Run}
+use Rattle.core_steps.specs.Run.{Exchange, IsStepOf, Runs}
 use Rattle.core_steps.proofs.NameMaps.{get_same, get_other}
 use Rattle.core_steps.specs.Laws.{IsOrderly, DecidesSequents}
 use Rattle.session_run.specs.FairRun.{Among, IsFairFinish, FairRun}
@@ -150,7 +150,7 @@ module _ (laws : CoreLaws) (fair : Sequent → Attempt → Type 0) (sure : Seque
             why_more o xs x (knows.tried o (sym (get_other s.tried k.name o.name k.sequent apart) ∙ ap (λ m. get m o.name) (sym e) ∙ has))
       ]
 
-  knows_step : (s t : State) (xs : List Exchange) (x : Exchange) → Knows s xs → Step s x t → IsFairFinish fair s x → Knows t (xs ++ x ∷ [])
+  knows_step : (s t : State) (xs : List Exchange) (x : Exchange) → Knows s xs → IsStepOf s x t → IsFairFinish fair s x → Knows t (xs ++ x ∷ [])
   knows_step s t xs x knows step fairly = let m = moves s t x.event x.reply x.entry step in record {
     orderly = laws.orderly s x.event x.reply x.entry t knows.orderly step;
     taken = taken_step s t xs x knows m;
@@ -192,11 +192,11 @@ module _ (laws : CoreLaws) (fair : Sequent → Attempt → Type 0) (sure : Seque
     fair_cut [] ys s t run = (s, refl, run)
     fair_cut (x ∷ xs) ys s t (m, step, fairly, rest) = let r = fair_cut xs ys m t rest in (r.0, (m, step, fairly, r.1), r.2)
 
-    fair_is_run : (xs : List Exchange) (s t : State) → FairRun fair s xs t → Run s xs t
+    fair_is_run : (xs : List Exchange) (s t : State) → FairRun fair s xs t → Runs s xs t
     fair_is_run [] s t run = run
     fair_is_run (x ∷ xs) s t (m, step, fairly, rest) = (m, step, fair_is_run xs m t rest)
 
-    idle_closed : (s t : State) (x : Exchange) → x.event ≡ Ask AskIdle → x.reply ≡ Idle true → Step s x t → (table : List Obligation) × IsTable s.durable.built table × IsIdle s table
+    idle_closed : (s t : State) (x : Exchange) → x.event ≡ Ask AskIdle → x.reply ≡ Idle true → IsStepOf s x t → (table : List Obligation) × IsTable s.durable.built table × IsIdle s table
     idle_closed s t x e r step = by (subst (λ z. Does s z x.reply x.entry t) e step) where
       by : Does s (Ask AskIdle) x.reply x.entry t → (table : List Obligation) × IsTable s.durable.built table × IsIdle s table
       by (table, is, inl d) = (table, is, d.0)

@@ -12,7 +12,7 @@ use Rattle.core_steps.specs.declared.Event.TheVariants.{Finish}
 use Rattle.core_steps.specs.declared.Reply.{Reply}
 use Rattle.core_steps.specs.declared.Reply.TheVariants.{Taken, NoTicket}
 use Rattle.core_steps.specs.State.{State}
-use Rattle.core_steps.specs.Run.{Exchange, Step, Run, IsLegal}
+use Rattle.core_steps.specs.Run.{Exchange, IsStepOf, Runs, IsLegal}
 use Rattle.core_steps.specs.Laws.{AreApart, IsOrderly}
 use Rattle.session_run.specs.FairRun.{Among, IsFairFinish, FairRun}
 use Rattle.store_log.specs.History.{exchanges_of, own}
@@ -196,7 +196,7 @@ module _ (fair : Sequent → Attempt → Type 0) where
     pub out : (k : ℕ) (u : Ticket) → f k ≡ Some u → Among u t.out
 
   module _ (laws : CoreLaws) where
-    fair_from : (xs : List (ℕ × Exchange)) (s t : State) (h f : ℕ → Option Ticket) → Holds s h → Run s (exchanges_of xs) t → ((k : ℕ) → Hands (h k) (own k xs) (f k)) →
+    fair_from : (xs : List (ℕ × Exchange)) (s t : State) (h f : ℕ → Option Ticket) → Holds s h → Runs s (exchanges_of xs) t → ((k : ℕ) → Hands (h k) (own k xs) (f k)) →
         EndsFairly s t (exchanges_of xs) f
     fair_from [] s t h f holds run all = record { fair_run = run; out = λ k u is. subst (λ z. Among u z.out) (sym run) (holds.out k u (sym (all k) ∙ is)) }
     fair_from ((j, x) ∷ xs) s t h f holds (m, step, rest) all =
@@ -217,7 +217,7 @@ module _ (fair : Sequent → Attempt → Type 0) where
               record { fair_run = (m, step, fair_finish s x v a (holds.out j v has) is good, rest'.fair_run); out = rest'.out }
 
     -- a run in which each chair finishes what it took, directly after, is fair
-    pub ends_fairly : (xs : List (ℕ × Exchange)) (s t : State) (f : ℕ → Option Ticket) → s.out ≡ [] → Run s (exchanges_of xs) t → ((k : ℕ) → Hands None (own k xs) (f k)) →
+    pub ends_fairly : (xs : List (ℕ × Exchange)) (s t : State) (f : ℕ → Option Ticket) → s.out ≡ [] → Runs s (exchanges_of xs) t → ((k : ℕ) → Hands None (own k xs) (f k)) →
         EndsFairly s t (exchanges_of xs) f
     ends_fairly xs s t f out run all = fair_from xs s t (λ k. None) f
         (record {
@@ -227,7 +227,7 @@ module _ (fair : Sequent → Attempt → Type 0) where
         })
         run all
 
-  legal_step : (s t : State) (x : Exchange) → Step s x t → IsFairFinish fair s x → (n : ℕ) → x.reply ≢ NoTicket n
+  legal_step : (s t : State) (x : Exchange) → IsStepOf s x t → IsFairFinish fair s x → (n : ℕ) → x.reply ≢ NoTicket n
   legal_step s t x step good n is = by (moves s t x.event x.reply x.entry step) where
     by : Moves s t x.event x.reply → ⊥
     by (gives like unlike k taken number out next tried) = let no_ : Taken k ≡ NoTicket n = sym taken ∙ is in cc
@@ -251,7 +251,7 @@ gives_by_takes s t e r (takes_in n a is before k behind cut numbered out next pl
 gives_by_takes s t e r (misses n a is none same told) other = ap given told
 gives_by_takes s t e r (stays unlike out next plain tried) other = plain_gives_none r plain
 
-pub takes_give : (xs : List Exchange) (s t : State) → Run s xs t → GivesByTakes xs
+pub takes_give : (xs : List Exchange) (s t : State) → Runs s xs t → GivesByTakes xs
 takes_give [] s t run = tt
 takes_give (x ∷ xs) s t (m, step, rest) = (gives_by_takes s m x.event x.reply (moves s m x.event x.reply x.entry step), takes_give xs m t rest)
 

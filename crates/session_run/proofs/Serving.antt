@@ -14,7 +14,7 @@ use Rattle.core_steps.specs.declared.Event.TheVariants.{Take, Finish}
 use Rattle.core_steps.specs.declared.Reply.{Reply}
 use Rattle.core_steps.specs.State.{State, opened}
 use Rattle.core_steps.specs.Step.{Does, take_reply}
-use Rattle.core_steps.specs.Run.{Exchange, Step, Run}
+use Rattle.core_steps.specs.Run.{Exchange, IsStepOf, Runs}
 use Rattle.turn_desk.specs.Log.{entries_of}
 use Rattle.prover_pool.specs.Shift.{Stage, fresh, free, owes, stopped, after_take, MayTake, Shift, begins, others, takes, finishes, take_stops, finish_stops}
 use Rattle.store_log.specs.declared.Logged.{Logged}
@@ -99,13 +99,13 @@ pub record Cut (base : StoreBase) (log last : List Logged) (xs : List (ℕ × Ex
   pub first : plain log ≡ map done before
   pub second : plain last ≡ map done behind
   pub at : State
-  pub run : Run (opened base.durable) (exchanges_of before) at
-  pub rest : Run at (exchanges_of behind) s
+  pub run : Runs (opened base.durable) (exchanges_of before) at
+  pub rest : Runs at (exchanges_of behind) s
 
-pub cut_log : (base : StoreBase) (log last : List Logged) (xs : List (ℕ × Exchange)) (s : State) → plain (log ++ last) ≡ map done xs → Run (opened base.durable) (exchanges_of xs) s → Cut base log last xs s
+pub cut_log : (base : StoreBase) (log last : List Logged) (xs : List (ℕ × Exchange)) (s : State) → plain (log ++ last) ≡ map done xs → Runs (opened base.durable) (exchanges_of xs) s → Cut base log last xs s
 cut_log base log last xs s is run =
     let (us, bs, whole, first, second) = map_cut done xs (plain log) (plain last) (sym (plain_both log last) ∙ is) in
-    let r = run_cut (opened base.durable) s (exchanges_of us) (exchanges_of bs) (subst (λ l. Run (opened base.durable) l s) (ap exchanges_of whole ∙ exchanges_both us bs) run) in
+    let r = run_cut (opened base.durable) s (exchanges_of us) (exchanges_of bs) (subst (λ l. Runs (opened base.durable) l s) (ap exchanges_of whole ∙ exchanges_both us bs) run) in
     record { before = us; behind = bs; whole = whole; first = first; second = second; at = r.0; run = r.1; rest = r.2 }
 
 -- the same, where the last part is one entry
@@ -117,19 +117,19 @@ pub record CutOne (base : StoreBase) (log : List Logged) (e : Logged) (xs : List
   pub is : e ≡ done x
   pub at : State
   pub now : State
-  pub run : Run (opened base.durable) (exchanges_of before) at
-  pub step : Step at x.1 now
+  pub run : Runs (opened base.durable) (exchanges_of before) at
+  pub step : IsStepOf at x.1 now
 
-pub cut_one : (base : StoreBase) (log : List Logged) (e : Logged) (xs : List (ℕ × Exchange)) (s : State) → e.failed ≡ false → plain (log ++ e ∷ []) ≡ map done xs → Run (opened base.durable) (exchanges_of xs) s → CutOne base log e xs s
+pub cut_one : (base : StoreBase) (log : List Logged) (e : Logged) (xs : List (ℕ × Exchange)) (s : State) → e.failed ≡ false → plain (log ++ e ∷ []) ≡ map done xs → Runs (opened base.durable) (exchanges_of xs) s → CutOne base log e xs s
 cut_one base log e xs s counts is run =
     let c = cut_log base log (e ∷ []) xs s is run in
     let (x, one, same) = one_map e c.behind (sym (plain_one e counts) ∙ c.second) in
-    let r = subst (λ l. Run c.at (exchanges_of l) s) one c.rest in
+    let r = subst (λ l. Runs c.at (exchanges_of l) s) one c.rest in
     record { before = c.before; x = x; whole = c.whole ∙ ap (λ l. c.before ++ l) one; first = c.first; is = same; at = c.at; now = r.0; run = c.run; step = r.1 }
 
 module _ (laws : CoreLaws) where
   -- the same log has one state
-  pub same_state : (base : StoreBase) (xs ys : List (ℕ × Exchange)) (s t : State) → map done xs ≡ map done ys → Run (opened base.durable) (exchanges_of xs) s → Run (opened base.durable) (exchanges_of ys) t → (exchanges_of xs ≡ exchanges_of ys) × (s ≡ t)
+  pub same_state : (base : StoreBase) (xs ys : List (ℕ × Exchange)) (s t : State) → map done xs ≡ map done ys → Runs (opened base.durable) (exchanges_of xs) s → Runs (opened base.durable) (exchanges_of ys) t → (exchanges_of xs ≡ exchanges_of ys) × (s ≡ t)
   same_state base xs ys s t same first second =
       one_run laws (opened base.durable) s t (exchanges_of xs) (exchanges_of ys) (opened_orderly base.durable)
       (sym (events_done xs) ∙ (ap (map (λ (e : Logged). e.event)) same ∙ events_done ys)) first second
@@ -171,7 +171,7 @@ module _ (laws : CoreLaws) where
     own_cut log e xs s c chair = ap (own k) c.whole ∙ own_last k c.before c.x (sym (ap (λ (z : Logged). z.chair) c.is) ∙ chair)
 
     pub serving : {n : ℕ} {log : List Logged} {st : Stage} → Shift chair_of store_meaning fair base k [] n log st → (xs : List (ℕ × Exchange)) (s : State) →
-        plain log ≡ map done xs → Run (opened base.durable) (exchanges_of xs) s → Stands st (own k xs)
+        plain log ≡ map done xs → Runs (opened base.durable) (exchanges_of xs) s → Stands st (own k xs)
     serving begins [] s is run = refl
     serving begins (x ∷ xs) s is run = cc
     serving {st = st} (others {log = log} shift more quiet) xs s is run =

@@ -23,9 +23,9 @@ use Rattle.core_steps.specs.declared.Question.TheVariants.{Statuses as AskStatus
 use Rattle.core_steps.specs.declared.Reply.{Reply}
 use Rattle.core_steps.specs.declared.Reply.TheVariants.{Taken, NoTicket}
 use Rattle.core_steps.specs.State.{State}
-use Rattle.core_steps.specs.Outcomes.{Outcome, told, entering, Where, Unless}
+use Rattle.core_steps.specs.Outcomes.{StepOutcome, told, entering, Where, Unless}
 use Rattle.core_steps.specs.Proving.{OnObligation, stored_tree, Keeps, Puts, StepsAt, PrunesAt, ShowsAt}
-use Rattle.core_steps.specs.Tickets.{taking, ticket_for, Ends}
+use Rattle.core_steps.specs.Tickets.{taking, ticket_for, EndsTicket}
 use Rattle.core_steps.specs.Step.{Tells, ComesBeside, Does}
 
 -- neither a ticket that is given, nor that none such is out
@@ -70,7 +70,7 @@ match_any : {X C P : Type 0} {Q : X → Type 0} (found : Option X) → (P → C)
 match_any None f g x = f x
 match_any (Some v) f g x = g v x
 
-module _ (s : State) (x : Outcome) (e : Event) (quiet : is_finish e ≡ false) where
+module _ (s : State) (x : StepOutcome) (e : Event) (quiet : is_finish e ≡ false) where
   abbrev M : Type 0
   M = Moves s x.new e x.reply
 
@@ -109,7 +109,7 @@ module _ (s : State) (x : Outcome) (e : Event) (quiet : is_finish e ≡ false) w
   shows_at name (Some path) q a =
       unless_any (tell _ refl) (match_any (leaf_at path (stored_tree s.durable.proofs name) q) (tell _ refl) (λ leaf b. tell _ refl b.2)) a
 
-question_moves : (s : State) (x : Outcome) (table : List Obligation) (question : Question) → Tells s table question x → Moves s x.new (Ask question) x.reply
+question_moves : (s : State) (x : StepOutcome) (table : List Obligation) (question : Question) → Tells s table question x → Moves s x.new (Ask question) x.reply
 question_moves s x table AskStatuses a = tell s x (Ask AskStatuses) refl _ refl a.2
 question_moves s x table AskFaults a = tell s x (Ask AskFaults) refl _ refl a.4
 question_moves s x table (Show name path) a = on_obligation s x (Ask (Show name path)) refl table name _ (λ q. shows_at s x (Ask (Show name path)) refl name path q) a
@@ -117,23 +117,23 @@ question_moves s x table (TreeOf name) a = on_obligation s x (Ask (TreeOf name))
 question_moves s x table AskDigest a = tell s x (Ask AskDigest) refl _ refl a
 question_moves s x table AskIdle a = where_any (tell s x (Ask AskIdle) refl _ refl) (tell s x (Ask AskIdle) refl _ refl) a
 
-record Ended (s : State) (x : Outcome) (k : Ticket) (a : Attempt) : Type 0 where
+record Ended (s : State) (x : StepOutcome) (k : Ticket) (a : Attempt) : Type 0 where
   out : x.new.out ≡ s.out
   next : x.new.next ≡ s.next
   plain : is_plain x.reply ≡ true
   tried : (x.new.tried ≡ s.tried) ⊎ ((x.new.tried ≡ insert s.tried k.name k.sequent) × Failed a k.sequent)
 
-ended : (s : State) (x z : Outcome) (k : Ticket) (a : Attempt) → x ≡ z → Ended s z k a → Ended s x k a
+ended : (s : State) (x z : StepOutcome) (k : Ticket) (a : Attempt) → x ≡ z → Ended s z k a → Ended s x k a
 ended s x z k a is e = subst (λ y. Ended s y k a) (sym is) e
 
-ends : (s : State) (x : Outcome) (k : Ticket) (q : Option Sequent) (a : Attempt) → Ends s k q a x → Ended s x k a
+ends : (s : State) (x : StepOutcome) (k : Ticket) (q : Option Sequent) (a : Attempt) → EndsTicket s k q a x → Ended s x k a
 ends s x k q NoProof e = ended s x _ k NoProof e.2 (record { out = refl; next = refl; plain = refl; tried = inr (refl, tt) })
 ends s x k q AttemptNoMemory e = ended s x _ k AttemptNoMemory e.2 (record { out = refl; next = refl; plain = refl; tried = inr (refl, tt) })
 ends s x k q (Found tree) (status, shown, inl d) = ended s x _ k (Found tree) d.1 (record { out = refl; next = refl; plain = refl; tried = inl refl })
 ends s x k q (Found tree) (status, shown, inr (cannot, inl d)) = ended s x _ k (Found tree) d.1 (record { out = refl; next = refl; plain = refl; tried = inl refl })
 ends s x k q (Found tree) (status, shown, inr (cannot, inr d)) = ended s x _ k (Found tree) d.1 (record { out = refl; next = refl; plain = refl; tried = inr (refl, d.0) })
 
-beside : (s : State) (x : Outcome) (table : List Obligation) (event : Event) → ComesBeside s table event x → Moves s x.new event x.reply
+beside : (s : State) (x : StepOutcome) (table : List Obligation) (event : Event) → ComesBeside s table event x → Moves s x.new event x.reply
 beside s x table (Edit name text) a =
     let e = Edit name text in
     unless_any (tell s x e refl _ refl) (where_any (tell s x e refl _ refl) (where_any (tell s x e refl _ refl) (enter s x e refl _ _ refl))) a

@@ -6,7 +6,7 @@ use Rattle.sequent_core.specs.declared.Attempt.{Attempt}
 use Rattle.core_steps.specs.declared.Event.{Event}
 use Rattle.core_steps.specs.declared.Reply.{Reply}
 use Rattle.core_steps.specs.State.{State, opened}
-use Rattle.core_steps.specs.Run.{Exchange, Run}
+use Rattle.core_steps.specs.Run.{Exchange, Runs}
 use Rattle.turn_desk.specs.Log.{entries_of, HasSeen}
 use Rattle.turn_desk.proofs.Logs.{rest_quiet, seen_then}
 use Rattle.session_words.specs.declared.Line.{Line}
@@ -50,7 +50,7 @@ paired (u ∷ us) (v ∷ vs) e f =
 module _ (laws : CoreLaws) (base : StoreBase) where
   -- what a chair had done in the log that it had seen is what it has done in a log that goes on from there
   pub hears : (k : ℕ) (seen found : List Logged) (us xs : List (ℕ × Exchange)) (s t : State) → IsLogOf base seen us s → HasSeen chair_of k seen found → plain found ≡ map done xs →
-      Run (opened base.durable) (exchanges_of xs) t → own k xs ≡ own k us
+      Runs (opened base.durable) (exchanges_of xs) t → own k xs ≡ own k us
   hears k seen found us xs s t of has is run =
       let rest = has.0.0 in
       let quiet = rest_quiet chair_of k seen rest (ap (entries_of chair_of k) (sym has.0.1) ∙ has.1) in
@@ -65,7 +65,7 @@ module _ (laws : CoreLaws) (base : StoreBase) where
   grown chair event reply found left p =
       let x : Exchange = record { event = event; reply = reply; entry = p.entry } in record {
         entries = p.adds ∙ (ap (λ l. l ++ done (chair, x) ∷ []) p.log.entries ∙ sym (map-append done p.xs ((chair, x) ∷ [])));
-        run = subst (λ l. Run (opened base.durable) l p.now) (sym (exchanges_both p.xs ((chair, x) ∷ [])))
+        run = subst (λ l. Runs (opened base.durable) l p.now) (sym (exchanges_both p.xs ((chair, x) ∷ [])))
             (run_both (opened base.durable) p.before p.now (exchanges_of p.xs) (x ∷ []) p.log.run (p.now, p.step, refl));
       }
 
@@ -118,11 +118,11 @@ module _ (laws : CoreLaws) (base : StoreBase) where
 
     -- what was so of the log that chair 0 had seen is so of the last log
     pub talk_stands : (seen log : List Logged) (lines : List Line) (text : List ℕ) (xs : List (ℕ × Exchange)) (t : State) → HasTalked fair base seen lines text →
-        HasSeen chair_of 0 seen log → plain log ≡ map done xs → Run (opened base.durable) (exchanges_of xs) t → Dialogue fair lines (own 0 xs) text
+        HasSeen chair_of 0 seen log → plain log ≡ map done xs → Runs (opened base.durable) (exchanges_of xs) t → Dialogue fair lines (own 0 xs) text
     talk_stands seen log lines text xs t h has is run =
         subst (λ l. Dialogue fair lines l text) (sym (hears 0 seen log h.xs xs h.state t h.log has is run)) h.dialogue
 
     pub talking_stands : (seen log : List Logged) (lines : List Line) (text : List ℕ) (line : Line) (next : Next) (xs : List (ℕ × Exchange)) (t : State) → IsTalking fair base seen lines text line next →
-        HasSeen chair_of 0 seen log → plain log ≡ map done xs → Run (opened base.durable) (exchanges_of xs) t → IsPartway fair lines line (own 0 xs) text next
+        HasSeen chair_of 0 seen log → plain log ≡ map done xs → Runs (opened base.durable) (exchanges_of xs) t → IsPartway fair lines line (own 0 xs) text next
     talking_stands seen log lines text line next xs t h has is run =
         subst (λ l. IsPartway fair lines line l text next) (sym (hears 0 seen log h.xs xs h.state t h.log has is run)) h.within

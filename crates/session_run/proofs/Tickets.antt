@@ -13,7 +13,7 @@ use Rattle.core_steps.specs.declared.Event.TheVariants.{Take}
 use Rattle.core_steps.specs.declared.Reply.{Reply}
 use Rattle.core_steps.specs.declared.Reply.TheVariants.{Nothing, Taken, NoObligation, NotOpen}
 use Rattle.core_steps.specs.Durable.{ProjectMap}
-use Rattle.core_steps.specs.Outcomes.{Outcome}
+use Rattle.core_steps.specs.Outcomes.{StepOutcome}
 use Rattle.core_steps.specs.State.{State}
 use Rattle.core_steps.specs.Table.{IsTable}
 use Rattle.core_steps.specs.Tickets.{TakesFirst, TakesNamed, ticket_for}
@@ -29,13 +29,13 @@ IsTyped o = IsSequent o.sequent
 one_ticket : (t k : Ticket) → Taken t ≡ Taken k → t ≡ k
 one_ticket t k e = cc
 
-first_typed : (s : State) (x : Outcome) (table : List Obligation) (t : Ticket) → x.reply ≡ Taken t → AreSequents table → TakesFirst s table x → IsSequent t.sequent
+first_typed : (s : State) (x : StepOutcome) (table : List Obligation) (t : Ticket) → x.reply ≡ Taken t → AreSequents table → TakesFirst s table x → IsSequent t.sequent
 first_typed s x table t is all (inl (closed, none)) = let wrong : Taken t ≡ Nothing = sym is ∙ ap (λ z. z.reply) none in absurd cc
 first_typed s x table t is all (inr (before, o, behind, cut, closed, opens, takes)) =
     let typed : IsSequent o.sequent = (all_last IsTyped before (o ∷ behind) (subst (AllByRecursion IsTyped) cut all)).0 in
     subst (λ (k : Ticket). IsSequent k.sequent) (sym (one_ticket t (ticket_for s.next o) (sym is ∙ ap (λ z. z.reply) takes))) typed
 
-named_typed : (s : State) (x : Outcome) (table : List Obligation) (name : List ℕ) (t : Ticket) → x.reply ≡ Taken t → AreSequents table → TakesNamed s table name x → IsSequent t.sequent
+named_typed : (s : State) (x : StepOutcome) (table : List Obligation) (name : List ℕ) (t : Ticket) → x.reply ≡ Taken t → AreSequents table → TakesNamed s table name x → IsSequent t.sequent
 named_typed s x table name t is all (inl (none, told)) = let wrong : Taken t ≡ NoObligation name = sym is ∙ ap (λ z. z.reply) told in absurd cc
 named_typed s x table name t is all (inr (q, (before, behind, cut, first), inl (can, takes))) =
     let o : Obligation = record { name = name; sequent = q } in

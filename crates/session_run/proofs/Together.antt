@@ -15,7 +15,7 @@ use Rattle.core_steps.specs.declared.Event.TheVariants.{Take, Finish}
 use Rattle.core_steps.specs.declared.Reply.{Reply}
 use Rattle.core_steps.specs.declared.Reply.TheVariants.{Taken}
 use Rattle.core_steps.specs.State.{State, opened}
-use Rattle.core_steps.specs.Run.{Exchange, Run}
+use Rattle.core_steps.specs.Run.{Exchange, Runs}
 use Rattle.core_steps.proofs.Alls.{all_first, all_last}
 use Rattle.turn_desk.specs.Log.{entries_of}
 use Rattle.prover_pool.specs.Work.{EndsMarked}
@@ -127,7 +127,7 @@ module _ (laws : CoreLaws) (fair : Sequent → Attempt → Type 0) (base : Store
   Fails event ys = (event ≡ Take None) ⊎ ((t : Ticket) × (a : Attempt) × Works fair ys (Some t) × (event ≡ Finish t.number a) × fair t.sequent a)
 
   failing : {n : ℕ} {log : List Logged} {st : Stage} → Shift chair_of store_meaning fair base k [] n log st → (before : List Logged) (e : Logged) → log ≡ before ++ e ∷ [] → e.failed ≡ true → e.chair ≡ k →
-      (xs : List (ℕ × Exchange)) (s : State) → plain log ≡ map done xs → Run (opened base.durable) (exchanges_of xs) s → Fails e.event (own k xs)
+      (xs : List (ℕ × Exchange)) (s : State) → plain log ≡ map done xs → Runs (opened base.durable) (exchanges_of xs) s → Fails e.event (own k xs)
   failing no_shift before e cut marked chair xs s is run = absurd (not_empty before e (sym cut))
   failing (others {log = log} shift more quiet) before e cut marked chair xs s is run = by (last_part log more before e cut) (λ c i. failing shift before e c marked chair xs s i run) where
     by : (more ≡ []) ⊎ ((b : List Logged) × (more ≡ b ++ e ∷ [])) → (log ≡ before ++ e ∷ [] → plain log ≡ map done xs → Fails e.event (own k xs)) → Fails e.event (own k xs)

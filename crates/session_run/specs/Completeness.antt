@@ -13,7 +13,7 @@ use Rattle.core_steps.specs.Status.{IsUnsettledBy}
 use Rattle.core_steps.specs.Table.{IsTable}
 use Rattle.core_steps.specs.Tickets.{IsFor}
 use Rattle.core_steps.specs.State.{State, opened}
-use Rattle.core_steps.specs.Run.{Exchange, Run}
+use Rattle.core_steps.specs.Run.{Exchange, Runs}
 
 -- Memory ran out over the obligation: its sequent was taken under its name, and this ticket was finished later so.
 pub record RanOutOver (o : Obligation) (xs : List Exchange) : Type 0 where
@@ -37,5 +37,5 @@ LeavesNothingSure sure d xs =
 -- it is so at each place of a history where the answer was that all is idle
 abbrev pub IsCompleteWhenIdle : (Sequent → Type 0) → Durable → List Exchange → Type 0
 IsCompleteWhenIdle sure d xs =
-    (before : List Exchange) (x : Exchange) (behind : List Exchange) (s : State) → xs ≡ before ++ x ∷ behind → Run (opened d) before s
+    (before : List Exchange) (x : Exchange) (behind : List Exchange) (s : State) → xs ≡ before ++ x ∷ behind → Runs (opened d) before s
     → x.event ≡ Ask AskIdle → x.reply ≡ Idle true → LeavesNothingSure sure s.durable before

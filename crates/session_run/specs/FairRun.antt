@@ -5,7 +5,7 @@ use Rattle.sequent_core.specs.declared.Ticket.{Ticket}
 use Rattle.sequent_core.specs.declared.Attempt.{Attempt}
 use Rattle.core_steps.specs.declared.Event.TheVariants.{Finish}
 use Rattle.core_steps.specs.State.{State}
-use Rattle.core_steps.specs.Run.{Exchange, Step}
+use Rattle.core_steps.specs.Run.{Exchange, IsStepOf}
 
 -- the ticket is one of these
 abbrev pub Among : Ticket → List Ticket → Type 0
@@ -18,4 +18,4 @@ module _ (fair : Sequent → Attempt → Type 0) where
 
   abbrev pub FairRun : State → List Exchange → State → Type 0
   FairRun old [] new = new ≡ old
-  FairRun old (x ∷ xs) new = (mid : State) × Step old x mid × IsFairFinish old x × FairRun mid xs new
+  FairRun old (x ∷ xs) new = (mid : State) × IsStepOf old x mid × IsFairFinish old x × FairRun mid xs new

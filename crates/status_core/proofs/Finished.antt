@@ -22,7 +22,7 @@ use Rattle.core_steps.specs.State.{State}
 use Rattle.core_steps.specs.Status.{IsStatus}
 use Rattle.core_steps.specs.Table.{IsTable, IsPresent}
 use Rattle.core_steps.specs.Outcomes.{told, entering}
-use Rattle.core_steps.specs.Tickets.{IsPresentStatus, CanStore, Ends, tried_with, by_prover}
+use Rattle.core_steps.specs.Tickets.{IsPresentStatus, CanStore, EndsTicket, tried_with, by_prover}
 use Rattle.core_steps.proofs.Lists.{split}
 use Rattle.core_steps.proofs.NameMaps.{get_same}
 use Rattle.prepared_events.specs.Prepared.{Ready, ComesAs, Prepares, made, tried_of}
@@ -42,21 +42,21 @@ stored_status s name (Some sequent) tree can =
 -- what comes of a ticket that was taken in, with a tree that was found
 module _ (s : State) (ticket : Ticket) (sequent : Option Sequent) (status : Option Status) (tree : Tree) where
   pub ends_stored : CanStore s.durable.proofs ticket.name sequent tree →
-      Ends s ticket sequent (Found tree) (entering s (Stored ticket.name (Some Discharged)) (SetProof ticket.name (by_prover tree)))
+      EndsTicket s ticket sequent (Found tree) (entering s (Stored ticket.name (Some Discharged)) (SetProof ticket.name (by_prover tree)))
   ends_stored can = (Some Discharged, stored_status s ticket.name sequent tree can, inl (can, refl))
 
   pub ends_stale : IsPresentStatus s.durable.proofs ticket.name sequent status → (CanStore s.durable.proofs ticket.name sequent tree → ⊥) → IsGoodTree tree ticket.sequent →
-      Ends s ticket sequent (Found tree) (told s (Stale ticket.name status))
+      EndsTicket s ticket sequent (Found tree) (told s (Stale ticket.name status))
   ends_stale shown cannot good = (status, shown, inr (cannot, inl (good, refl)))
 
   pub ends_refused : IsPresentStatus s.durable.proofs ticket.name sequent status → (CanStore s.durable.proofs ticket.name sequent tree → ⊥) → (IsGoodTree tree ticket.sequent → ⊥) →
-      Ends s ticket sequent (Found tree) (told (tried_with s ticket) (Refused ticket.name status))
+      EndsTicket s ticket sequent (Found tree) (told (tried_with s ticket) (Refused ticket.name status))
   ends_refused shown cannot bad = (status, shown, inr (cannot, inr (bad, refl)))
 
 -- the finish of the ticket at the place of its number
 pub finishes : (s : State) (number at : ℕ) (ticket : Ticket) (sequent : Option Sequent) (attempt : Attempt) (p : Ready) (table : List Obligation) →
     IsTable s.durable.built table → IsPresent table ticket.name sequent → IsTicketAt s.out number (Some at) → ticket ≡ get_or s.out at ticket →
-    ComesAs s (Ends (without_at s at) ticket sequent attempt) p → Prepares s (Finish number attempt) p
+    ComesAs s (EndsTicket (without_at s at) ticket sequent attempt) p → Prepares s (Finish number attempt) p
 finishes s number at ticket sequent attempt p table is present out there c = record {
   comes = (
     table,
@@ -68,7 +68,7 @@ finishes s number at ticket sequent attempt p table is present out there c = rec
 
 -- the finish of the ticket at the place of its number, where this was found of its name
 pub finish_found : (s : State) (number at : ℕ) (ticket : Ticket) (found : Option Obligation) (attempt : Attempt) (p : Ready) → Finds s.durable.built ticket.name found →
-    IsTicketAt s.out number (Some at) → ticket ≡ get_or s.out at ticket → ComesAs s (Ends (without_at s at) ticket (option_map (λ o. o.sequent) found) attempt) p →
+    IsTicketAt s.out number (Some at) → ticket ≡ get_or s.out at ticket → ComesAs s (EndsTicket (without_at s at) ticket (option_map (λ o. o.sequent) found) attempt) p →
     Prepares s (Finish number attempt) p
 finish_found s number at ticket None attempt p f out there c = finishes s number at ticket None attempt p f.0 f.1 f.2 out there c
 finish_found s number at ticket (Some o) attempt p f out there c = finishes s number at ticket (Some o.sequent) attempt p f.0 f.1 f.2 out there c

@@ -7,7 +7,7 @@ use Rattle.std.proofs.lemmas.List.Elements.{filter-append}
 use Rattle.std.proofs.lemmas.Slice.Eq.{bytes_eq-Decides}
 use Rattle.sequent_core.specs.declared.Obligation.{Obligation}
 use Rattle.build_core.specs.Tables.{IsPlaceOf}
-use Rattle.core_steps.specs.Table.{is_named}
+use Rattle.core_steps.specs.Table.{is_obligation}
 use Rattle.core_steps.proofs.Lists.{take-one_more}
 
 by_bool : (b : Bool) → (b ≡ true → ⊥) → b ≡ false
@@ -15,24 +15,24 @@ by_bool true f = absurd (f refl)
 by_bool false f = refl
 
 -- a name that no obligation has isn't in the table
-not_named : (table : List Obligation) (name : List ℕ) → AllByRecursion (λ o. o.name ≢ name) table → is_named table name ≡ false
+not_named : (table : List Obligation) (name : List ℕ) → AllByRecursion (λ o. o.name ≢ name) table → is_obligation table name ≡ false
 not_named [] name none = refl
 not_named (o ∷ table) name none =
     let first : bytes_eq o.name name ≡ false = by_bool _ (λ e. none.0 ((bytes_eq-Decides o.name name).0 e)) in
-    ap (λ b. b || is_named table name) first ∙ not_named table name none.1
+    ap (λ b. b || is_obligation table name) first ∙ not_named table name none.1
 
 or_true : (b : Bool) → (b || true) ≡ true
 or_true true = refl
 or_true false = refl
 
 -- the name of an obligation is in the table
-named : (table : List Obligation) (name : List ℕ) (at : ℕ) → at < length table → HoldsAt (λ o. o.name ≡ name) table at → is_named table name ≡ true
+named : (table : List Obligation) (name : List ℕ) (at : ℕ) → at < length table → HoldsAt (λ o. o.name ≡ name) table at → is_obligation table name ≡ true
 named [] name at lt has = absurd (omega arith)
-named (o ∷ table) name zero lt has = ap (λ b. b || is_named table name) ((bytes_eq-Decides o.name name).1 (has o))
+named (o ∷ table) name zero lt has = ap (λ b. b || is_obligation table name) ((bytes_eq-Decides o.name name).1 (has o))
 named (o ∷ table) name (suc at) lt has = ap (λ b. bytes_eq o.name name || b) (named table name at (omega arith) has) ∙ or_true (bytes_eq o.name name)
 
 -- a name has no place in the table just where the table lacks it
-pub place_named : (table : List Obligation) (name : List ℕ) (place : Option ℕ) → IsPlaceOf table name place → not (is_named table name) ≡ is_none place
+pub place_named : (table : List Obligation) (name : List ℕ) (place : Option ℕ) → IsPlaceOf table name place → not (is_obligation table name) ≡ is_none place
 place_named table name None is = ap not (not_named table name is)
 place_named table name (Some at) is = ap not (named table name at is.0 is.2)
 

@@ -5,7 +5,7 @@ use Rattle.sequent_core.specs.declared.Obligation.{Obligation}
 use Rattle.core_steps.specs.declared.events.Event.{Event}
 use Rattle.core_steps.specs.declared.events.Reply.TheVariants.{NoObligation}
 use Rattle.core_steps.specs.State.{State}
-use Rattle.core_steps.specs.Outcomes.{Outcome, told}
+use Rattle.core_steps.specs.Outcomes.{StepOutcome, told}
 use Rattle.core_steps.specs.Table.{IsPresent}
 use Rattle.core_steps.specs.Step.{ComesBeside}
 use Rattle.prepared_events.specs.Prepared.{Ready, IsReady, ComesAs, Prepares, made}
@@ -21,11 +21,11 @@ if_ok_both P Q R (Ok a) f p q = f a p q
 if_ok_both P Q R (Err e) f p q = tt
 
 -- what is prepared comes as another thing, where that comes of its outcome
-pub so_made : (s : State) (X Y : Outcome → Type 0) (p : Ready) → ((x : Outcome) → X x → Y x) → ComesAs s X p → ComesAs s Y p
+pub so_made : (s : State) (X Y : StepOutcome → Type 0) (p : Ready) → ((x : StepOutcome) → X x → Y x) → ComesAs s X p → ComesAs s Y p
 so_made s X Y p f c = record { comes = f (made p s) c.comes; ready = c.ready }
 
 -- what is prepared is this outcome, of which the thing comes
-pub as_made : (s : State) (X : Outcome → Type 0) (p : Ready) (z : Outcome) → ComesAs s (λ x. x ≡ z) p → X z → ComesAs s X p
+pub as_made : (s : State) (X : StepOutcome → Type 0) (p : Ready) (z : StepOutcome) → ComesAs s (λ x. x ≡ z) p → X z → ComesAs s X p
 as_made s X p z c x = so_made s (λ y. y ≡ z) X p (λ y e. subst X (sym e) x) c
 
 -- what is prepared is the same as this, which is ready
@@ -35,10 +35,10 @@ made_as s p q e ready = record { comes = ap (λ r. made r s) e; ready = ready }
 module _ (s : State) (event : Event) (p : Ready) (name : List ℕ) where
   -- an event on an obligation that the table lacks
   pub on_none : Finds s.durable.built name None → ComesAs s (λ x. x ≡ told s (NoObligation name)) p →
-      ((table : List Obligation) (x : Outcome) → IsPresent table name None → x ≡ told s (NoObligation name) → ComesBeside s table event x) → Prepares s event p
+      ((table : List Obligation) (x : StepOutcome) → IsPresent table name None → x ≡ told s (NoObligation name) → ComesBeside s table event x) → Prepares s event p
   on_none found c f = record { comes = (found.0, found.1, f found.0 (made p s) found.2 c.comes); ready = c.ready }
 
   -- an event on an obligation
-  pub on_one : (o : Obligation) (X : Outcome → Type 0) → Finds s.durable.built name (Some o) → ComesAs s X p →
-      ((table : List Obligation) (x : Outcome) → IsPresent table name (Some o.sequent) → X x → ComesBeside s table event x) → Prepares s event p
+  pub on_one : (o : Obligation) (X : StepOutcome → Type 0) → Finds s.durable.built name (Some o) → ComesAs s X p →
+      ((table : List Obligation) (x : StepOutcome) → IsPresent table name (Some o.sequent) → X x → ComesBeside s table event x) → Prepares s event p
   on_one o X found c f = record { comes = (found.0, found.1, f found.0 (made p s) found.2 c.comes); ready = c.ready }

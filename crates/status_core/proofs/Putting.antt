@@ -9,7 +9,7 @@ use Rattle.sequent_core.specs.Trees.{node_count}
 use Rattle.proof_steps.specs.Places.{AppliesTo, HasLeaf, leaf_at, grown}
 use Rattle.core_steps.specs.declared.events.Reply.TheVariants.{TreeFull}
 use Rattle.core_steps.specs.State.{State}
-use Rattle.core_steps.specs.Outcomes.{Outcome, told}
+use Rattle.core_steps.specs.Outcomes.{StepOutcome, told}
 use Rattle.core_steps.specs.Proving.{Keeps, Puts}
 
 -- a rule that fits at a sequent applies to it
@@ -29,7 +29,7 @@ module _ (path : List ℕ) (tree : Tree) (sequent : Sequent) (r : Rule) (has : H
       not.2 (subst (AppliesTo r) same (fits_applies r has.0 has.2))
 
 module _ (s : State) (name : List ℕ) (sequent : Sequent) (tree : Tree) (path : List ℕ) (r : Rule) where
-  pub puts_grown : (x : Outcome) → node_count (grown r path tree) ≤ 2048 → Keeps s name sequent (grown r path tree) x → Puts s name sequent tree path (Ok r) x
+  pub puts_grown : (x : StepOutcome) → node_count (grown r path tree) ≤ 2048 → Keeps s name sequent (grown r path tree) x → Puts s name sequent tree path (Ok r) x
   puts_grown x small keeps = inr ((λ large. absurd (omega (arith, small, large))), keeps)
 
   pub puts_full : 2048 < node_count (grown r path tree) → Puts s name sequent tree path (Ok r) (told s TreeFull)

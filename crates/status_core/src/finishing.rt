@@ -11,7 +11,7 @@ ghost use Rattle.core_steps.specs.declared.events.Status.{Status};
 ghost use Rattle.proof_entries.specs.declared.Entry.{Entry};
 ghost use Rattle.core_steps.specs.Outcomes.{entering};
 ghost use Rattle.core_steps.specs.Private.{AreFactsOf};
-ghost use Rattle.core_steps.specs.Tickets.{Ends, IsPresentStatus, by_prover};
+ghost use Rattle.core_steps.specs.Tickets.{EndsTicket, IsPresentStatus, by_prover};
 ghost use Rattle.prepared_events.specs.Prepared.{ComesAs, Prepares};
 ghost use Rattle.table_lookup.specs.Tickets.{IsTicketAt};
 ghost use Rattle.status_core.specs.Parts.{IsHeld, without_at};
@@ -74,7 +74,7 @@ impl Core {
         requires sequent { IfSome (option_copied obligation) (λ o. IsSequent o.sequent) }
         requires status { IsPresentStatus self.now.durable.proofs name (option_map (λ o. o.sequent) (option_copied obligation)) status }
         ensures { (ticket : Ticket) → slice_get self.now.out at ≡ Some ticket →
-            IfOk result (λ p. ComesAs self.now (Ends (without_at self.now at) ticket (option_map (λ o. o.sequent) (option_copied obligation.entry)) (Attempt.Found tree.now)) p) }
+            IfOk result (λ p. ComesAs self.now (EndsTicket (without_at self.now at) ticket (option_map (λ o. o.sequent) (option_copied obligation.entry)) (Attempt.Found tree.now)) p) }
     {
         if let Some(facts) = facts_to_store(self.alloc, status, obligation, tree)? {
             return self.store(at, name, facts, tree);

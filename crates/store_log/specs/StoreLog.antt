@@ -6,7 +6,7 @@ use Rattle.core_steps.specs.declared.events.Event.TheVariants.{Take, Finish}
 use Rattle.core_steps.specs.declared.events.Reply.{Reply}
 use Rattle.core_steps.specs.State.{State, opened}
 use Rattle.core_steps.specs.Step.{Does, Replies, take_reply}
-use Rattle.core_steps.specs.Run.{Exchange, Run}
+use Rattle.core_steps.specs.Run.{Exchange, Runs}
 use Rattle.prover_pool.specs.Work.{Meaning}
 use Rattle.store_log.specs.History.{exchanges_of}
 use Rattle.store_log.specs.declared.logged.Logged.{Logged}
@@ -22,7 +22,7 @@ done x = record { chair = x.0; event = x.1.event; failed = false }
 -- The log of a store that keeps no fault: from its base these exchanges lead to this state.
 pub record IsLogOf (base : StoreBase) (log : List Logged) (xs : List (ℕ × Exchange)) (s : State) : Type 0 where
   pub entries : log ≡ map done xs
-  pub run : Run (opened base.durable) (exchanges_of xs) s
+  pub run : Runs (opened base.durable) (exchanges_of xs) s
 
 -- where the log was so, the store answered the event by this reply
 abbrev pub AnswersAt : StoreBase → List Logged → Event → Reply → Type 0
@@ -47,7 +47,7 @@ marks (Some act) = record { chair = act.0; event = act.1; failed = true } ∷ []
 -- The log of a store: what it did, and after it the mark of the act that met its first fault, if one did.
 pub record IsStoreLog (base : StoreBase) (log : List Logged) (xs : List (ℕ × Exchange)) (mark : Option (ℕ × Event)) (s : State) : Type 0 where
   pub entries : log ≡ map done xs ++ marks mark
-  pub run : Run (opened base.durable) (exchanges_of xs) s
+  pub run : Runs (opened base.durable) (exchanges_of xs) s
 
 -- What an act of a chair does that the store answers: its event is the next exchange.
 pub record Performs (base : StoreBase) (chair : ℕ) (event : Event) (reply : Reply) (found left : List Logged) : Type 0 where

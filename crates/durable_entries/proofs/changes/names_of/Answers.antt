@@ -1,7 +1,7 @@
 use Rattle.std.proofs.Common.{◌∙◌, sym, ap, ℕ, List, [], ◌∷◌, ◌++◌, take, append_assoc}
 use Rattle.std.specs.FinMap.{insert, empty, entries}
 use Rattle.core_steps.specs.Durable.{ProjectMap}
-use Rattle.core_steps.specs.StateEntries.{with_names}
+use Rattle.core_steps.specs.StateEntries.{with_names_of}
 use Rattle.durable_entries.proofs.Walking.{with_one_more, take_one_more}
 use Rattle.durable_entries.proofs.changes.names_of.Goals as goal
 
@@ -20,6 +20,6 @@ loop-name-2-preserved c =
     let es = c.entries-name-items.result.now in
     let i = c.loop-name-2.name-index in
     let e = c.loop-name-2-item.result in
-    let base : ProjectMap = with_names empty (entries c.args.built.now) in
+    let base : ProjectMap = with_names_of empty (entries c.args.built.now) in
     c.in_ok-put_name-2.ensures ∙ ap (λ (m : ProjectMap). insert m e.0 []) c.loop-name-2.invariant ∙ sym (with_one_more base (take i es) e)
-    ∙ ap (with_names base) (sym (take_one_more es i e c.loop-name-2-test.true c.loop-name-2-item.is))
+    ∙ ap (with_names_of base) (sym (take_one_more es i e c.loop-name-2-test.true c.loop-name-2-item.is))

@@ -1,6 +1,6 @@
 use Rattle.std.proofs.Common.{◌∙◌, List, ℕ, Bool, not, sym, ap, length, arith}
 use Rattle.std.specs.FinMap.{len-entries}
-use Rattle.core_steps.specs.Table.{is_named}
+use Rattle.core_steps.specs.Table.{is_obligation}
 use Rattle.status_core.proofs.Lacking.{place_named, none_is, key_passes, key_fails}
 use Rattle.status_core.proofs.editing.names_lacking.Goals as goal
 use Rattle.status_core.proofs.editing.names_lacking.Goals.{then-is_none+in_ok-copy+in_ok-push, else-is_none}
@@ -8,7 +8,7 @@ use Rattle.status_core.proofs.editing.names_lacking.Goals.{then-is_none+in_ok-co
 pub loop-name-preserved : goal.loop-name-preserved
 loop-name-preserved c = record {
   names = λ table of.
-      let test : List ℕ → Bool = λ n. not (is_named table n) in
+      let test : List ℕ → Bool = λ n. not (is_obligation table n) in
       let es = c.entries-name-items.result.now in
       let at = c.loop-name.name-index in
       let e = c.loop-name-item.result in

@@ -7,7 +7,7 @@ use Rattle.sequent_core.specs.declared.Attempt.TheVariants.{Found, NoProof, NoMe
 use Rattle.sequent_core.specs.declared.Attempt.{Attempt}
 use Rattle.core_steps.specs.declared.events.Event.TheVariants.{Finish}
 use Rattle.core_steps.specs.State.{State}
-use Rattle.core_steps.specs.Tickets.{Ends, IsPresentStatus}
+use Rattle.core_steps.specs.Tickets.{EndsTicket, IsPresentStatus}
 use Rattle.status_core.specs.Parts.{without_at}
 use Rattle.prepared_events.specs.Prepared.{Prepares}
 use Rattle.status_core.proofs.Finding.{found_sequent}
@@ -33,7 +33,7 @@ returns-in-NoProof c =
     let shown = subst (λ (z : State). IsPresentStatus z.durable.proofs ticket.name sequent status) c.self.view_is c.present_status-status.ensures.status in
     subst (λ (a : Attempt). IfOk c.try_in.result (λ p. Prepares s (Finish c.args.number a) p)) (sym c.in-NoProof.is)
     (finish_result s c.args.number at ticket found NoProof c.try_in.result c.find-obligation.ensures c.requires there
-    (result_as s (Ends (without_at s at) ticket sequent NoProof) _ c.try_in.result (noted_named (without_at s at) ticket sequent status c.in_ok-name.name c.in_ok-name.ensures shown)
+    (result_as s (EndsTicket (without_at s at) ticket sequent NoProof) _ c.try_in.result (noted_named (without_at s at) ticket sequent status c.in_ok-name.name c.in_ok-name.ensures shown)
     (c.try_in.ensures ticket some)))
 
 pub returns-in-NoMemory : goal.returns-in-NoMemory
@@ -49,7 +49,7 @@ returns-in-NoMemory c =
     let shown = subst (λ (z : State). IsPresentStatus z.durable.proofs ticket.name sequent status) c.self.view_is c.present_status-status.ensures.status in
     subst (λ (a : Attempt). IfOk c.try_in-in-NoMemory.result (λ p. Prepares s (Finish c.args.number a) p)) (sym c.in-NoMemory.is)
     (finish_result s c.args.number at ticket found NoMemory c.try_in-in-NoMemory.result c.find-obligation.ensures c.requires there
-    (result_as s (Ends (without_at s at) ticket sequent NoMemory) _ c.try_in-in-NoMemory.result (no_memory_named (without_at s at) ticket sequent status c.in_ok-name.name c.in_ok-name.ensures shown)
+    (result_as s (EndsTicket (without_at s at) ticket sequent NoMemory) _ c.try_in-in-NoMemory.result (no_memory_named (without_at s at) ticket sequent status c.in_ok-name.name c.in_ok-name.ensures shown)
     (c.try_in-in-NoMemory.ensures ticket some)))
 
 pub returns-in-Found : goal.returns-in-Found

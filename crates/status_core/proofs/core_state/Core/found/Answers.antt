@@ -5,7 +5,7 @@ use Rattle.sequent_core.specs.declared.Ticket.{Ticket}
 use Rattle.sequent_core.specs.declared.Attempt.TheVariants.{Found}
 use Rattle.sequent_core.specs.Provers.{IsGoodTree}
 use Rattle.core_steps.specs.State.{State}
-use Rattle.core_steps.specs.Tickets.{Ends}
+use Rattle.core_steps.specs.Tickets.{EndsTicket}
 use Rattle.status_core.specs.Parts.{without_at}
 use Rattle.status_core.proofs.Made.{as_made}
 use Rattle.status_core.proofs.Finished.{same_ticket, ticket_there}
@@ -21,7 +21,7 @@ returns-in-Some c = λ ticket there.
     let sequent = option_map (λ o. o.sequent) (option_copied c.args.obligation) in
     let named = sym (c.requires.name ticket) ∙ ap (λ (t : Ticket). t.name) (sym (ticket_there s.out at ticket c.requires.within there)) in
     let can = (c.in_ok-facts.ensures.can s.durable.proofs name c.requires.status).0 (ap is_some c.in-Some.is) in
-    result_as s (Ends (without_at s at) ticket sequent (Found tree)) _ c.store.result (stored_named (without_at s at) ticket sequent c.args.status tree name named can) c.store.ensures
+    result_as s (EndsTicket (without_at s at) ticket sequent (Found tree)) _ c.store.result (stored_named (without_at s at) ticket sequent c.args.status tree name named can) c.store.ensures
 
 pub returns-then-branch : goal.returns-then-branch
 returns-then-branch c = λ ticket there.
@@ -36,7 +36,7 @@ returns-then-branch c = λ ticket there.
     let same = same_ticket c.self.inside.out.items at c.index.result.now ticket lt c.index.ensures some in
     let good = subst (λ (k : Ticket). IsGoodTree tree k.sequent) same (c.in_ok-is_good.ensures.good.0 c.if-branch.true) in
     let cannot = isnt (is_some c.in_ok-facts.field-0) (ap is_some c.in_default.is) (c.in_ok-facts.ensures.can s.durable.proofs name c.requires.status) in
-    as_made s (Ends (without_at s at) ticket sequent (Found tree)) c.take_in.result _ c.take_in.ensures
+    as_made s (EndsTicket (without_at s at) ticket sequent (Found tree)) c.take_in.result _ c.take_in.ensures
     (stale_named (without_at s at) ticket sequent c.args.status tree name named c.requires.status cannot good)
 
 pub returns : goal.returns
@@ -52,5 +52,5 @@ returns c = λ ticket there.
     let same = same_ticket c.self.inside.out.items at c.index.result.now ticket lt c.index.ensures some in
     let bad = λ (g : IsGoodTree tree ticket.sequent). isnt _ c.if-branch.false c.in_ok-is_good.ensures.good (subst (λ (k : Ticket). IsGoodTree tree k.sequent) (sym same) g) in
     let cannot = isnt (is_some c.in_ok-facts.field-0) (ap is_some c.in_default.is) (c.in_ok-facts.ensures.can s.durable.proofs name c.requires.status) in
-    result_as s (Ends (without_at s at) ticket sequent (Found tree)) _ c.try_in.result
+    result_as s (EndsTicket (without_at s at) ticket sequent (Found tree)) _ c.try_in.result
     (refused_named (without_at s at) ticket sequent c.args.status tree name named c.requires.status cannot bad) (c.try_in.ensures ticket there)
