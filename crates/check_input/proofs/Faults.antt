@@ -3,7 +3,7 @@ use Rattle.std.proofs.Common.{◌≡◌, ◌∙◌, ap, refl, sym, ℕ, Bool, tr
 use Rattle.model_core.specs.Each.{is_among}
 use Rattle.check_input.specs.declared.input.InputFault.{InputFault}
 use Rattle.check_input.specs.declared.input.InputFault.TheVariants as fault
-use Rattle.check_input.specs.Inputs.{Component, Numbered, first_fault, components, without_fault}
+use Rattle.check_input.specs.Inputs.{Component, Numbered, first_fault, without_lines, without_fault}
 use Rattle.check_input.specs.PrivateParts.{names_of, fault_here, checked}
 use Rattle.check_input.proofs.Sets.{map-push}
 
@@ -36,14 +36,14 @@ module _ (before : List (List ℕ)) (p : Numbered) (parts : List Numbered) where
 -- these stand before the rest of all components, and none of them is a fault
 pub record AreBefore (all : List Numbered) (parts : List Component) (rest : List Numbered) : Type 0 where
   pub fault_of_all : first_fault [] all ≡ first_fault (names_of parts) rest
-  pub all_parts : components all ≡ parts ++ components rest
+  pub all_parts : without_lines all ≡ parts ++ without_lines rest
 
 module _ (all : List Numbered) (parts : List Component) (rest : List Numbered) (h : AreBefore all parts rest) where
   pub one_added : (p : Numbered) (behind : List Numbered) (more : List Component) → p ∷ behind ≡ rest → fault_here (names_of parts) p ≡ None → more ≡ parts ++ p.1 ∷ [] → AreBefore all more behind
   one_added p behind more first right added = record {
     fault_of_all = h.fault_of_all ∙ (ap (first_fault (names_of parts)) (sym first) ∙ (later_fault (names_of parts) p behind right
         ∙ ap (λ xs. first_fault xs behind) (sym (ap names_of added ∙ map-push (λ (q : Component). q.0) parts p.1))));
-    all_parts = h.all_parts ∙ (ap (λ ps. parts ++ components ps) (sym first) ∙ (sym (append_assoc parts (p.1 ∷ []) (components behind)) ∙ ap (λ xs. xs ++ components behind) (sym added)));
+    all_parts = h.all_parts ∙ (ap (λ ps. parts ++ without_lines ps) (sym first) ∙ (sym (append_assoc parts (p.1 ∷ []) (without_lines behind)) ∙ ap (λ xs. xs ++ without_lines behind) (sym added)));
   }
 
   pub fault_found : (p : Numbered) (behind : List Numbered) (f : InputFault) → p ∷ behind ≡ rest → fault_here (names_of parts) p ≡ Some f → checked all ≡ Err f

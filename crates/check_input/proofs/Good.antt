@@ -7,7 +7,7 @@ use Rattle.model_core.specs.Each.{is_among}
 use Rattle.check_input.specs.declared.input.InputFault.{InputFault}
 use Rattle.check_input.specs.declared.input.InputFault.TheVariants as fault
 use Rattle.check_input.specs.Headings.{heading_of, is_blank_text}
-use Rattle.check_input.specs.Inputs.{Component, Numbered, whole_lines, line_feeds, headed, numbered, after_front, components, first_fault, without_fault, made_of, parts_in, IsInput}
+use Rattle.check_input.specs.Inputs.{Component, Numbered, whole_lines, line_feeds, headed, numbered, after_front, without_lines, first_fault, without_fault, made_of, parts_in, IsInput}
 use Rattle.check_input.specs.Laws.{AreGoodFrom, PartsAreGood}
 use Rattle.check_input.proofs.HeadingLines.{heading_is_identifier}
 
@@ -47,16 +47,16 @@ tests false true long a b c rest na nb nc h = absurd (nb h)
 tests false false true a b c rest na nb nc h = absurd (nc h)
 tests false false false a b c rest na nb nc h = (refl, refl, h)
 
-good : (before : List (List ℕ)) (ns : List Numbered) → AreNamed ns → first_fault before ns ≡ None → AreGoodFrom (length before) (components ns)
+good : (before : List (List ℕ)) (ns : List Numbered) → AreNamed ns → first_fault before ns ≡ None → AreGoodFrom (length before) (without_lines ns)
 good before [] names h = tt
 good before (n ∷ ns) names h =
     let t = tests (is_among before n.1.0) (nat_le 256 (length before)) (nat_lt 65536 (length n.1.1)) _ _ _ (first_fault (before ++ n.1.0 ∷ []) ns) (λ e. cc) (λ e. cc) (λ e. cc) h in
     let few : length before < 256 = grind (arith, nat_tests) in
     let short : length n.1.1 ≤ 65536 = grind (arith, nat_tests) in
-    (names.0, short, few, subst (λ k. AreGoodFrom k (components ns)) (length-append before (n.1.0 ∷ [])) (good (before ++ n.1.0 ∷ []) ns names.1 t.2))
+    (names.0, short, few, subst (λ k. AreGoodFrom k (without_lines ns)) (length-append before (n.1.0 ∷ [])) (good (before ++ n.1.0 ∷ []) ns names.1 t.2))
 
 -- ---- an input
-no_fault : (ns : List Numbered) (o : Option InputFault) (found : List Component) → without_fault ns o ≡ Ok found → (o ≡ None) × (components ns ≡ found)
+no_fault : (ns : List Numbered) (o : Option InputFault) (found : List Component) → without_fault ns o ≡ Ok found → (o ≡ None) × (without_lines ns ≡ found)
 no_fault ns None found h = (refl, cc)
 no_fault ns (Some f) found h = cc
 

@@ -5,7 +5,7 @@ use Rattle.std.proofs.Math.Seq.{take-append_seam}
 use Rattle.std.proofs.lemmas.Str.{IsCharBoundary-at_seam}
 use Rattle.std.proofs.lemmas.List.{append-nil}
 use Rattle.check_input.specs.Headings.{heading_of}
-use Rattle.check_input.specs.Inputs.{Numbered, Headed, with_line, headed, whole_lines, line_feeds, numbered, after_front}
+use Rattle.check_input.specs.Inputs.{Numbered, HeadedParts, with_line, headed, whole_lines, line_feeds, numbered, after_front}
 use Rattle.check_input.specs.PrivateCutting.{front_of, parts_behind, BeginsWithLine, IsBehindPlain, numbered_from}
 use Rattle.check_input.proofs.Lines.{feeds_append}
 
@@ -27,7 +27,7 @@ module _ (text line behind : List ℕ) where
       parts_behind text ≡ (name, line ++ front_of behind) ∷ parts_behind behind
   headed_parts cut name e = elim cut.1 [
     | inl empty ↦ (let never : None ≡ Some name = sym (ap heading_of empty.1) ∙ e in cc)
-    | inr some ↦ ap (λ (x : Headed). x.parts) (by_line some.1 (Some name) e)
+    | inr some ↦ ap (λ (x : HeadedParts). x.parts) (by_line some.1 (Some name) e)
   ]
 
 -- ---- the first component, and those behind it

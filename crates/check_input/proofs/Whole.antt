@@ -3,7 +3,7 @@ use Rattle.std.proofs.Common.{◌≡◌, ◌∙◌, ap, refl, sym, ℕ, Bool, tr
 use Rattle.std.proofs.lemmas.List.{append_assoc}
 use Rattle.check_input.specs.declared.input.InputFault.{InputFault}
 use Rattle.check_input.specs.Headings.{heading_of, is_blank_text}
-use Rattle.check_input.specs.Inputs.{Component, Numbered, in_first_line, whole_lines, line_feeds, headed, numbered, after_front, components, first_fault, without_fault, made_of, parts_in, IsInput}
+use Rattle.check_input.specs.Inputs.{Component, Numbered, in_first_line, whole_lines, line_feeds, headed, numbered, after_front, without_lines, first_fault, without_fault, made_of, parts_in, IsInput}
 use Rattle.check_input.specs.Laws.{texts_of, PartsMakeTheInput}
 
 -- ---- lines
@@ -36,15 +36,15 @@ make_lines [] = refl
 make_lines (line ∷ lines) = one_line line lines (heading_of line) refl (make_lines lines)
 
 -- ---- numbers and what stands in front
-not_numbered : (line : ℕ) (parts : List Component) → components (numbered line parts) ≡ parts
+not_numbered : (line : ℕ) (parts : List Component) → without_lines (numbered line parts) ≡ parts
 not_numbered line [] = refl
 not_numbered line (p ∷ parts) = ap (λ rest. p ∷ rest) (not_numbered (line + line_feeds p.1) parts)
 
-in_front : (front : List ℕ) (parts : List Numbered) (q : Numbered) (rest : List Numbered) → after_front front parts ≡ q ∷ rest → texts_of (components (after_front front parts)) ≡ front ++ texts_of (components parts)
+in_front : (front : List ℕ) (parts : List Numbered) (q : Numbered) (rest : List Numbered) → after_front front parts ≡ q ∷ rest → texts_of (without_lines (after_front front parts)) ≡ front ++ texts_of (without_lines parts)
 in_front front [] q rest h = cc
-in_front front (p ∷ parts) q rest h = append_assoc front p.1.1 (texts_of (components parts))
+in_front front (p ∷ parts) q rest h = append_assoc front p.1.1 (texts_of (without_lines parts))
 
-whole : (bytes : List ℕ) (q : Numbered) (rest : List Numbered) → parts_in bytes ≡ q ∷ rest → texts_of (components (parts_in bytes)) ≡ bytes
+whole : (bytes : List ℕ) (q : Numbered) (rest : List Numbered) → parts_in bytes ≡ q ∷ rest → texts_of (without_lines (parts_in bytes)) ≡ bytes
 whole bytes q rest h =
     let front = (headed (whole_lines bytes)).front in
     let parts = (headed (whole_lines bytes)).parts in
@@ -54,15 +54,15 @@ whole bytes q rest h =
     ∙ lines_joined bytes
 
 -- ---- an input
-no_fault : (parts : List Numbered) (o : Option InputFault) (found : List Component) → without_fault parts o ≡ Ok found → components parts ≡ found
+no_fault : (parts : List Numbered) (o : Option InputFault) (found : List Component) → without_fault parts o ≡ Ok found → without_lines parts ≡ found
 no_fault parts None found h = cc
 no_fault parts (Some f) found h = cc
 
 made : (bytes : List ℕ) (ns : List Numbered) (found : List Component) → parts_in bytes ≡ ns → made_of ns ≡ Ok found → texts_of found ≡ bytes
 made bytes [] found e h = cc
 made bytes (q ∷ rest) found e h =
-    let same : components (q ∷ rest) ≡ found = no_fault (q ∷ rest) (first_fault [] (q ∷ rest)) found h in
-    sym (ap texts_of same) ∙ sym (ap (λ ns. texts_of (components ns)) e) ∙ whole bytes q rest e
+    let same : without_lines (q ∷ rest) ≡ found = no_fault (q ∷ rest) (first_fault [] (q ∷ rest)) found h in
+    sym (ap texts_of same) ∙ sym (ap (λ ns. texts_of (without_lines ns)) e) ∙ whole bytes q rest e
 
 pub parts_make_the_input : PartsMakeTheInput
 parts_make_the_input bytes parts written h = elim h [

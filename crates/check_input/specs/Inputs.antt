@@ -25,15 +25,15 @@ abbrev pub line_feeds : List ℕ → ℕ
 line_feeds text = length (filter (λ c. c == 10) text)
 
 -- lines: those before the first heading line, and components, each from its heading line on
-pub record Headed : Type 0 where
+pub record HeadedParts : Type 0 where
   pub front : List ℕ
   pub parts : List Component
 
-abbrev pub with_line : List ℕ → Option (List ℕ) → Headed → Headed
+abbrev pub with_line : List ℕ → Option (List ℕ) → HeadedParts → HeadedParts
 with_line line None h = record { front = line ++ h.front; parts = h.parts }
 with_line line (Some name) h = record { front = []; parts = (name, line ++ h.front) ∷ h.parts }
 
-abbrev pub headed : List (List ℕ) → Headed
+abbrev pub headed : List (List ℕ) → HeadedParts
 headed [] = record { front = []; parts = [] }
 headed (line ∷ lines) = with_line line (heading_of line) (headed lines)
 
@@ -50,7 +50,7 @@ abbrev pub after_front : List ℕ → List Numbered → List Numbered
 after_front front [] = []
 after_front front (p ∷ parts) = (p.0, (p.1.0, front ++ p.1.1)) ∷ parts
 
-abbrev pub numbered_parts : Headed → List Numbered
+abbrev pub numbered_parts : HeadedParts → List Numbered
 numbered_parts h = after_front h.front (numbered (1 + line_feeds h.front) h.parts)
 
 -- The components of a text with the lines of their headings, counted from 1. The first begins at the text's start, each
@@ -68,12 +68,12 @@ first_fault before (p ∷ parts) =
     else (if nat_lt 65536 (length p.1.1) then Some (fault.TextTooLong p.0)
     else first_fault (before ++ p.1.0 ∷ []) parts))
 
-abbrev pub components : List Numbered → List Component
-components [] = []
-components (p ∷ parts) = p.1 ∷ components parts
+abbrev pub without_lines : List Numbered → List Component
+without_lines [] = []
+without_lines (p ∷ parts) = p.1 ∷ without_lines parts
 
 abbrev pub without_fault : List Numbered → Option InputFault → Result (List Component) InputFault
-without_fault parts None = Ok (components parts)
+without_fault parts None = Ok (without_lines parts)
 without_fault parts (Some f) = Err f
 
 -- of a text that isn't blank

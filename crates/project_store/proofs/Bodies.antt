@@ -8,7 +8,7 @@ use Rattle.proof_entries.specs.declared.Entry.TheVariants.{Build}
 use Rattle.proof_codec.specs.Entries.{entry_bytes, IsEntry}
 use Rattle.core_steps.specs.declared.durable.Durable.{Durable}
 use Rattle.core_steps.specs.StateEntries.{state_entries}
-use Rattle.project_store.specs.Records.{IsBody, body_of, or_build, checkpoint_entries}
+use Rattle.project_store.specs.Records.{IsBody, record_body, or_build, checkpoint_entries}
 
 pub build_alone : (es : List Entry) (n : ℕ) → n ≡ length es → n ≡ 0 → es ++ Build ∷ [] ≡ or_build es
 build_alone [] n is none = refl
@@ -18,11 +18,11 @@ pub as_listed : (es : List Entry) (n : ℕ) → n ≡ length es → (n ≡ 0 →
 as_listed [] n is some = absurd (some is)
 as_listed (e ∷ es) n is some = refl
 
-good_body : (body : List ℕ) (es : List Entry) → es ≢ [] → body ≡ body_of es → AllByRecursion IsEntry es → IsBody body es
+good_body : (body : List ℕ) (es : List Entry) → es ≢ [] → body ≡ record_body es → AllByRecursion IsEntry es → IsBody body es
 good_body body es some is all = record { some = some; version = inl (record { bytes = flat_map entry_bytes es; split = is; spelled = (all, refl) }) }
 
 -- a record of one entry
-pub one_entry : (body : List ℕ) (entry : Entry) → body ≡ (2 ∷ []) ++ entry_bytes entry → body ≡ body_of (entry ∷ [])
+pub one_entry : (body : List ℕ) (entry : Entry) → body ≡ (2 ∷ []) ++ entry_bytes entry → body ≡ record_body (entry ∷ [])
 one_entry body entry is = is ∙ ap (λ b. 2 ∷ b) (sym (flat_map-cons entry_bytes entry [] ∙ append-nil (entry_bytes entry)))
 
 not_nil : (e : Entry) (es : List Entry) → e ∷ es ≡ [] → ⊥
@@ -36,5 +36,5 @@ some_listed [] = not_nil Build []
 some_listed (e ∷ es) = not_nil e es
 
 -- a record of a checkpoint
-pub all_good : (body : List ℕ) (d : Durable) → body ≡ body_of (checkpoint_entries d) → AllByRecursion IsEntry (checkpoint_entries d) → IsBody body (checkpoint_entries d)
+pub all_good : (body : List ℕ) (d : Durable) → body ≡ record_body (checkpoint_entries d) → AllByRecursion IsEntry (checkpoint_entries d) → IsBody body (checkpoint_entries d)
 all_good body d is all = good_body body (checkpoint_entries d) (some_listed (state_entries d)) is all

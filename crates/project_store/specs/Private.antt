@@ -20,7 +20,7 @@ use Rattle.store_log.specs.declared.fault.StoreFault.TheVariants as store
 use Rattle.outside.specs.declared.side.Side.{Side}
 use Rattle.project_store.specs.declared.fault.OpenFault.{OpenFault}
 use Rattle.project_store.specs.declared.fault.OpenFault.TheVariants.{Foreign, Damaged, TableFull, DiskFault, OutOfMemory}
-use Rattle.project_store.specs.Records.{IsBody, IsSmall, Leads, Recovers, RecoversAt, body_of}
+use Rattle.project_store.specs.Records.{IsBody, IsSmall, Leads, Recovers, RecoversAt, record_body}
 use Rattle.project_store.specs.Opening.{HasStop}
 use Rattle.project_store.specs.Store.{StoreState, HasNoRoom, HasNoRoomFor, IsTooHeavy, Performs, met}
 
@@ -73,7 +73,7 @@ IsCoreFault bodies on DiskFault = ⊥
 -- the entry, if there is one, has no room
 abbrev pub LacksRoom : ℕ → ℕ → Durable → Option Entry → Type 0
 LacksRoom gate generation d None = ⊥
-LacksRoom gate generation d (Some entry) = HasNoRoom gate generation d (length (body_of (entry ∷ [])))
+LacksRoom gate generation d (Some entry) = HasNoRoom gate generation d (length (record_body (entry ∷ [])))
 
 -- what is known of what is prepared for an event in an orderly state
 pub record IsPreparedFor (s : State) (event : Event) (p : Ready) : Type 0 where

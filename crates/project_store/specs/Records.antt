@@ -13,8 +13,8 @@ use Rattle.core_steps.specs.State.{after, no_texts}
 use Rattle.core_steps.specs.StateEntries.{state_entries}
 
 -- the body of a record: version 2, and entries
-abbrev pub body_of : List Entry → List ℕ
-body_of entries = 2 ∷ flat_map entry_bytes entries
+abbrev pub record_body : List Entry → List ℕ
+record_body entries = 2 ∷ flat_map entry_bytes entries
 
 -- the byte of a version, and then these entries
 pub record IsInVersion (version : ℕ) (AreSpelled : List Entry → List ℕ → Type 0) (body : List ℕ) (entries : List Entry) : Type 0 where

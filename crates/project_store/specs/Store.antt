@@ -19,7 +19,7 @@ use Rattle.store_log.specs.declared.fault.StoreFault.TheVariants.{Failed, Sessio
 use Rattle.project_store.specs.declared.fault.KeptFault.{KeptFault}
 use Rattle.store_log.specs.declared.logged.Logged.{Logged}
 use Rattle.store_log.specs.declared.logged.StoreBase.{StoreBase}
-use Rattle.project_store.specs.Records.{IsSmall, Recovers, RecoversAt, body_of, checkpoint_entries}
+use Rattle.project_store.specs.Records.{IsSmall, Recovers, RecoversAt, record_body, checkpoint_entries}
 
 -- this fault, met by this event of the chair
 abbrev pub met : StoreFault → ℕ → Event → KeptFault
@@ -70,13 +70,13 @@ IsDiskFault (Some kept) = kept.fault ≡ DiskFault
 abbrev pub HasNoRoom : ℕ → ℕ → Durable → ℕ → Type 0
 HasNoRoom gate generation d size =
     (67108864 < gate + 6 + size)
-    × ((67108864 < 27 + length (body_of (checkpoint_entries d)) + size) ⊎ (18446744073709551615 ≤ generation))
+    × ((67108864 < 27 + length (record_body (checkpoint_entries d)) + size) ⊎ (18446744073709551615 ≤ generation))
 
 -- the entry that the event adds has no room
 abbrev pub HasNoRoomFor : {D : Type 0} → JournalState D → State → Event → Type 0
 HasNoRoomFor journal s event =
     (reply : Reply) × (entry : Entry) × (new : State) × Does s event reply (Some entry) new
-    × HasNoRoom journal.gate journal.generation s.durable (length (body_of (entry ∷ [])))
+    × HasNoRoom journal.gate journal.generation s.durable (length (record_body (entry ∷ [])))
 
 -- what a call answers after this fault
 abbrev pub again : StoreFault → StoreFault

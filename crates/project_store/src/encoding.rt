@@ -2,7 +2,7 @@
 ghost use Rattle.std.specs.Prelude.{◌≡◌, ◌++◌, ◌∷◌, [], IfOk, OnOk};
 ghost use Rattle.std.specs.List.{flat_map, AllByRecursion};
 ghost use Rattle.proof_codec.specs.Entries.{entry_bytes, IsEntry};
-ghost use Rattle.project_store.specs.Records.{body_of, checkpoint_entries, or_build, IsBody};
+ghost use Rattle.project_store.specs.Records.{record_body, checkpoint_entries, or_build, IsBody};
 
 use core_steps::Durable;
 use durable_entries::state_entries;
@@ -17,7 +17,7 @@ const VERSION: u8 = 2;
 /// The body of a record of one entry.
 #[tactic(auto, using(crate::proofs::Bodies::one_entry, crate::proofs::Bodies::one_good))]
 pub(crate) fn entry_body(alloc: Global, entry: &Entry) -> Result<Vec<u8>, OutOfMemory>
-    ensures body { IfOk result (λ body. body.items ≡ body_of (entry.now ∷ [])) }
+    ensures body { IfOk result (λ body. body.items ≡ record_body (entry.now ∷ [])) }
     ensures good { IfOk result (λ body. IsBody body.items (entry.now ∷ [])) }
 {
     let mut body = Vec::new(alloc);
@@ -29,7 +29,7 @@ pub(crate) fn entry_body(alloc: Global, entry: &Entry) -> Result<Vec<u8>, OutOfM
 /// The body of a checkpoint.
 #[tactic(auto, using(crate::proofs::Bodies::all_good))]
 pub(crate) fn checkpoint_body(alloc: Global, durable: &Durable) -> Result<Vec<u8>, OutOfMemory>
-    ensures body { IfOk result (λ body. body.items ≡ body_of (checkpoint_entries durable.now)) }
+    ensures body { IfOk result (λ body. body.items ≡ record_body (checkpoint_entries durable.now)) }
     ensures good { IfOk result (λ body. IsBody body.items (checkpoint_entries durable.now)) }
 {
     let entries = or_build(state_entries(alloc, durable)?)?;

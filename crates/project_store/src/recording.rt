@@ -4,7 +4,7 @@ ghost use Rattle.outside.specs.Cause.{Rose};
 ghost use Rattle.outside.specs.Disk.{Sides, LeavesOnly};
 ghost use Rattle.core_steps.specs.State.{entered};
 ghost use Rattle.store_log.specs.declared.fault.StoreFault.{StoreFault};
-ghost use Rattle.project_store.specs.Records.{IsSmall, Recovers, RecoversAt, body_of};
+ghost use Rattle.project_store.specs.Records.{IsSmall, Recovers, RecoversAt, record_body};
 ghost use Rattle.project_store.specs.Store.{HasNoRoom};
 
 use crate::encoding::{checkpoint_body, entry_body};
@@ -80,8 +80,8 @@ pub(crate) fn record<D: Disk>(
 
     // Which fault it is, and what stays.
     ensures causes { (IsErrOf result StoreFault.SessionFull → ⊥) × (IsErrOf result StoreFault.Failed → ⊥) }
-    ensures full { IsErrOf result StoreFault.JournalFull → HasNoRoom journal.old.gate journal.old.generation durable.now (length (body_of (entry.now ∷ []))) }
-    ensures refused { HasNoRoom journal.old.gate journal.old.generation durable.now (length (body_of (entry.now ∷ []))) → OnOk result ⊥ × (IsErrOf result StoreFault.DiskFault → ⊥) }
+    ensures full { IsErrOf result StoreFault.JournalFull → HasNoRoom journal.old.gate journal.old.generation durable.now (length (record_body (entry.now ∷ []))) }
+    ensures refused { HasNoRoom journal.old.gate journal.old.generation durable.now (length (record_body (entry.now ∷ []))) → OnOk result ⊥ × (IsErrOf result StoreFault.DiskFault → ⊥) }
     ensures fault { IsErrOf result StoreFault.DiskFault → Rose (D.faults journal.old.disk) (D.faults journal.new.disk) }
     ensures failed { OnErr result (((journal.new ≡ journal.old) × (IsErrOf result StoreFault.DiskFault → ⊥)) ⊎ (IsErrOf result StoreFault.DiskFault × (journal.new.failed ≡ true))) }
     ensures later { D.faults journal.old.disk ≤ D.faults journal.new.disk }

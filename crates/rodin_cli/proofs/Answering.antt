@@ -17,7 +17,7 @@ use Rattle.check_input.specs.Lines.{input_line}
 use Rattle.check_input.specs.declared.input.InputFault.{InputFault}
 use Rattle.rodin_cli.specs.Session.{Extends}
 use Rattle.rodin_cli.specs.Script.{IsFullScript, IsWholeScript, IsFront}
-use Rattle.session_streams.specs.Streams.{Reading, Writing, Writes, WritesCut, WritesNothing}
+use Rattle.session_streams.specs.Streams.{SourceState, Writing, Writes, WritesCut, WritesNothing}
 use Rattle.session_ends.specs.Written.{WritesOrFails}
 use Rattle.rodin_cli.specs.Texts.{printed_lines}
 use Rattle.rodin_cli.specs.Check.{LeadsToPart, IsAnswered, IsTooFull, RanOut, EndsWithLine, ComesOf, RunsCheck, HasNoHistory, TellsFaults, TellsWarnings, IsProved, status_of}
@@ -126,7 +126,7 @@ answered_not_2 told status A B (inr b) e = omega (arith, b.0, e)
 other : (status k : ℕ) → status ≡ k → k ≢ 2 → status ≢ 2
 other status k is differ e = differ (sym is ∙ e)
 
-pub check_not_2 : (answers : Sequent → Attempt → Type 0) (sure : Sequent → Type 0) (source : Reading) (sink : Writing) (part : Part) → RunsCheck answers sure source sink part → part.status ≢ 2
+pub check_not_2 : (answers : Sequent → Attempt → Type 0) (sure : Sequent → Type 0) (source : SourceState) (sink : Writing) (part : Part) → RunsCheck answers sure source sink part → part.status ≢ 2
 check_not_2 answers sure source sink part (inl (bytes, read, most, inl a)) = answered_not_2 a.told part.status _ _ a.text
 check_not_2 answers sure source sink part (inl (bytes, read, most, inr (inl full))) = other part.status 7 full.status_is (omega arith)
 check_not_2 answers sure source sink part (inl (bytes, read, most, inr (inr (inl (fault, made, ends))))) = other part.status 1 ends.status_is (omega arith)

@@ -5,13 +5,13 @@ use Rattle.sequent_core.specs.declared.Sequent.{Sequent}
 use Rattle.sequent_core.specs.declared.Attempt.{Attempt}
 use Rattle.core_steps.specs.declared.Durable.{Durable}
 use Rattle.core_steps.specs.declared.Event.{Event}
-use Rattle.session_streams.specs.Streams.{Reading, Writing}
+use Rattle.session_streams.specs.Streams.{SourceState, Writing}
 use Rattle.session_ends.specs.Sessions.{Sessions}
 use Rattle.session_ends.specs.Statuses.{IsSessionStatus}
 
 module _ {D : Type 0} {told : Type 0} {bytes_of : D → Sides} {images : D → Sides → Type 0} {faults : D → ℕ} {fair : Sequent → Attempt → Type 0} {sure : Sequent → Type 0} where
   -- one number of workers is the other
-  pub same_session : (n m : ℕ) → n ≡ m → (old new : D) (source : Reading) (sink : Writing) (status : ℕ) (history : List (ℕ × Event)) (last : Durable) →
+  pub same_session : (n m : ℕ) → n ≡ m → (old new : D) (source : SourceState) (sink : Writing) (status : ℕ) (history : List (ℕ × Event)) (last : Durable) →
       Sessions told bytes_of images faults fair sure n old new source sink status history last → Sessions told bytes_of images faults fair sure m old new source sink status history last
   same_session n m same old new source sink status history last is = subst (λ k. Sessions told bytes_of images faults fair sure k old new source sink status history last) same is
 

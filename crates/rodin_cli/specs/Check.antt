@@ -20,7 +20,7 @@ use Rattle.core_steps.specs.Table.{IsTable}
 use Rattle.core_steps.specs.State.{State, opened, no_texts, after}
 use Rattle.core_steps.specs.Run.{Exchange, Runs, IsLegal, history_of}
 use Rattle.rodin_cli.specs.declared.outcome.Part.{Part}
-use Rattle.session_streams.specs.Streams.{Reading, Writing, SourceFailed, Writes, WritesCut, WritesNothing}
+use Rattle.session_streams.specs.Streams.{SourceState, Writing, SourceFailed, Writes, WritesCut, WritesNothing}
 use Rattle.session_ends.specs.Written.{WritesOrFails}
 use Rattle.rodin_cli.specs.Streams.{TakesBytes, IsAtInputEnd}
 use Rattle.rodin_cli.specs.Texts.{printed_lines}
@@ -127,18 +127,18 @@ ComesOf answers sure bytes sink part =
     ⊎ RanOut answers sure bytes sink part
 
 -- the input was read: to its end, or its first 67,108,865 bytes
-pub record IsWholeInput (bytes : List ℕ) (source : Reading) : Type 0 where
+pub record IsWholeInput (bytes : List ℕ) (source : SourceState) : Type 0 where
   pub taken : TakesBytes source bytes
   pub most : length bytes ≤ 67108865
   pub ended : length bytes ≤ 67108864 → IsAtInputEnd source
 
 -- a front of the input was read
-abbrev pub IsReadInPart : Reading → Type 0
+abbrev pub IsReadInPart : SourceState → Type 0
 IsReadInPart source = (bytes : List ℕ) × TakesBytes source bytes
 
 -- The input was read and answered; or it has more than 67,108,864 bytes; or the source failed; or memory ran out while
 -- it was read.
-abbrev pub RunsCheck : (Sequent → Attempt → Type 0) → (Sequent → Type 0) → Reading → Writing → Part → Type 0
+abbrev pub RunsCheck : (Sequent → Attempt → Type 0) → (Sequent → Type 0) → SourceState → Writing → Part → Type 0
 RunsCheck answers sure source sink part =
     ((bytes : List ℕ) × IsWholeInput bytes source × (length bytes ≤ 67108864) × ComesOf answers sure bytes sink part)
     ⊎ ((bytes : List ℕ) × IsWholeInput bytes source × (67108864 < length bytes) × EndsWithLine 7 (codes "full: input\n") sink part)

@@ -15,7 +15,7 @@ use Rattle.project_store.specs.declared.fault.KeptFault.{KeptFault}
 use Rattle.project_store.specs.declared.fault.OpenFault.{OpenFault}
 use Rattle.project_store.specs.declared.fault.OpenFault.TheVariants as opening
 use Rattle.project_store.specs.Store.{StoreState, HasCauseOf}
-use Rattle.session_streams.specs.Streams.{Reading, Writing, SourceFailed, SinkFailed, WritesNothing}
+use Rattle.session_streams.specs.Streams.{SourceState, Writing, SourceFailed, SinkFailed, WritesNothing}
 use Rattle.session_ends.specs.Sessions.{EndsBy, Sessions}
 use Rattle.session_ends.specs.Statuses.{IsSessionStatus, fault_status, opening_status, opening_line}
 use Rattle.session_ends.specs.Written.{WritesOrFails}
@@ -67,7 +67,7 @@ disk_opening (opening.TableFull n) e = absurd (omega (arith, e))
 disk_opening opening.DiskFault e = refl
 disk_opening opening.OutOfMemory e = absurd (omega (arith, e))
 
-module _ (fair : Sequent → Attempt → Type 0) (workers : ℕ) (status : ℕ) (kept : Option KeptFault) (source : Reading) (sink : Writing) (xs : List (ℕ × Exchange)) (s : State) where
+module _ (fair : Sequent → Attempt → Type 0) (workers : ℕ) (status : ℕ) (kept : Option KeptFault) (source : SourceState) (sink : Writing) (xs : List (ℕ × Exchange)) (s : State) where
   known_end : EndsBy fair workers status kept source sink xs s → IsSessionStatus status
   known_end (inl (is, none, rest)) = inl is
   known_end (inr (inl (is, none, rest))) = inr (inl is)
@@ -115,7 +115,7 @@ disk_cause faults st fault.DiskFault event e cause = cause
 disk_cause faults st fault.Failed event e cause = absurd cause
 
 module _ {D : Type 0} (told : Type 0) (bytes_of : D → Sides) (images : D → Sides → Type 0) (faults : D → ℕ)
-    (fair : Sequent → Attempt → Type 0) (sure : Sequent → Type 0) (workers : ℕ) (old new : D) (source : Reading) (sink : Writing) (status : ℕ) (history : List (ℕ × Event)) (last : Durable) where
+    (fair : Sequent → Attempt → Type 0) (sure : Sequent → Type 0) (workers : ℕ) (old new : D) (source : SourceState) (sink : Writing) (status : ℕ) (history : List (ℕ × Event)) (last : Durable) where
   abbrev Ran : Type 0
   Ran = Sessions told bytes_of images faults fair sure workers old new source sink status history last
 

@@ -23,7 +23,7 @@ use Rattle.session_run.specs.OneHistory.{with_begun, IsNextOf, IsUsersLine}
 use Rattle.session_run.specs.Talking.{HasTalked, IsTalking, StopsAt}
 use Rattle.session_run.proofs.Runs.{CoreLaws}
 use Rattle.session_streams.specs.Reads.{HasRead, IsNextLine}
-use Rattle.session_streams.specs.Streams.{Reading, Writing, writing, Writes}
+use Rattle.session_streams.specs.Streams.{SourceState, Writing, writing, Writes}
 use Rattle.session_streams.proofs.Known.{Appends-both}
 use Rattle.session_streams.proofs.Readers.{rose_later}
 use Rattle.session_talk.specs.declared.Ending.{Ending}
@@ -65,7 +65,7 @@ module _ (before after_ last : Option (List ℕ)) (f g h : ℕ) (low : f ≤ g) 
 -- HOW FAR CHAIR 0 CAME
 
 module _ (laws : CoreLaws) (fair : Sequent → Attempt → Type 0) (base : StoreBase) (log : List Logged) (xs : List (ℕ × Exchange)) (mark : Option (ℕ × Event)) (s : State)
-    (store : IsStoreLog base log xs mark s) (seen : List Logged) (has : HasSeen chair_of 0 seen log) (source : Reading) (sink : Writing)
+    (store : IsStoreLog base log xs mark s) (seen : List Logged) (has : HasSeen chair_of 0 seen log) (source : SourceState) (sink : Writing)
     (taken : List ℕ) (ended : Bool) (lines : List Line) (left : List Command) (text : List ℕ) (read : HasRead source.left source.left_then taken ended lines left) where
   abbrev pub Over : Ending → Type 0
   Over ending = IsOver fair base source sink seen taken ended lines left text ending
@@ -149,7 +149,7 @@ module _ (laws : CoreLaws) (fair : Sequent → Attempt → Type 0) (base : Store
   pub not_stopped : (fault : StoreFault) → Over (Store fault) → mark ≢ None
   not_stopped fault (line, next, t, rest) = (stopped laws fair base log xs mark s store seen lines text line t has).marked
 
-module _ (fair : Sequent → Attempt → Type 0) (source : Reading) (xs : List (ℕ × Exchange)) where
+module _ (fair : Sequent → Attempt → Type 0) (source : SourceState) (xs : List (ℕ × Exchange)) where
   -- the lines that were read are a user's
   pub users : (r : HasReached fair source xs) → AllByRecursion IsUsersLine (with_begun r.lines r.begun)
   users r = with_next r.begun r.next where

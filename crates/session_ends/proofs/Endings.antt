@@ -22,7 +22,7 @@ use Rattle.session_run.specs.Workers.{HaveFinished}
 use Rattle.session_run.proofs.Runs.{CoreLaws}
 use Rattle.session_streams.specs.declared.ReadEnd.TheVariants.{Ended, ReadFault, FullInput, OutOfMemory}
 use Rattle.session_streams.specs.Reads.{HasRead}
-use Rattle.session_streams.specs.Streams.{Reading, Writing, writing, Writes}
+use Rattle.session_streams.specs.Streams.{SourceState, Writing, writing, Writes}
 use Rattle.session_talk.specs.declared.Ending.{Ending}
 use Rattle.session_talk.specs.declared.Ending.TheVariants.{Read, Quit, CutEdit, WriteFault, OutOfMemory as Untold, Store}
 use Rattle.session_ends.specs.Ends.{HasAnswered, EndsAtStoreFault, EndsWithoutMemory}
@@ -44,7 +44,7 @@ if_failed None P failed = tt
 if_failed (Some k) P failed = failed k.act.0 k.act.1 refl
 
 module _ (laws : CoreLaws) (fair : Sequent → Attempt → Type 0) (workers : ℕ) (base : StoreBase) (log : List Logged) (xs : List (ℕ × Exchange)) (kept : Option KeptFault) (s : State)
-    (store : IsStoreLog base log xs (mark_in kept) s) (seen : List Logged) (has : HasSeen chair_of 0 seen log) (source : Reading)
+    (store : IsStoreLog base log xs (mark_in kept) s) (seen : List Logged) (has : HasSeen chair_of 0 seen log) (source : SourceState)
     (before after_ last : Option (List ℕ)) (f g h : ℕ) (low : f ≤ g) (high : g ≤ h)
     (taken : List ℕ) (ended : Bool) (lines : List Line) (left : List Command) (text : List ℕ) (read : HasRead source.left source.left_then taken ended lines left) where
   abbrev Overs : Ending → Type 0

@@ -21,7 +21,7 @@ use Rattle.session_words.specs.declared.said.Said.TheVariants.{AtOnce, OfItems}
 use Rattle.session_words.specs.declared.Verb.{Verb}
 use Rattle.session_words.specs.declared.Verb.TheVariants as verb
 use Rattle.session_words.specs.Lines.{IsLine, edited}
-use Rattle.session_words.specs.Says.{verb_named, or_bad, alone, only_po, only_path, node_of, po_of, deleted, shown_at, no_hint, step_of, spoken, said, Means}
+use Rattle.session_words.specs.Says.{verb_named, or_bad, alone, only_po, only_path, node_words, po_of, deleted, shown_at, no_hint, step_of, spoken, said, Means}
 use Rattle.session_run.specs.OneHistory.{IsUsersEvent, IsUsersLine}
 
 -- THE WORDS OF A LINE
@@ -72,8 +72,8 @@ spoken_said (Some verb.Faults) words = alone_said (One (Ask ask.Faults)) words t
 spoken_said (Some verb.Show) words = or_bad_said (shown_at (behind_first words)) (shown_said (behind_first words)) (po_of (first_word words))
 spoken_said (Some verb.Tree) words = or_bad_said (λ name. One (Ask (ask.TreeOf name))) (λ name. tt) (only_po words)
 spoken_said (Some verb.Step) words = step_said _ _ _ _
-spoken_said (Some verb.Prune) words = or_bad_said (λ node. One (Prune node.0 node.1)) (λ node. tt) (node_of words)
-spoken_said (Some verb.Review) words = or_bad_said (λ node. One (Step node.0 node.1 23 no_hint)) (λ node. tt) (node_of words)
+spoken_said (Some verb.Prune) words = or_bad_said (λ node. One (Prune node.0 node.1)) (λ node. tt) (node_words words)
+spoken_said (Some verb.Review) words = or_bad_said (λ node. One (Step node.0 node.1 23 no_hint)) (λ node. tt) (node_words words)
 spoken_said (Some verb.Auto) words = or_bad_said Auto (λ name. tt) (only_po words)
 spoken_said (Some verb.Wait) words = alone_said Wait words tt
 spoken_said (Some verb.Purge) words = alone_said (One Purge) words tt

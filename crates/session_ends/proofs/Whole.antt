@@ -22,7 +22,7 @@ use Rattle.session_run.specs.Dialogue.{begins}
 use Rattle.session_run.specs.OneHistory.{OneHistory, CompleteWhenIdle, MakesHistory}
 use Rattle.session_run.specs.Workers.{begins as none_yet}
 use Rattle.session_run.proofs.Runs.{CoreLaws, run_cut}
-use Rattle.session_streams.specs.Streams.{Reading, Writing, reading, writing}
+use Rattle.session_streams.specs.Streams.{SourceState, Writing, reading, writing}
 use Rattle.session_streams.proofs.Known.{Appends-nothing, Consumes-nothing}
 use Rattle.session_talk.specs.declared.Ending.{Ending}
 use Rattle.session_ends.specs.Ends.{IsClean, HasHistory, EndsWithoutMemory}
@@ -58,7 +58,7 @@ module _ {D : Type 0} (told : Type 0) (bytes_of : D → Sides) (images : D → S
     (laws : CoreLaws) (enters : EntersAll) (rebuilt : TellsTheRebuilt) (fair : Sequent → Attempt → Type 0) (sure : Sequent → Type 0)
     (history_law : OneHistory fair) (complete_law : CompleteWhenIdle fair sure) (workers : ℕ)
     (first st : StoreState D) (same : base_in st ≡ base_in first) (sound : IsSound told bytes_of images faults st)
-    (source : Reading) (before after_ last : Option (List ℕ)) (f g h : ℕ) (high : g ≤ h) (ending : Ending)
+    (source : SourceState) (before after_ last : Option (List ℕ)) (f g h : ℕ) (high : g ≤ h) (ending : Ending)
     (played : IsPlayed chair_of store_meaning fair workers (base_in first) (log_in st) source (writing before after_ f g) ending)
     (wrote : WritesOrFails (writing after_ last g h) (line_at ending (option_map (λ k. k.fault) st.kept))) where
   store : IsStoreLog (base_in st) (log_in st) sound.exchanges (mark_in st.kept) st.core
@@ -189,7 +189,7 @@ plays_end told bytes_of images faults fair sure laws enters rebuilt one complete
 
 -- the same session, told of what it left
 pub moved : {D : Type 0} (told : Type 0) (bytes_of : D → Sides) (images : D → Sides → Type 0) (faults : D → ℕ) (fair : Sequent → Attempt → Type 0) (sure : Sequent → Type 0) (workers : ℕ)
-    (old disk new : D) (source : Reading) (sink : Writing) (status now : ℕ) (history events : List (ℕ × Event)) (last lasts : Durable) →
+    (old disk new : D) (source : SourceState) (sink : Writing) (status now : ℕ) (history events : List (ℕ × Event)) (last lasts : Durable) →
     new ≡ disk → now ≡ status → events ≡ history → lasts ≡ last →
     IsSession told bytes_of images faults fair sure workers old disk source sink status history last → IsSession told bytes_of images faults fair sure workers old new source sink now events lasts
 moved {D} told bytes_of images faults fair sure workers old disk new source sink status now history events last lasts a b c d s =

@@ -17,7 +17,7 @@ use Rattle.session_run.specs.Completeness.{IsCompleteWhenIdle}
 use Rattle.session_run.specs.Dialogue.{Next, tells, Dialogue}
 use Rattle.session_run.specs.OneHistory.{Reached, IsFailedEvent}
 use Rattle.session_streams.specs.Reads.{HasRead, IsNextLine}
-use Rattle.session_streams.specs.Streams.{Reading, Writing, SourceFailed, SinkFailed, Writes}
+use Rattle.session_streams.specs.Streams.{SourceState, Writing, SourceFailed, SinkFailed, Writes}
 use Rattle.session_ends.specs.Written.{WritesThen, WritesUpTo}
 
 -- each status in a reply is the one that a clean rebuild at its place gives
@@ -39,7 +39,7 @@ IsDone (Some begun) = (said : List ℕ) × (begun.1 ≡ tells said)
 module _ (fair : Sequent → Attempt → Type 0) where
   -- Chair 0 did the exchanges that answer these lines, the first ones in the bytes taken, and this is the text of the
   -- answers.
-  pub record HasAnswered (source : Reading) (xs : List (ℕ × Exchange)) : Type 0 where
+  pub record HasAnswered (source : SourceState) (xs : List (ℕ × Exchange)) : Type 0 where
     pub taken : List ℕ
     pub ended : Bool
     pub lines : List Line
@@ -49,7 +49,7 @@ module _ (fair : Sequent → Attempt → Type 0) where
     pub dialogue : Dialogue fair lines (own 0 xs) text
 
   -- The same of these lines, and it may have begun to answer the next one.
-  pub record HasReached (source : Reading) (xs : List (ℕ × Exchange)) : Type 0 where
+  pub record HasReached (source : SourceState) (xs : List (ℕ × Exchange)) : Type 0 where
     pub taken : List ℕ
     pub ended : Bool
     pub lines : List Line
@@ -77,7 +77,7 @@ module _ (fair : Sequent → Attempt → Type 0) (sure : Sequent → Type 0) (wo
     pub complete : IsCompleteWhenIdle sure d (exchanges_of xs)
 
 module _ (fair : Sequent → Attempt → Type 0) (workers : ℕ)
-    (source : Reading) (sink : Writing) (xs : List (ℕ × Exchange)) where
+    (source : SourceState) (sink : Writing) (xs : List (ℕ × Exchange)) where
   -- STATUS 0: all lines were answered, to the end of the input or to `quit`, and the whole text is written
   pub record EndsWell : Type 0 where
     pub answered : HasAnswered fair source xs

@@ -6,7 +6,7 @@ use Rattle.sequent_core.specs.declared.Sequent.{Sequent}
 use Rattle.sequent_core.specs.declared.Attempt.{Attempt}
 use Rattle.store_log.specs.StoreLog.{chair_of, store_meaning}
 use Rattle.project_store.specs.Store.{StoreState, IsSound, log_in, base_in}
-use Rattle.session_streams.specs.Streams.{Reading, writing}
+use Rattle.session_streams.specs.Streams.{SourceState, writing}
 use Rattle.session_talk.specs.declared.conversing.Ending.{Ending}
 use Rattle.session_play.specs.Playing.{IsPlayed}
 use Rattle.session_ends.specs.Sessions.{IsSession, Opens}
@@ -17,7 +17,7 @@ use Rattle.session_ends.specs.Written.{WritesOrFails}
 abbrev pub PlaysEnd : {D : Type 0} (told : Type 0) (bytes_of : D → Sides) (images : D → Sides → Type 0) (faults : D → ℕ) →
     (Sequent → Attempt → Type 0) → (Sequent → Type 0) → Type 0
 PlaysEnd {D} told bytes_of images faults fair sure =
-    (workers : ℕ) (first last : StoreState D) (source : Reading) (before between after : Option (List ℕ)) (f g h : ℕ) (ending : Ending) (old : D) →
+    (workers : ℕ) (first last : StoreState D) (source : SourceState) (before between after : Option (List ℕ)) (f g h : ℕ) (ending : Ending) (old : D) →
     Opens told bytes_of images faults old first → base_in last ≡ base_in first → IsSound told bytes_of images faults last →
     IsPlayed chair_of store_meaning fair workers (base_in first) (log_in last) source (writing before between f g) ending →
     WritesOrFails (writing between after g h) (line_at ending (option_map (λ k. k.fault) last.kept)) → g ≤ h →

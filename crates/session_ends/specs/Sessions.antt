@@ -15,7 +15,7 @@ use Rattle.project_store.specs.declared.fault.OpenFault.TheVariants.{DiskFault}
 use Rattle.project_store.specs.Opening.{Meaning, StandsFor, durable, IsCause, IsAnswerFor, StandsAsSome}
 use Rattle.project_store.specs.Records.{Recovers}
 use Rattle.project_store.specs.Store.{StoreState, IsImage, HasCauseOf}
-use Rattle.session_streams.specs.Streams.{Reading, Writing, WritesNothing}
+use Rattle.session_streams.specs.Streams.{SourceState, Writing, WritesNothing}
 use Rattle.session_ends.specs.Ends.{HasHistory, EndsWell, EndsInsideEdit, EndsAtReadFault, EndsAtWriteFault}
 use Rattle.session_ends.specs.Ends.{EndsWithFullInput, EndsAtStoreFault, EndsWithoutMemory}
 use Rattle.session_ends.specs.Statuses.{fault_status, fault_line, opening_status, opening_line}
@@ -24,7 +24,7 @@ use Rattle.session_ends.specs.Written.{WritesOrFails}
 module _ (fair : Sequent → Attempt → Type 0) (workers : ℕ) where
   -- How an opened session ended: by its status, and the first fault of the store, if it met one. A fault of the store
   -- goes before all but want of memory of the commands.
-  abbrev pub EndsBy : ℕ → Option KeptFault → Reading → Writing → List (ℕ × Exchange) → State → Type 0
+  abbrev pub EndsBy : ℕ → Option KeptFault → SourceState → Writing → List (ℕ × Exchange) → State → Type 0
   EndsBy status kept source sink xs s =
       ((status ≡ 0) × (kept ≡ None) × EndsWell fair workers source sink xs)
       ⊎ ((status ≡ 1) × (kept ≡ None) × EndsInsideEdit fair workers source sink xs)
@@ -52,7 +52,7 @@ module _ {D : Type 0} (told : Type 0) (bytes_of : D → Sides) (images : D → S
 
   -- A refused opening: nothing was read or done, and the last line alone is written. Memory may run out over it.
   pub record IsRefused
-      (old new : D) (source : Reading) (sink : Writing) (status : ℕ) (history : List (ℕ × Event)) (last : Durable) :
+      (old new : D) (source : SourceState) (sink : Writing) (status : ℕ) (history : List (ℕ × Event)) (last : Durable) :
       Type 0 where
     pub fault : OpenFault
     pub refuses : Refuses old new fault
@@ -66,7 +66,7 @@ module _ {D : Type 0} (told : Type 0) (bytes_of : D → Sides) (images : D → S
     -- A session on an opened project: what the disk stood for at first, the history from there, what a stop leaves now,
     -- the cause of the store's first fault, if it met one, and how the session ended.
     pub record IsSession
-        (old new : D) (source : Reading) (sink : Writing) (status : ℕ) (history : List (ℕ × Event)) (last : Durable) :
+        (old new : D) (source : SourceState) (sink : Writing) (status : ℕ) (history : List (ℕ × Event)) (last : Durable) :
         Type 0 where
       pub store : StoreState D
       pub disk : new ≡ store.journal.disk
@@ -78,6 +78,6 @@ module _ {D : Type 0} (told : Type 0) (bytes_of : D → Sides) (images : D → S
       pub cause : IfSome store.kept (λ k. HasCauseOf faults store k.fault k.act.1)
       pub ends : EndsBy fair workers status store.kept source sink xs store.core
 
-    abbrev pub Sessions : D → D → Reading → Writing → ℕ → List (ℕ × Event) → Durable → Type 0
+    abbrev pub Sessions : D → D → SourceState → Writing → ℕ → List (ℕ × Event) → Durable → Type 0
     Sessions old new source sink status history last =
         IsRefused old new source sink status history last ⊎ IsSession old new source sink status history last

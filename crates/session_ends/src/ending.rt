@@ -6,7 +6,7 @@ ghost use Rattle.prover_pool.specs.Shift.{fair};
 ghost use Rattle.project_store.specs.Store.{StoreState, IsSound, base_in, log_in};
 ghost use Rattle.store_log.specs.StoreLog.{chair_of, store_meaning};
 ghost use Rattle.session_play.specs.Playing.{IsPlayed};
-ghost use Rattle.session_streams.specs.Streams.{Reading, reading, writing, WritesNothing};
+ghost use Rattle.session_streams.specs.Streams.{SourceState, reading, writing, WritesNothing};
 ghost use Rattle.session_ends.specs.Private.{PlaysEnd};
 ghost use Rattle.session_ends.specs.Sessions.{IsSession, Opens, Refuses};
 ghost use Rattle.session_ends.specs.Statuses.{status_at, line_at, opening_status, opening_line};
@@ -90,7 +90,7 @@ pub fn end_played<O: Sink, D: Disk, P: Prover>(
     output: &mut O,
     prover: &P,
 ) -> Ended<D>
-    ensures { (workers : ℕ) (first : StoreState D) (source : Reading) (before : Option (List ℕ)) (lost : ℕ) (old : D) →
+    ensures { (workers : ℕ) (first : StoreState D) (source : SourceState) (before : Option (List ℕ)) (lost : ℕ) (old : D) →
         Opens D.told D.bytes_of D.images D.faults old first → base_in store ≡ base_in first →
         IsPlayed chair_of store_meaning (fair (P.answers prover.now) (P.sure prover.now)) workers
         (base_in first) (log_in store) source

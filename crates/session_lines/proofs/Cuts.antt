@@ -4,21 +4,21 @@ use Rattle.std.proofs.lemmas.List.{append_assoc, append-nil}
 use Rattle.std.specs.Str.Lines.{strip_carriage_return}
 use Rattle.session_lines.specs.declared.lines.Found.{Found}
 use Rattle.session_lines.specs.declared.lines.Found.TheVariants.{Ended, Last}
-use Rattle.session_lines.specs.Commands.{put, cut, last_line, text_lines}
+use Rattle.session_lines.specs.Commands.{put_byte, cut_lines, last_line, text_lines}
 use Rattle.session_lines.specs.Private.{Unread, HasNoFeed, IsFirstFeed, IsFirstLine, HasNoLine, line_at, behind}
 use Rattle.session_lines.specs.Reading.{MayCome}
 
-cut_first : (line rest : List ℕ) → HasNoFeed line → cut (line ++ 10 ∷ rest) ≡ (line ∷ (cut rest).0, (cut rest).1)
+cut_first : (line rest : List ℕ) → HasNoFeed line → cut_lines (line ++ 10 ∷ rest) ≡ (line ∷ (cut_lines rest).0, (cut_lines rest).1)
 cut_first [] rest none = refl
 cut_first (b ∷ line) rest none =
-    ap (λ t. cond t ([] ∷ (cut (line ++ 10 ∷ rest)).0, (cut (line ++ 10 ∷ rest)).1) (put b (cut (line ++ 10 ∷ rest)).0 (cut (line ++ 10 ∷ rest)).1)) (ne_eqb b 10 none.0)
-    ∙ ap (λ (c : List (List ℕ) × List ℕ). put b c.0 c.1) (cut_first line rest none.1)
+    ap (λ t. cond t ([] ∷ (cut_lines (line ++ 10 ∷ rest)).0, (cut_lines (line ++ 10 ∷ rest)).1) (put_byte b (cut_lines (line ++ 10 ∷ rest)).0 (cut_lines (line ++ 10 ∷ rest)).1)) (ne_eqb b 10 none.0)
+    ∙ ap (λ (c : List (List ℕ) × List ℕ). put_byte b c.0 c.1) (cut_first line rest none.1)
 
-cut_rest : (line : List ℕ) → HasNoFeed line → cut line ≡ ([], line)
+cut_rest : (line : List ℕ) → HasNoFeed line → cut_lines line ≡ ([], line)
 cut_rest [] none = refl
 cut_rest (b ∷ line) none =
-    ap (λ t. cond t ([] ∷ (cut line).0, (cut line).1) (put b (cut line).0 (cut line).1)) (ne_eqb b 10 none.0)
-    ∙ ap (λ (c : List (List ℕ) × List ℕ). put b c.0 c.1) (cut_rest line none.1)
+    ap (λ t. cond t ([] ∷ (cut_lines line).0, (cut_lines line).1) (put_byte b (cut_lines line).0 (cut_lines line).1)) (ne_eqb b 10 none.0)
+    ∙ ap (λ (c : List (List ℕ) × List ℕ). put_byte b c.0 c.1) (cut_rest line none.1)
 
 -- the first line, and the lines behind it
 lines_first : (line rest : List ℕ) (ended : Bool) → HasNoFeed line → text_lines (line ++ 10 ∷ rest) ended ≡ strip_carriage_return line ∷ text_lines rest ended

@@ -8,14 +8,14 @@ use Rattle.session_lines.specs.Words.{after_blanks, first_word, behind_word}
 -- LINES OF BYTES
 
 -- a byte before lines and what stands behind them
-abbrev pub put : ℕ → List (List ℕ) → List ℕ → List (List ℕ) × List ℕ
-put b [] rest = ([], b ∷ rest)
-put b (line ∷ lines) rest = ((b ∷ line) ∷ lines, rest)
+abbrev pub put_byte : ℕ → List (List ℕ) → List ℕ → List (List ℕ) × List ℕ
+put_byte b [] rest = ([], b ∷ rest)
+put_byte b (line ∷ lines) rest = ((b ∷ line) ∷ lines, rest)
 
 -- the lines that a line feed ends, each without it, and what stands behind the last of these
-abbrev pub cut : List ℕ → List (List ℕ) × List ℕ
-cut [] = ([], [])
-cut (b ∷ bytes) = if b == 10 then ([] ∷ (cut bytes).0, (cut bytes).1) else put b (cut bytes).0 (cut bytes).1
+abbrev pub cut_lines : List ℕ → List (List ℕ) × List ℕ
+cut_lines [] = ([], [])
+cut_lines (b ∷ bytes) = if b == 10 then ([] ∷ (cut_lines bytes).0, (cut_lines bytes).1) else put_byte b (cut_lines bytes).0 (cut_lines bytes).1
 
 -- where the input ended, what stands behind the last line feed is a line too
 abbrev pub last_line : Bool → List ℕ → List (List ℕ)
@@ -25,7 +25,7 @@ last_line ended (b ∷ rest) = if ended then (b ∷ rest) ∷ [] else []
 -- the lines of the bytes: those that a line feed ends, without a carriage return before it, and the unfinished last one
 -- where the input ended
 abbrev pub text_lines : List ℕ → Bool → List (List ℕ)
-text_lines bytes ended = map strip_carriage_return (cut bytes).0 ++ last_line ended (cut bytes).1
+text_lines bytes ended = map strip_carriage_return (cut_lines bytes).0 ++ last_line ended (cut_lines bytes).1
 
 -- COMMANDS
 

@@ -7,7 +7,7 @@ use Rattle.prover_pool.specs.Work.{Meaning}
 use Rattle.prover_pool.specs.Shift.{WasServed}
 use Rattle.store_log.specs.declared.logged.Logged.{Logged}
 use Rattle.store_log.specs.declared.logged.StoreBase.{StoreBase}
-use Rattle.session_streams.specs.Streams.{Reading, Writing}
+use Rattle.session_streams.specs.Streams.{SourceState, Writing}
 use Rattle.session_talk.specs.declared.conversing.Ending.{Ending}
 use Rattle.session_talk.specs.Conversing.{Converses}
 
@@ -15,7 +15,7 @@ module _ (chair_of : Logged → ℕ) (means : Meaning Logged StoreBase) (fair : 
   -- Each worker's chair was served in the last log, no other chair was made, and chair 0, whose commands ended so, had
   -- seen a beginning of that log with all its own acts.
   pub record IsPlayed
-      (workers : ℕ) (base : StoreBase) (log : List Logged) (source : Reading) (sink : Writing) (ending : Ending) :
+      (workers : ℕ) (base : StoreBase) (log : List Logged) (source : SourceState) (sink : Writing) (ending : Ending) :
       Type 0 where
     pub served : (k : ℕ) → 0 < k → k < workers + 1 → WasServed chair_of means fair base k [] log
     pub unmade : NoneFrom chair_of (workers + 1) log

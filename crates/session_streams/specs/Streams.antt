@@ -8,7 +8,7 @@ abbrev pub AppendsFront : Option (List ℕ) → Option (List ℕ) → List ℕ �
 AppendsFront old new text = (n : ℕ) × Appends old new (take n text)
 
 -- A source before and after: the bytes that it has left, where it tells them, and how often it has failed.
-pub record Reading : Type 0 where
+pub record SourceState : Type 0 where
   pub left : Option (List ℕ)
   pub left_then : Option (List ℕ)
   pub faults : ℕ
@@ -21,7 +21,7 @@ pub record Writing : Type 0 where
   pub faults : ℕ
   pub faults_then : ℕ
 
-abbrev pub reading : Option (List ℕ) → Option (List ℕ) → ℕ → ℕ → Reading
+abbrev pub reading : Option (List ℕ) → Option (List ℕ) → ℕ → ℕ → SourceState
 reading left left_then faults faults_then =
     record { left = left; left_then = left_then; faults = faults; faults_then = faults_then }
 
@@ -30,7 +30,7 @@ writing written written_then faults faults_then =
     record { written = written; written_then = written_then; faults = faults; faults_then = faults_then }
 
 -- the source failed
-abbrev pub SourceFailed : Reading → Type 0
+abbrev pub SourceFailed : SourceState → Type 0
 SourceFailed source = Rose source.faults source.faults_then
 
 -- the sink failed

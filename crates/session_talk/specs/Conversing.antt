@@ -10,13 +10,13 @@ use Rattle.store_log.specs.declared.StoreBase.{StoreBase}
 use Rattle.session_run.specs.Dialogue.{tells}
 use Rattle.session_run.specs.Talking.{HasTalked, IsTalking, StopsAt}
 use Rattle.session_streams.specs.Reads.{HasRead, IsNextLine, IsReadEnd}
-use Rattle.session_streams.specs.Streams.{Reading, Writing, SinkFailed, Writes}
+use Rattle.session_streams.specs.Streams.{SourceState, Writing, SinkFailed, Writes}
 use Rattle.session_talk.specs.declared.conversing.Ending.{Ending}
 use Rattle.session_talk.specs.declared.conversing.Ending.TheVariants.{Read, Quit, CutEdit, WriteFault, OutOfMemory, Store}
 
 -- below, chair 0 has seen this log
 module _
-    (fair : Sequent → Attempt → Type 0) (base : StoreBase) (source : Reading) (sink : Writing) (seen : List Logged)
+    (fair : Sequent → Attempt → Type 0) (base : StoreBase) (source : SourceState) (sink : Writing) (seen : List Logged)
   where
     -- What this ending says. The lines were answered, and their text is written. At the last three the next line was
     -- begun: the sink failed on its text, its text was not made, or a store fault stopped its answer.

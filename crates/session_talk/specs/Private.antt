@@ -12,7 +12,7 @@ use Rattle.session_run.specs.Dialogue.{tells}
 use Rattle.session_run.specs.Talking.{HasTalked, AnswersUpTo, StoppedIn}
 use Rattle.session_streams.specs.declared.reading.Reader.{Reader}
 use Rattle.session_streams.specs.Reads.{IsReading}
-use Rattle.session_streams.specs.Streams.{Reading, Writing, Writes, WritesCut, WritesNothing}
+use Rattle.session_streams.specs.Streams.{SourceState, Writing, Writes, WritesCut, WritesNothing}
 use Rattle.session_talk.specs.declared.conversing.Ending.{Ending}
 use Rattle.session_talk.specs.declared.conversing.Ending.TheVariants.{Quit, CutEdit, WriteFault, OutOfMemory, Store}
 use Rattle.session_talk.specs.Conversing.{Converses}
@@ -34,7 +34,7 @@ Says sink said (Err ending) = ⊥
 
 module _ (fair : Sequent → Attempt → Type 0) (base : StoreBase) where
   -- So far chair 0 has answered all lines that it read, and written the answers.
-  pub record IsServing (source : Reading) (sink : Writing) (seen : List Logged) (reader : Reader) : Type 0 where
+  pub record IsServing (source : SourceState) (sink : Writing) (seen : List Logged) (reader : Reader) : Type 0 where
     pub taken : List ℕ
     pub lines : List Line
     pub text : List ℕ
@@ -56,6 +56,6 @@ module _ (fair : Sequent → Attempt → Type 0) (base : StoreBase) where
   ServesLine line old (Err ending) new sink = ⊥
 
   -- one more line was answered, or the commands ended
-  abbrev pub TurnsTo : Reading → Writing → List Logged → Reader → Result ⊤ Ending → Type 0
+  abbrev pub TurnsTo : SourceState → Writing → List Logged → Reader → Result ⊤ Ending → Type 0
   TurnsTo source sink seen reader (Ok done) = IsServing source sink seen reader
   TurnsTo source sink seen reader (Err ending) = Converses fair base source sink seen ending

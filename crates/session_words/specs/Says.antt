@@ -65,8 +65,8 @@ abbrev pub only_path : List ℕ → Option (List ℕ)
 only_path words = option_and_then path_of (only_word words)
 
 -- an obligation's name and a path, and nothing more
-abbrev pub node_of : List ℕ → Option (List ℕ × List ℕ)
-node_of words = option_and_then (λ name. option_map (λ path. (name, path)) (only_path (behind_first words))) (po_of (first_word words))
+abbrev pub node_words : List ℕ → Option (List ℕ × List ℕ)
+node_words words = option_and_then (λ name. option_map (λ path. (name, path)) (only_path (behind_first words))) (po_of (first_word words))
 
 -- a component's name
 abbrev pub deleted : List ℕ → Line
@@ -106,8 +106,8 @@ spoken (Some verb.Faults) words = AtOnce (alone (One (Ask ask.Faults)) words)
 spoken (Some verb.Show) words = AtOnce (shown words)
 spoken (Some verb.Tree) words = AtOnce (or_bad (option_map (λ name. One (Ask (ask.TreeOf name))) (only_po words)))
 spoken (Some verb.Step) words = stepped words
-spoken (Some verb.Prune) words = AtOnce (or_bad (option_map (λ node. One (Prune node.0 node.1)) (node_of words)))
-spoken (Some verb.Review) words = AtOnce (or_bad (option_map (λ node. One (Step node.0 node.1 23 no_hint)) (node_of words)))
+spoken (Some verb.Prune) words = AtOnce (or_bad (option_map (λ node. One (Prune node.0 node.1)) (node_words words)))
+spoken (Some verb.Review) words = AtOnce (or_bad (option_map (λ node. One (Step node.0 node.1 23 no_hint)) (node_words words)))
 spoken (Some verb.Auto) words = AtOnce (or_bad (option_map Auto (only_po words)))
 spoken (Some verb.Wait) words = AtOnce (alone Wait words)
 spoken (Some verb.Purge) words = AtOnce (alone (One Purge) words)

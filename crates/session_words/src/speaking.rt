@@ -10,7 +10,7 @@ ghost use Rattle.step_items.specs.Items.{behind_first};
 ghost use Rattle.step_items.specs.Paths.{path_of};
 ghost use Rattle.session_words.specs.declared.line.Line.TheVariants.{One, Auto};
 ghost use Rattle.session_words.specs.declared.said.Said.TheVariants.{AtOnce, OfItems};
-ghost use Rattle.session_words.specs.Says.{bad_command, or_bad, alone, only_po, only_path, node_of, po_of, deleted, shown_at, shown, no_hint, stepped, spoken, said, Says, Means};
+ghost use Rattle.session_words.specs.Says.{bad_command, or_bad, alone, only_po, only_path, node_words, po_of, deleted, shown_at, shown, no_hint, stepped, spoken, said, Says, Means};
 
 use crate::line::{Line, LineFault};
 use crate::said::Said;
@@ -97,7 +97,7 @@ fn only_path(alloc: Global, words: &[u8]) -> Result<Option<Path>, OutOfMemory>
 
 /// An obligation's name and a path, and nothing more.
 fn node_of(alloc: Global, words: &[u8]) -> Result<Option<(PoName, Path)>, OutOfMemory>
-    ensures { IfOk result (λ node. node ≡ node_of words.now) }
+    ensures { IfOk result (λ node. node ≡ node_words words.now) }
 {
     let Some(name) = po_of(alloc, first_word(words))? else {
         return Ok(None);
@@ -173,7 +173,7 @@ fn auto(alloc: Global, words: &[u8]) -> Result<Line, OutOfMemory>
 
 /// `prune PO PATH`
 fn prune(alloc: Global, words: &[u8]) -> Result<Line, OutOfMemory>
-    ensures { IfOk result (λ line. line ≡ or_bad (option_map (λ node. One (event.Prune node.0 node.1)) (node_of words.now))) }
+    ensures { IfOk result (λ line. line ≡ or_bad (option_map (λ node. One (event.Prune node.0 node.1)) (node_words words.now))) }
 {
     match node_of(alloc, words)? {
         Some((name, path)) => Ok(Line::One(Event::Prune(name, path))),
@@ -196,7 +196,7 @@ fn no_hint(alloc: Global) -> Hint
 
 /// `review PO PATH`
 fn review(alloc: Global, words: &[u8]) -> Result<Line, OutOfMemory>
-    ensures { IfOk result (λ line. line ≡ or_bad (option_map (λ node. One (event.Step node.0 node.1 23 no_hint)) (node_of words.now))) }
+    ensures { IfOk result (λ line. line ≡ or_bad (option_map (λ node. One (event.Step node.0 node.1 23 no_hint)) (node_words words.now))) }
 {
     match node_of(alloc, words)? {
         Some((name, path)) => Ok(Line::One(Event::Step(name, path, 23, no_hint(alloc)))),

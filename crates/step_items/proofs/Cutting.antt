@@ -13,7 +13,7 @@ use Rattle.math_grammar.specs.Tokens.{items_of}
 use Rattle.math_parse.specs.Limits.{IsSentence, Finds}
 use Rattle.math_parse.specs.declared.fault.ParseFault.{ParseFault}
 use Rattle.math_parse.specs.declared.fault.ParseFault.TheVariants as parse
-use Rattle.step_items.specs.Terms.{IsTerm}
+use Rattle.step_items.specs.Terms.{IsTermText}
 use Rattle.step_items.proofs.OneWay.{tokens_in}
 
 abbrev pub CutsOneWay : Type 0
@@ -31,7 +31,7 @@ no_tokens law text fault bad tokens cut = let e : true ≡ false = ap is_ok (law
 pub term_by : {E : Type 0} → CutsOneWay → (h : Hole) (bytes text : List ℕ) (tokens seen : List Token) (answer : Result (Option Raw) E) →
     text ≡ bytes → is_utf8 bytes ≡ true → length bytes < 2 ^ 32 → Cut sign_forms text 0 (Ok tokens) → seen ≡ tokens →
     IfOk answer (λ read. MatchOption read ((t : Raw) → IsSentence h (items_of text seen) t → ⊥) (IsSentence h (items_of text seen))) →
-    IfOk answer (λ read. MatchOption read ((t : Raw) → IsTerm h bytes t → ⊥) (IsTerm h bytes))
+    IfOk answer (λ read. MatchOption read ((t : Raw) → IsTermText h bytes t → ⊥) (IsTermText h bytes))
 term_by law h bytes text tokens seen (Err e) same is short cut shown given = given
 term_by law h bytes text tokens seen (Ok (Some t)) same is short cut shown given = record {
   is_text = is;

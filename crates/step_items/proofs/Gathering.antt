@@ -7,12 +7,12 @@ use Rattle.std.proofs.lemmas.Grind.{flat_map-append}
 use Rattle.formula_core.specs.declared.raw.Raw.{Raw}
 use Rattle.math_grammar.specs.declared.holes.Hole.{Hole}
 use Rattle.math_grammar.specs.declared.holes.Hole.TheVariants as hole
-use Rattle.step_items.specs.Terms.{IsTerm}
+use Rattle.step_items.specs.Terms.{IsTermText}
 use Rattle.sequent_core.specs.declared.hint.Hint.{Hint}
 use Rattle.step_items.specs.declared.item.Item.{Item}
 use Rattle.step_items.specs.declared.item.Item.TheVariants as item
 use Rattle.step_items.specs.declared.hints.Parts.{Parts}
-use Rattle.step_items.specs.Hints.{hyps_of, multipliers_of, names_of, terms_of, laws_of, IsHint}
+use Rattle.step_items.specs.Hints.{hyps_of, multipliers_of, names_in_item, terms_in_item, laws_of, IsHint}
 use Rattle.step_items.specs.Private.{AreTerms, Adds, IsUnread, AreParts}
 
 -- what the items give, with one item more
@@ -31,13 +31,13 @@ added : (front : List Item) (one : Item) (old new : Parts) → AreParts front ol
 added front one old new so_far adds = record {
   hyps = one_more hyps_of front one old.hyps.items new.hyps.items adds.hyps so_far.hyps;
   multipliers = one_more multipliers_of front one old.multipliers.items new.multipliers.items adds.multipliers so_far.multipliers;
-  names = one_more names_of front one old.names.items new.names.items adds.names so_far.names;
+  names = one_more names_in_item front one old.names.items new.names.items adds.names so_far.names;
   laws = one_more laws_of front one old.laws.items new.laws.items adds.laws so_far.laws;
   terms =
-      let all = joined (flat_map terms_of front) (terms_of one) old.terms.items adds.read so_far.terms adds.spelled in
-      let e : flat_map terms_of front ++ terms_of one ≡ flat_map terms_of (front ++ one ∷ []) =
-      one_more terms_of front one (flat_map terms_of front) (flat_map terms_of front ++ terms_of one) refl refl in
-      subst (λ ts. AreTerms (flat_map terms_of (front ++ one ∷ [])) ts) (sym adds.terms)
+      let all = joined (flat_map terms_in_item front) (terms_in_item one) old.terms.items adds.read so_far.terms adds.spelled in
+      let e : flat_map terms_in_item front ++ terms_in_item one ≡ flat_map terms_in_item (front ++ one ∷ []) =
+      one_more terms_in_item front one (flat_map terms_in_item front) (flat_map terms_in_item front ++ terms_in_item one) refl refl in
+      subst (λ ts. AreTerms (flat_map terms_in_item (front ++ one ∷ [])) ts) (sym adds.terms)
       (subst (λ ws. AreTerms ws (old.terms.items ++ adds.read)) e all);
 }
 
@@ -57,14 +57,14 @@ behind_of [] vs ts all = (ts, all)
 behind_of (w ∷ ws) vs [] all = absurd all
 behind_of (w ∷ ws) vs (t ∷ ts) all = behind_of ws vs ts all.1
 
-terms_at : (items : List Item) (i : ℕ) (d : Item) (ts : List Raw) → i < length items → AreTerms (flat_map terms_of items) ts → (us : List Raw) × AreTerms (terms_of (get_or items i d)) us
+terms_at : (items : List Item) (i : ℕ) (d : Item) (ts : List Raw) → i < length items → AreTerms (flat_map terms_in_item items) ts → (us : List Raw) × AreTerms (terms_in_item (get_or items i d)) us
 terms_at [] i d ts less all = absurd (omega (arith, less))
-terms_at (one ∷ items) zero d ts less all = front_of (terms_of one) (flat_map terms_of items) ts all
+terms_at (one ∷ items) zero d ts less all = front_of (terms_in_item one) (flat_map terms_in_item items) ts all
 terms_at (one ∷ items) (suc i) d ts less all =
-    let rest = behind_of (terms_of one) (flat_map terms_of items) ts all in
+    let rest = behind_of (terms_in_item one) (flat_map terms_in_item items) ts all in
     terms_at items i d rest.0 (omega (arith, less)) rest.1
 
-never : (one : Item) → IsUnread one → (us : List Raw) → AreTerms (terms_of one) us → ⊥
+never : (one : Item) → IsUnread one → (us : List Raw) → AreTerms (terms_in_item one) us → ⊥
 never (item.Expression bytes) unread [] all = all
 never (item.Expression bytes) unread (t ∷ us) all = unread t all.0
 never (item.Predicate bytes) unread [] all = all
@@ -78,7 +78,7 @@ never (item.Law law place) unread us all = unread
 pub no_hint : (items : List Item) (i : ℕ) (one : Item) → i < length items → one ≡ get_or items i one → IsUnread one → (hint : Hint) → IsHint items hint → ⊥
 no_hint items i one less is unread hint given =
     let there = terms_at items i one hint.terms less given.terms in
-    never one unread there.0 (subst (λ x. AreTerms (terms_of x) there.0) (sym is) there.1)
+    never one unread there.0 (subst (λ x. AreTerms (terms_in_item x) there.0) (sym is) there.1)
 
 pub where_read : (P Q : Type 0) (b : Bool) → b ≡ true → MatchBool b P Q → P
 where_read P Q true h m = m
@@ -90,13 +90,13 @@ where_not_read P Q false h m = m
 
 -- a formula that isn't read
 pub unread_expression : (it : Item) (bytes seen : List ℕ) (read : Option Raw) → it ≡ item.Expression bytes → seen ≡ bytes → read ≡ None →
-    MatchOption read ((t : Raw) → IsTerm hole.Expression seen t → ⊥) (IsTerm hole.Expression seen) → IsUnread it
+    MatchOption read ((t : Raw) → IsTermText hole.Expression seen t → ⊥) (IsTermText hole.Expression seen) → IsUnread it
 unread_expression it bytes seen read is same none m =
-    subst IsUnread (sym is) (subst (λ b. (t : Raw) → IsTerm hole.Expression b t → ⊥) same
-    (subst (λ o. MatchOption o ((t : Raw) → IsTerm hole.Expression seen t → ⊥) (IsTerm hole.Expression seen)) none m))
+    subst IsUnread (sym is) (subst (λ b. (t : Raw) → IsTermText hole.Expression b t → ⊥) same
+    (subst (λ o. MatchOption o ((t : Raw) → IsTermText hole.Expression seen t → ⊥) (IsTermText hole.Expression seen)) none m))
 
 pub unread_predicate : (it : Item) (bytes seen : List ℕ) (read : Option Raw) → it ≡ item.Predicate bytes → seen ≡ bytes → read ≡ None →
-    MatchOption read ((t : Raw) → IsTerm hole.Predicate seen t → ⊥) (IsTerm hole.Predicate seen) → IsUnread it
+    MatchOption read ((t : Raw) → IsTermText hole.Predicate seen t → ⊥) (IsTermText hole.Predicate seen) → IsUnread it
 unread_predicate it bytes seen read is same none m =
-    subst IsUnread (sym is) (subst (λ b. (t : Raw) → IsTerm hole.Predicate b t → ⊥) same
-    (subst (λ o. MatchOption o ((t : Raw) → IsTerm hole.Predicate seen t → ⊥) (IsTerm hole.Predicate seen)) none m))
+    subst IsUnread (sym is) (subst (λ b. (t : Raw) → IsTermText hole.Predicate b t → ⊥) same
+    (subst (λ o. MatchOption o ((t : Raw) → IsTermText hole.Predicate seen t → ⊥) (IsTermText hole.Predicate seen)) none m))

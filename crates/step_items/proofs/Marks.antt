@@ -1,7 +1,7 @@
 -- Parts between double semicolons.
 use Rattle.std.proofs.Common.{◌≡◌, ℕ, ◌+◌, zero, suc, ◌<◌, ◌≤◌, ◌==◌, ◌&&◌, Bool, true, false, cond, List, [], ◌∷◌, length, take, drop, refl, sym, ap, ◌∙◌, subst, arith}
 use Rattle.step_items.specs.Paths.{onto_first, all_of}
-use Rattle.step_items.specs.Items.{item_of, between_marks, written_items}
+use Rattle.step_items.specs.Items.{item_in, between_marks, written_items}
 use Rattle.step_items.specs.Private.{is_marked, before_mark}
 
 marks_by : (c d n : ℕ) (rest : List ℕ) (t : Bool) → (n < length (d ∷ rest) → between_marks (d ∷ rest) ≡ take n (d ∷ rest) ∷ between_marks (drop (n + 2) (d ∷ rest))) →
@@ -61,6 +61,6 @@ pub one_behind : (bytes : List ℕ) (at : ℕ) → at < length bytes → is_mark
 one_behind bytes at less other so_far = omega (arith, behind_one bytes at less other, so_far)
 
 -- items of bytes that aren't empty
-pub some_items : (bytes : List ℕ) (b : Bool) → b ≡ (length bytes == 0) → b ≡ false → written_items bytes ≡ all_of item_of (between_marks bytes)
+pub some_items : (bytes : List ℕ) (b : Bool) → b ≡ (length bytes == 0) → b ≡ false → written_items bytes ≡ all_of item_in (between_marks bytes)
 some_items [] b is other = let e : true ≡ false = sym is ∙ other in cc
 some_items (c ∷ bytes) b is other = refl

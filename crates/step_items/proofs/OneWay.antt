@@ -13,8 +13,8 @@ use Rattle.math_grammar.specs.Grammar.{Spells}
 use Rattle.math_parse.specs.Limits.{most_parts, IsSentence}
 use Rattle.sequent_core.specs.declared.hint.Hint.{Hint}
 use Rattle.step_items.specs.declared.item.Item.{Item}
-use Rattle.step_items.specs.Hints.{terms_of, laws_of, only_law, IsHint}
-use Rattle.step_items.specs.Terms.{IsTerm}
+use Rattle.step_items.specs.Hints.{terms_in_item, laws_of, only_law, IsHint}
+use Rattle.step_items.specs.Terms.{IsTermText}
 use Rattle.step_items.specs.Private.{AreTerms}
 
 -- a text has one list of tokens, and tokens spell one formula
@@ -26,7 +26,7 @@ abbrev pub tokens_in : Result (List Token) TokenFault → List Token
 tokens_in (Ok tokens) = tokens
 tokens_in (Err fault) = []
 
-one_term : OneReading → (h : Hole) (bytes : List ℕ) (a b : Raw) → IsTerm h bytes a → IsTerm h bytes b → a ≡ b
+one_term : OneReading → (h : Hole) (bytes : List ℕ) (a b : Raw) → IsTermText h bytes a → IsTermText h bytes b → a ≡ b
 one_term laws h bytes a b x y =
     let same : x.tokens ≡ y.tokens = ap tokens_in (laws.cut bytes (Ok x.tokens) (Ok y.tokens) x.cut y.cut) in
     laws.formula most_parts h (items_of bytes x.tokens) a b x.spelled.0 (subst (λ ts. IsSentence h (items_of bytes ts) b) (sym same) y.spelled).0
@@ -53,5 +53,5 @@ one_hint laws items a b x y =
     ap (λ l. hint_by l a.multipliers a.names a.terms a.law a.place) (x.hyps ∙ sym y.hyps)
     ∙ ap (λ l. hint_by b.hyps l a.names a.terms a.law a.place) (x.multipliers ∙ sym y.multipliers)
     ∙ ap (λ l. hint_by b.hyps b.multipliers l a.terms a.law a.place) (x.names ∙ sym y.names)
-    ∙ ap (λ l. hint_by b.hyps b.multipliers b.names l a.law a.place) (one_terms laws (flat_map terms_of items) a.terms b.terms x.terms y.terms)
+    ∙ ap (λ l. hint_by b.hyps b.multipliers b.names l a.law a.place) (one_terms laws (flat_map terms_in_item items) a.terms b.terms x.terms y.terms)
     ∙ ap (λ (l : ℕ × List ℕ). hint_by b.hyps b.multipliers b.names b.terms l.0 l.1) law

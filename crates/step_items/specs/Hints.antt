@@ -7,7 +7,7 @@ use Rattle.math_grammar.specs.declared.holes.Hole.TheVariants as hole
 use Rattle.sequent_core.specs.declared.hint.Hint.{Hint}
 use Rattle.step_items.specs.declared.item.Item.{Item}
 use Rattle.step_items.specs.declared.item.Item.TheVariants as item
-use Rattle.step_items.specs.Terms.{IsTerm}
+use Rattle.step_items.specs.Terms.{IsTermText}
 
 abbrev pub hyps_of : Item → List ℕ
 hyps_of (item.Hyp number) = number ∷ []
@@ -18,14 +18,14 @@ abbrev pub multipliers_of : Item → List ℤ
 multipliers_of (item.Multiplied number multiplier) = multiplier ∷ []
 multipliers_of _ = []
 
-abbrev pub names_of : Item → List (List ℕ)
-names_of (item.Fresh name) = name ∷ []
-names_of _ = []
+abbrev pub names_in_item : Item → List (List ℕ)
+names_in_item (item.Fresh name) = name ∷ []
+names_in_item _ = []
 
-abbrev pub terms_of : Item → List (Hole × List ℕ)
-terms_of (item.Expression bytes) = (hole.Expression, bytes) ∷ []
-terms_of (item.Predicate bytes) = (hole.Predicate, bytes) ∷ []
-terms_of _ = []
+abbrev pub terms_in_item : Item → List (Hole × List ℕ)
+terms_in_item (item.Expression bytes) = (hole.Expression, bytes) ∷ []
+terms_in_item (item.Predicate bytes) = (hole.Predicate, bytes) ∷ []
+terms_in_item _ = []
 
 abbrev pub laws_of : Item → List (ℕ × List ℕ)
 laws_of (item.Law law place) = (law, place) ∷ []
@@ -41,6 +41,6 @@ only_law _ = None
 pub record IsHint (items : List Item) (hint : Hint) : Type 0 where
   pub hyps : hint.hyps ≡ flat_map hyps_of items
   pub multipliers : hint.multipliers ≡ flat_map multipliers_of items
-  pub names : hint.names ≡ flat_map names_of items
-  pub terms : AllZip (λ written t. IsTerm written.0 written.1 t) (flat_map terms_of items) hint.terms
+  pub names : hint.names ≡ flat_map names_in_item items
+  pub terms : AllZip (λ written t. IsTermText written.0 written.1 t) (flat_map terms_in_item items) hint.terms
   pub law : only_law (flat_map laws_of items) ≡ Some (hint.law, hint.place)

@@ -46,8 +46,8 @@ lettered letter rest =
     else None))))
 
 -- the item that the bytes are
-abbrev pub item_of : List ℕ → Option Item
-item_of bytes = lettered (first_word (after_blanks bytes)) (behind_first (after_blanks bytes))
+abbrev pub item_in : List ℕ → Option Item
+item_in bytes = lettered (first_word (after_blanks bytes)) (behind_first (after_blanks bytes))
 
 -- the parts between double semicolons, from the left
 abbrev pub between_marks : List ℕ → List (List ℕ)
@@ -58,4 +58,4 @@ between_marks (c ∷ d ∷ rest) = if c == 59 && d == 59 then [] ∷ between_mar
 -- the items of a step as they are written, of which there may be none
 abbrev pub written_items : List ℕ → Option (List Item)
 written_items [] = Some []
-written_items (c ∷ bytes) = all_of item_of (between_marks (c ∷ bytes))
+written_items (c ∷ bytes) = all_of item_in (between_marks (c ∷ bytes))

@@ -7,8 +7,8 @@ use Rattle.math_grammar.specs.declared.holes.Hole.TheVariants as hole
 use Rattle.step_items.specs.declared.item.Item.{Item}
 use Rattle.step_items.specs.declared.item.Item.TheVariants as item
 use Rattle.step_items.specs.declared.hints.Parts.{Parts}
-use Rattle.step_items.specs.Hints.{hyps_of, multipliers_of, names_of, terms_of, laws_of}
-use Rattle.step_items.specs.Terms.{IsTerm}
+use Rattle.step_items.specs.Hints.{hyps_of, multipliers_of, names_in_item, terms_in_item, laws_of}
+use Rattle.step_items.specs.Terms.{IsTermText}
 
 -- a double semicolon stands in front
 abbrev pub is_marked : List ℕ → Bool
@@ -22,28 +22,28 @@ before_mark (c ∷ rest) = if is_marked (c ∷ rest) then 0 else 1 + before_mark
 
 -- the formulas are spelled so
 abbrev pub AreTerms : List (Hole × List ℕ) → List Raw → Type 0
-AreTerms written terms = AllZip (λ one t. IsTerm one.0 one.1 t) written terms
+AreTerms written terms = AllZip (λ one t. IsTermText one.0 one.1 t) written terms
 
 -- the item is added to the parts
 pub record Adds (it : Item) (old new : Parts) : Type 0 where
   pub hyps : new.hyps.items ≡ old.hyps.items ++ hyps_of it
   pub multipliers : new.multipliers.items ≡ old.multipliers.items ++ multipliers_of it
-  pub names : new.names.items ≡ old.names.items ++ names_of it
+  pub names : new.names.items ≡ old.names.items ++ names_in_item it
   pub laws : new.laws.items ≡ old.laws.items ++ laws_of it
   pub read : List Raw
   pub terms : new.terms.items ≡ old.terms.items ++ read
-  pub spelled : AreTerms (terms_of it) read
+  pub spelled : AreTerms (terms_in_item it) read
 
 -- it has a formula, which can't be read
 abbrev pub IsUnread : Item → Type 0
-IsUnread (item.Expression bytes) = (t : Raw) → IsTerm hole.Expression bytes t → ⊥
-IsUnread (item.Predicate bytes) = (t : Raw) → IsTerm hole.Predicate bytes t → ⊥
+IsUnread (item.Expression bytes) = (t : Raw) → IsTermText hole.Expression bytes t → ⊥
+IsUnread (item.Predicate bytes) = (t : Raw) → IsTermText hole.Predicate bytes t → ⊥
 IsUnread _ = ⊥
 
 -- the parts that the items have together
 pub record AreParts (items : List Item) (parts : Parts) : Type 0 where
   pub hyps : parts.hyps.items ≡ flat_map hyps_of items
   pub multipliers : parts.multipliers.items ≡ flat_map multipliers_of items
-  pub names : parts.names.items ≡ flat_map names_of items
+  pub names : parts.names.items ≡ flat_map names_in_item items
   pub laws : parts.laws.items ≡ flat_map laws_of items
-  pub terms : AreTerms (flat_map terms_of items) parts.terms.items
+  pub terms : AreTerms (flat_map terms_in_item items) parts.terms.items

@@ -10,7 +10,7 @@ use Rattle.math_grammar.specs.Tokens.{items_of}
 use Rattle.math_parse.specs.Limits.{IsSentence}
 
 -- The bytes spell the formula, a predicate or an expression as the hole says.
-pub record IsTerm (hole : Hole) (bytes : List ℕ) (t : Raw) : Type 0 where
+pub record IsTermText (hole : Hole) (bytes : List ℕ) (t : Raw) : Type 0 where
   pub is_text : is_utf8 bytes ≡ true
   pub is_short : length bytes < 2 ^ 32
   pub tokens : List Token

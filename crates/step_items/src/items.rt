@@ -1,7 +1,7 @@
 //! Reading of items.
 ghost use Rattle.std.specs.Prelude.{◌≡◌, ◌≤◌, IfOk, drop, length};
 ghost use Rattle.std.specs.Option.{option_map};
-ghost use Rattle.step_items.specs.Items.{multiplied, hyp_item, name_item, law_item, lettered, item_of, written_items};
+ghost use Rattle.step_items.specs.Items.{multiplied, hyp_item, name_item, law_item, lettered, item_in, written_items};
 ghost use Rattle.step_items.specs.Private.{is_marked, before_mark};
 
 use crate::bytes::{behind_first, only_word};
@@ -92,7 +92,7 @@ fn lettered(alloc: Global, letter: &[u8], rest: &[u8]) -> Result<Option<Item>, O
 
 /// The item that the bytes are.
 fn item_of(alloc: Global, bytes: &[u8]) -> Result<Option<Item>, OutOfMemory>
-    ensures { IfOk result (λ item. item ≡ item_of bytes.now) }
+    ensures { IfOk result (λ item. item ≡ item_in bytes.now) }
 {
     let words = after_blanks(bytes);
     lettered(alloc, first_word(words), behind_first(words))

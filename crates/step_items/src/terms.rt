@@ -8,7 +8,7 @@ ghost use Rattle.math_tokens.specs.Texts.{Cut};
 ghost use Rattle.math_grammar.specs.declared.holes.Hole.TheVariants as hole;
 ghost use Rattle.math_grammar.specs.Tokens.{items_of};
 ghost use Rattle.math_parse.specs.Limits.{IsSentence};
-ghost use Rattle.step_items.specs.Terms.{IsTerm};
+ghost use Rattle.step_items.specs.Terms.{IsTermText};
 
 use formula_core::{OutOfMemory, Raw};
 use math_parse::{ParseFault, expression, predicate};
@@ -70,7 +70,7 @@ fn predicate_of(alloc: Global, text: &str, cut: &[Token]) -> Result<Option<Raw>,
 
 /// The expression that the bytes spell.
 pub fn read_expression(alloc: Global, bytes: &[u8]) -> Result<Option<Raw>, OutOfMemory>
-    ensures { IfOk result (λ read. MatchOption read ((t : Raw) → IsTerm hole.Expression bytes.now t → ⊥) (IsTerm hole.Expression bytes.now)) }
+    ensures { IfOk result (λ read. MatchOption read ((t : Raw) → IsTermText hole.Expression bytes.now t → ⊥) (IsTermText hole.Expression bytes.now)) }
 {
     let Some(text) = text_of(bytes) else {
         return Ok(None);
@@ -84,7 +84,7 @@ pub fn read_expression(alloc: Global, bytes: &[u8]) -> Result<Option<Raw>, OutOf
 
 /// The predicate that the bytes spell.
 pub fn read_predicate(alloc: Global, bytes: &[u8]) -> Result<Option<Raw>, OutOfMemory>
-    ensures { IfOk result (λ read. MatchOption read ((t : Raw) → IsTerm hole.Predicate bytes.now t → ⊥) (IsTerm hole.Predicate bytes.now)) }
+    ensures { IfOk result (λ read. MatchOption read ((t : Raw) → IsTermText hole.Predicate bytes.now t → ⊥) (IsTermText hole.Predicate bytes.now)) }
 {
     let Some(text) = text_of(bytes) else {
         return Ok(None);
