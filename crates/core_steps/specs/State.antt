@@ -1,5 +1,5 @@
 -- The state that users and provers change.
-use Rattle.std.specs.Prelude.{◌≡◌, ℕ, List, [], ◌∷◌, Option, Some, None}
+use Rattle.std.specs.Prelude.{ℕ, List, [], ◌∷◌, Option, Some, None}
 use Rattle.std.specs.FinMap.{FinMap, insert, remove, empty}
 use Rattle.sequent_core.specs.declared.Sequent.{Sequent}
 use Rattle.sequent_core.specs.declared.Ticket.{Ticket}
@@ -45,10 +45,3 @@ pub record State : Type 0 where
 -- the state in which a durable is opened: no ticket is out, and nothing is tried
 abbrev pub opened : Durable → State
 opened d = record { durable = d; out = []; tried = empty; next = 1 }
-
--- no proof is stored, no ticket is out, nothing is tried, and the next ticket is the first
-pub record IsFresh (s : State) : Type 0 where
-  pub proofs : s.durable.proofs ≡ empty
-  pub out : s.out ≡ []
-  pub tried : s.tried ≡ empty
-  pub next : s.next ≡ 1

@@ -44,13 +44,6 @@ impl Project {
         self.texts.len()
     }
 
-    /// Whether it has a component of the name.
-    pub fn has(&self, name: &Name) -> bool
-        ensures { result ≡ map.contains_key self.now name.now }
-    {
-        self.texts.contains_key(name)
-    }
-
     /// Sets the text of a component. The project is unchanged after a refusal.
     pub fn put(&mut self, name: Name, text: Text) -> Result<(), OutOfMemory>
         ensures ok { OnOk result (self.new ≡ map.insert self.old name text) }

@@ -1,17 +1,23 @@
 -- The log of a store, and what its acts do to it.
-use Rattle.std.proofs.Common.{◌≡◌, ◌∙◌, ⊎_elim, inl, inr, sym, ap, subst, refl, ℕ, Option, Some, None, [], ◌∷◌, ◌++◌, map}
+use Rattle.std.proofs.Common.{◌≡◌, ◌∙◌, ⊎_elim, inl, inr, sym, ap, subst, refl, ℕ, List, Option, Some, None, [], ◌∷◌, ◌++◌, map}
 use Rattle.std.specs.Prelude.{Result, Ok, Err, IfOk, OnOk, OnErr, MatchResult}
 use Rattle.std.proofs.lemmas.List.{map-append, append-nil}
 use Rattle.outside.specs.Disk.{Sides}
 use Rattle.core_steps.specs.declared.events.Event.{Event}
 use Rattle.core_steps.specs.declared.events.Reply.{Reply}
+use Rattle.core_steps.specs.Run.{Exchange}
 use Rattle.turn_desk.specs.Log.{Grows}
-use Rattle.store_log.specs.StoreLog.{chair_of, marks, Performs as PerformsInLog}
+use Rattle.store_log.specs.History.{events_of}
+use Rattle.store_log.specs.StoreLog.{chair_of, done, marks, Performs as PerformsInLog}
 use Rattle.store_log.specs.Storing.{mark_of, Refuses, Applies}
 use Rattle.store_log.specs.declared.fault.StoreFault.{StoreFault}
 use Rattle.project_store.specs.declared.fault.KeptFault.{KeptFault}
-use Rattle.project_store.specs.Marks.{all_logged}
 use Rattle.project_store.specs.Store.{met, StoreState, IsSound, Performs, again, logged, mark_in, log_in, base_in}
+
+-- the acts of a history, as entries
+all_logged : (xs : List (ℕ × Exchange)) → map logged (events_of xs) ≡ map done xs
+all_logged [] = refl
+all_logged (x ∷ xs) = λ i. done x ∷ all_logged xs i
 
 module _ {D : Type 0} (told : Type 0) (bytes_of : D → Sides) (images : D → Sides → Type 0) (faults : D → ℕ) (old new : StoreState D) where
   unmarked : (s : StoreState D) → s.kept ≡ None → log_in s ≡ map logged s.history
