@@ -75,9 +75,4 @@ impl Bank {
         let ty = self.term(left).ty;
         self.add(Head::Node(op), &[left, right], &[], ty)
     }
-
-    /// A name with a type.
-    pub fn free(&mut self, name: u32, ty: Id) -> Result<Id, Stop> {
-        self.add(Head::Free(name), &[], &[], ty)
-    }
 }
