@@ -1,7 +1,7 @@
 //! The levels of operators, and the forms that have words or brackets of their own.
 
 ghost use Rattle.std.specs.Prelude.{◌≡◌, None};
-ghost use Rattle.math_grammar.specs.Levels.{level, right_of, takes_left, left_of, agrees, prefix_hole, prefix_grade, prefix_op, call_hole, call_grade, call_parts, has_room, binding_grade, binder_of, implicit_of, is_quantified, takes_names, takes_shape, is_closed};
+ghost use Rattle.math_grammar.specs.Levels.{level, right_of, takes_left, left_of, agrees, prefix_hole, prefix_grade, prefix_op, call_hole, call_grade, call_parts, has_room, binding_grade, binder_of, implicit_of, is_quantified, is_closed};
 
 use crate::holes::{Grade, Hole};
 use formula_core::{Binder, Op, RawBinder, RawOp};
@@ -238,20 +238,6 @@ impl Binding {
         ensures { result ≡ is_quantified self }
     {
         matches!(self, Binding::Quantified(_))
-    }
-
-    /// Whether names with a dot behind them may follow it.
-    pub fn takes_names(self) -> bool
-        ensures { result ≡ takes_names self }
-    {
-        !matches!(self, Binding::Lambda)
-    }
-
-    /// Whether an expression with a bar behind it may follow it.
-    pub fn takes_shape(self) -> bool
-        ensures { result ≡ takes_shape self }
-    {
-        matches!(self, Binding::Set | Binding::Reaching(_))
     }
 
     /// Whether a bracket ends it.

@@ -1,10 +1,10 @@
 //! The classes of tokens.
 
 ghost use Rattle.std.specs.Prelude.{◌≡◌};
-ghost use Rattle.math_grammar.specs.Levels.{infix_of, prefix_of, suffix_of, is_typing, opens, goes_on};
+ghost use Rattle.math_grammar.specs.Levels.{infix_of, suffix_of, is_typing, goes_on};
 
 use crate::holes::{Grade, Hole};
-use crate::levels::{Binding, Bracket, Call, Level, Prefix};
+use crate::levels::{Binding, Bracket, Call, Level};
 use formula_core::{Binder, Op, RawOp};
 
 /// What a token is to the grammar.
@@ -128,17 +128,6 @@ impl Symbol {
         }
     }
 
-    /// The operator before one operand that it is.
-    pub fn prefix(self) -> Option<Prefix>
-        ensures { result ≡ prefix_of self }
-    {
-        match self {
-            Symbol::Not => Some(Prefix::Not),
-            Symbol::Minus => Some(Prefix::Minus),
-            _ => None,
-        }
-    }
-
     /// The brackets that it opens behind a formula, by the one that closes them and the operator.
     pub fn suffix(self) -> Option<(Bracket, RawOp)>
         ensures { result ≡ suffix_of self }
@@ -155,17 +144,6 @@ impl Symbol {
         ensures { result ≡ is_typing self }
     {
         matches!(self, Symbol::Infix(Level::Typing, _))
-    }
-
-    /// The form with bound names that it may open.
-    pub fn binding(self) -> Option<Binding>
-        ensures { result ≡ opens self }
-    {
-        match self {
-            Symbol::Binder(binding) => Some(binding),
-            Symbol::Open(Bracket::Brace) => Some(Binding::Set),
-            _ => None,
-        }
     }
 
     /// Whether at this place it goes on with a formula of this grade before it.
