@@ -23,11 +23,11 @@ use Rattle.component_text.specs.declared.stop.Stop.TheVariants as stop
 use Rattle.component_text.specs.Marks.{Mark, word, label, plain, behind_run, is_word, is_at}
 use Rattle.component_text.specs.Forms.{Bounds, limits, parts, none, One, Run, Nothing, Then, Choice, taken, other, no_more, one_more}
 use Rattle.component_text.specs.Grammar.{IsFormula, IsPlaced, reference, is_reference, label_at, Names, SomeNames, labelled, Labelled, Line, begins_line, Lines, NamesBehind, SomeNamesBehind, LinesBehind, context_of, ContextBody, IsContext}
-use Rattle.component_text.specs.Reading.{end_mark, Begins, Refuses, Passes, Reads, Takes, Lacks, ReadsFormula, AddsNames, Ends, ReadsWhole}
+use Rattle.component_text.specs.PrivateReading.{end_mark, Begins, Refuses, Passes, Reads, Takes, Lacks, ReadsFormula, AddsNames, Ends, ReadsWhole}
 use Rattle.component_text.proofs.Parts.{IsLooser, Good, good_one, good_run, good_nothing, good_then, good_of, good_choice, good_many}
 use Rattle.component_text.proofs.Refusing.{CanSkip, skip_begins, left_out, one_refused, one_then_refused, one_then_passes, first_refused, first_passes, both_skip, second_refused, second_passes, of_refused, of_passes, taken_refused, taken_passes, other_refused, other_passes, other_skip, many_skip, many_here, many_here_passes, many_later, many_later_passes}
 use Rattle.component_text.proofs.Formulas.{label_refused, label_passes}
-use Rattle.component_text.specs.Reading.{NoFormula, all_plain, behind_word}
+use Rattle.component_text.specs.PrivateReading.{NoFormula, all_plain, behind_word}
 use Rattle.component_text.proofs.Looser.{formula_looser}
 use Rattle.std.proofs.lemmas.Slice.Eq.{bytes_eq-Decides}
 use Rattle.component_text.proofs.Placed.{Leaves, leaves_one, leaves_nothing, leaves_formula, leaves_of, leaves_then, leaves_choice, leaves_many}

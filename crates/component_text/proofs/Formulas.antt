@@ -9,7 +9,7 @@ use Rattle.component_text.specs.Marks.{Mark, word, label, plain, run, behind_run
 use Rattle.component_text.specs.Forms.{Bounds, limits, parts, none, One, Run, Then}
 use Rattle.component_text.specs.Grammar.{label_at}
 use Rattle.component_text.specs.Faults.{opens_formula}
-use Rattle.component_text.specs.Reading.{end_mark, BeginsIn, NoneHasIn, NoneHas, Refuses, IsLargeIn, is_long, is_wide, Passes, from_token, StartsIn, StopsAt, PassesAt, is_plain, AreShort, Placed, not_plain, in_formula}
+use Rattle.component_text.specs.PrivateReading.{end_mark, BeginsIn, NoneHasIn, NoneHas, Refuses, IsLargeIn, is_long, is_wide, Passes, from_token, StartsIn, StopsAt, PassesAt, is_plain, AreShort, Placed, not_plain, in_formula}
 use Rattle.component_text.proofs.Refusing.{one_begins, one_then_nowhere, one_then_wrong}
 use Rattle.component_text.proofs.Shorts.{taken_fewer, short_append, formula_short}
 use Rattle.component_text.proofs.Parts.{Ended, nothing_there, at_word, at_label, run_ends, run_of, behind_of}

@@ -13,8 +13,8 @@ use Rattle.math_parse.specs.Machine.{State, want, step, found, refused, run}
 use Rattle.math_parse.specs.Reading.{is_full}
 use Rattle.math_parse.proofs.Small.{small, small_step}
 use Rattle.math_parse.proofs.Place.{found_sentence, sentence_found}
-use Rattle.math_action.specs.Machine as action
-use Rattle.math_action.specs.Reading as reading
+use Rattle.math_action.specs.PrivateMachine as action
+use Rattle.math_action.specs.PrivateReading as reading
 use Rattle.math_action.proofs.Small as less
 use Rattle.math_action.proofs.Place as place
 

@@ -26,7 +26,7 @@ use Rattle.component_text.specs.Forms.{Bounds, limits, parts, none, One, Run, No
 use Rattle.component_text.specs.Grammar.{IsPlaced, reference, label_at, is_a_label, SomeNames, Names, Labelled, Lines, SomeNamesBehind, NamesBehind, LinesBehind}
 use Rattle.component_text.specs.Machines.{IsAct, word_at, Refines, Expression, VariantExpression, variant_of, Variant, Witnesses, step, Step, Steps, extending, refining, References, either, Guards, With, Actions, event_of, EventBody, Event, begins_event, EventList, Events, machine_of, MachineBody}
 use Rattle.component_text.specs.Faults.{opens_formula}
-use Rattle.component_text.specs.Reading.{end_mark, BeginsIn, Begins, NoneHasIn, Refuses, Reads, Takes, Lacks, StartsIn, ReadsFormula, is_plain, AreShort, NoFormula}
+use Rattle.component_text.specs.PrivateReading.{end_mark, BeginsIn, Begins, NoneHasIn, Refuses, Reads, Takes, Lacks, StartsIn, ReadsFormula, is_plain, AreShort, NoFormula}
 use Rattle.component_text.proofs.Looser.{action_looser}
 use Rattle.std.proofs.lemmas.List.{append_cancel_right}
 use Rattle.component_text.proofs.Shorts.{short_append, run_short, before_label}

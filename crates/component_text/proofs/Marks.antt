@@ -18,8 +18,8 @@ use Rattle.math_tokens.specs.declared.cutting.Token.{Token}
 use Rattle.math_grammar.specs.Tokens.{Item, bytes_of, item_of, items_of}
 use Rattle.component_tokens.specs.Pieces.{at_sign}
 use Rattle.component_text.specs.Marks.{Mark, word, label, plain, is_structural, mark_by, mark_of, marks_of, run, behind_run, is_word, is_at}
-use Rattle.component_text.specs.Reading.{Takes, from_token, StartsIn, StopsAt, PassesAt, ReadsFormula}
-use Rattle.component_text.specs.Texts.{is_plain_text, plain_length}
+use Rattle.component_text.specs.PrivateReading.{Takes, from_token, StartsIn, StopsAt, PassesAt, ReadsFormula}
+use Rattle.component_text.specs.PrivateTexts.{is_plain_text, plain_length}
 
 -- it ends a formula
 abbrev Ends : Mark → Type 0

@@ -5,7 +5,7 @@ use Rattle.std.proofs.lemmas.List.{append_cancel_right}
 use Rattle.math_grammar.specs.Tokens.{Item}
 use Rattle.component_text.specs.Marks.{Mark, word, label, plain, run, behind_run, is_at}
 use Rattle.component_text.specs.Forms.{Bounds, limits, parts, none, One, Run, Nothing, Then, Choice, taken, other, Many, no_more, one_more, Of}
-use Rattle.component_text.specs.Reading.{end_mark}
+use Rattle.component_text.specs.PrivateReading.{end_mark}
 
 -- the same token stands first, or none
 pub data SameStart : List Mark → List Mark → Type 0 where

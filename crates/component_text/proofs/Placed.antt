@@ -7,7 +7,7 @@ use Rattle.math_parse.specs.Limits.{first_large}
 use Rattle.component_text.specs.Marks.{Mark, word, label, plain, run, is_at}
 use Rattle.component_text.specs.Forms.{Bounds, limits, One, Run, Nothing, Then, Choice, taken, other, Many, no_more, one_more, Of}
 use Rattle.component_text.specs.Faults.{opens_formula, IsLong}
-use Rattle.component_text.specs.Reading.{is_plain, NoFormula, behind_word, all_plain, AreShort, Placed, not_plain, no_formula, in_formula}
+use Rattle.component_text.specs.PrivateReading.{is_plain, NoFormula, behind_word, all_plain, AreShort, Placed, not_plain, no_formula, in_formula}
 use Rattle.component_text.proofs.Shorts.{alone_short, short_append, run_short}
 use Rattle.component_text.proofs.Parts.{Ended, nothing_there, at_word, at_label, run_ends, run_of, Good}
 

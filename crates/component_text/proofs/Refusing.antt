@@ -4,7 +4,7 @@ use Rattle.std.specs.Prelude.{Option}
 use Rattle.component_text.specs.Marks.{Mark, is_at}
 use Rattle.component_text.specs.Forms.{Bounds, limits, parts, none, One, Then, Choice, taken, other, Many, no_more, one_more, Of}
 use Rattle.component_text.specs.Faults.{IsLong}
-use Rattle.component_text.specs.Reading.{end_mark, BeginsIn, Begins, NoneHasIn, NoneHas, IsLargeIn, is_long, is_wide, Refuses, Passes, Lacks, is_plain, NoFormula, no_formula}
+use Rattle.component_text.specs.PrivateReading.{end_mark, BeginsIn, Begins, NoneHasIn, NoneHas, IsLargeIn, is_long, is_wide, Refuses, Passes, Lacks, is_plain, NoFormula, no_formula}
 use Rattle.component_text.proofs.Placed.{none_free, placed_behind, Leaves}
 use Rattle.component_text.proofs.Shorts.{alone_short, short_behind}
 use Rattle.component_text.proofs.Parts.{SameStart, same_first, same, closing, Good, same_start_self}

@@ -7,7 +7,7 @@ use Rattle.component_text.specs.Marks.{Mark, word, label, plain, run}
 use Rattle.component_text.specs.Forms.{Bounds, limits, Run}
 use Rattle.component_text.specs.Grammar.{is_a_label}
 use Rattle.component_text.specs.Faults.{opens_formula, NoneIsLong}
-use Rattle.component_text.specs.Reading.{NoFormula, behind_word, all_plain, AreShort}
+use Rattle.component_text.specs.PrivateReading.{NoFormula, behind_word, all_plain, AreShort}
 use Rattle.component_text.proofs.Parts.{Ended, nothing_there, run_split, run_ends, run_of}
 
 -- tokens that stand first are within the limits, too

@@ -5,7 +5,7 @@ use Rattle.component_text.specs.declared.stop.Stop.{Stop}
 use Rattle.component_text.specs.declared.stop.Stop.TheVariants as stop
 use Rattle.component_text.specs.Marks.{Mark, is_at}
 use Rattle.component_text.specs.Forms.{Bounds, limits, none, One, Nothing, Then, Choice, taken, other, Many, no_more, one_more, Of}
-use Rattle.component_text.specs.Reading.{end_mark, Begins, NoneHas, Refuses, Passes, Reads, Takes, Lacks, NoFormula, no_formula}
+use Rattle.component_text.specs.PrivateReading.{end_mark, Begins, NoneHas, Refuses, Passes, Reads, Takes, Lacks, NoFormula, no_formula}
 use Rattle.component_text.proofs.Parts.{Good}
 use Rattle.component_text.proofs.Placed.{Leaves, none_free}
 use Rattle.component_text.proofs.Refusing.{CanSkip, one_refused, one_then_refused, one_then_passes, first_refused, first_passes, second_refused, second_passes, of_refused, of_passes, taken_refused, taken_passes, other_refused, other_passes, many_here, many_here_passes}

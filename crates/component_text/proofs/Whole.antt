@@ -7,7 +7,7 @@ use Rattle.component_text.specs.Marks.{Mark, word, label, plain, is_word, is_at}
 use Rattle.component_text.specs.Forms.{Bounds, limits, parts, none}
 use Rattle.component_text.specs.Grammar.{Headed}
 use Rattle.component_text.specs.Faults.{NoneIsLong, Continues, BeginsWithin, NoneGoesOn, IsLargeAt, long, wide, IsUnexpectedAt, IsTooLargeAt}
-use Rattle.component_text.specs.Reading.{end_mark, BeginsIn, Begins, NoneHasIn, NoneHas, IsLargeIn, is_long, is_wide, AreShort, Refuses, Passes, behind_word, Placed, no_formula}
+use Rattle.component_text.specs.PrivateReading.{end_mark, BeginsIn, Begins, NoneHasIn, NoneHas, IsLargeIn, is_long, is_wide, AreShort, Refuses, Passes, behind_word, Placed, no_formula}
 use Rattle.component_text.proofs.Placed.{placed_small, placed_behind, placed_after, word_free, none_free, both_free, Leaves}
 use Rattle.component_text.proofs.Shorts.{short_less, short_append, word_short, short_within}
 use Rattle.component_text.proofs.Parts.{both_end, same_first, same, closing, Good, same_start_self}

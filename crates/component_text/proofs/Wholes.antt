@@ -9,7 +9,7 @@ use Rattle.component_text.specs.Forms.{Bounds, limits, parts, none}
 use Rattle.component_text.specs.Grammar.{Headed, IsContext}
 use Rattle.component_text.specs.Machines.{IsMachine, MachineBody, IsComponent, a_context, a_machine}
 use Rattle.component_text.specs.Faults.{Continues, BeginsWithin, NoneGoesOn, IsLargeAt, long, wide}
-use Rattle.component_text.specs.Reading.{Begins, Reads, Ends, ReadsWhole}
+use Rattle.component_text.specs.PrivateReading.{Begins, Reads, Ends, ReadsWhole}
 use Rattle.component_text.proofs.Parts.{Good}
 use Rattle.component_text.proofs.Placed.{Leaves}
 use Rattle.component_text.proofs.Whole.{whole, body_unexpected, body_too_large, head_unexpected, head_wrong, body_wrong, after_body, after_end, end_wrong}

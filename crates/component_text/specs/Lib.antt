@@ -3,6 +3,6 @@ pub mod Forms
 pub mod Grammar
 pub mod Machines
 pub mod Faults
-pub mod Reading
-pub mod Texts
+pub mod PrivateReading
+pub mod PrivateTexts
 pub mod Spelled

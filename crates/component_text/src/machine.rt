@@ -2,7 +2,7 @@
 
 ghost use Rattle.component_text.specs.Grammar.{Labelled};
 ghost use Rattle.component_text.specs.Machines.{Refines, Variant, References, Guards, Witnesses, With, Step, Steps, Actions, EventBody, Event, EventList, Events, MachineBody, IsMachine, IsComponent};
-ghost use Rattle.component_text.specs.Reading.{Reads, ReadsWhole};
+ghost use Rattle.component_text.specs.PrivateReading.{Reads, ReadsWhole};
 
 use crate::cursor::Cursor;
 use crate::parse::{context, ends, labelled, lines, lines_behind, names_behind, some_names_behind};

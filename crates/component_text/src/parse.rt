@@ -2,7 +2,7 @@
 
 ghost use Rattle.std.specs.Prelude.{IfOk, ◌≡◌, false, bytes_eq, codes};
 ghost use Rattle.component_text.specs.Grammar.{Names, SomeNames, NamesBehind, SomeNamesBehind, Labelled, Line, Lines, LinesBehind, ContextBody, IsContext};
-ghost use Rattle.component_text.specs.Reading.{Reads, AddsNames, Ends, ReadsWhole};
+ghost use Rattle.component_text.specs.PrivateReading.{Reads, AddsNames, Ends, ReadsWhole};
 
 use crate::cursor::Cursor;
 use crate::stop::Stop;

@@ -9,7 +9,7 @@ pub mod Rows
 pub mod SchemeView
 pub mod Same
 pub mod Schemes
-pub mod Scopes
+pub mod PrivateScopes
 pub mod SharedNames
 pub mod Shifting
 pub mod Sizes

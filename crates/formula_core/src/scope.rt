@@ -2,7 +2,7 @@
 ghost use Rattle.std.specs.Prelude.{◌≡◌, ◌+◌, ◌<◌, ◌++◌, length, reverse, drop, slice_get, false, IfSome};
 ghost use Rattle.std.specs.Option.{option_copied, option_map_or};
 ghost use Rattle.formula_core.specs.Types.{same_type};
-ghost use Rattle.formula_core.specs.Scopes.{types_below};
+ghost use Rattle.formula_core.specs.PrivateScopes.{types_below};
 
 use crate::ty::Ty;
 use std::marker::Model;
@@ -27,7 +27,7 @@ impl<'a> Model for Scope<'a> {
     ghost use Rattle.std.specs.Coded.{codes};
     ghost use Rattle.formula_core.specs.declared.ty.Ty.{Ty};
     ghost use Rattle.formula_core.specs.contracts.ty.Ty as ty;
-    ghost use Rattle.formula_core.specs.Scopes.{types_below};
+    ghost use Rattle.formula_core.specs.PrivateScopes.{types_below};
 
     ghost Value = { List Ty };
 

@@ -5,7 +5,7 @@ ghost use Rattle.outside.specs.Disk.{Sides, LeavesOnly};
 ghost use Rattle.outside.specs.declared.side.Side.{Side};
 ghost use Rattle.journal_core.specs.Sides.{StandsAt, HasRecords, IsBeforeOrAfter, IsBeforeOrOne, open_records, other};
 ghost use Rattle.journal_core.specs.Start.{Meaning, meaning_of, StandsFor, IsAnswerFor, IsCause, IsReady, StandsAsSome, ArePlaced, bodies_of};
-ghost use Rattle.journal_core.specs.Reading.{side_of, number_of, rest_of};
+ghost use Rattle.journal_core.specs.PrivateReading.{side_of, number_of, rest_of};
 ghost use Rattle.journal_core.specs.State.{IsKept, JournalState};
 
 use crate::open::open;

@@ -6,7 +6,7 @@ use Rattle.formula_core.specs.declared.raw.RawAction.{RawAction}
 use Rattle.math_grammar.specs.Tokens.{Item}
 use Rattle.math_grammar.specs.Actions.{SpellsAction, BeginsAction}
 use Rattle.math_action.specs.Faults.{IsUnexpectedInAction}
-use Rattle.math_action.specs.Machine.{target, ActionOutcome, found, refused, action_run}
+use Rattle.math_action.specs.PrivateMachine.{target, ActionOutcome, found, refused, action_run}
 use Rattle.math_action.proofs.Sound.{sound_start}
 use Rattle.math_action.proofs.Place.{Halts, halts, action_found, unexpected}
 

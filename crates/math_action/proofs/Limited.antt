@@ -10,8 +10,8 @@ use Rattle.math_parse.specs.declared.fault.ParseFault.TheVariants as fault
 use Rattle.math_parse.specs.Limits.{most_parts, passes, open_after, first_large_from}
 use Rattle.math_parse.proofs.Basics.{chosen}
 use Rattle.math_action.specs.Limits.{IsAction, FindsAction, IsActionFault}
-use Rattle.math_action.specs.Machine.{ActionState, target, action_step, action_ended, found, refused, action_run}
-use Rattle.math_action.specs.Reading.{is_full_action, ActionReading, read_whole, stopped, passed, at_end, next_reading, action_reading, ReadsAction}
+use Rattle.math_action.specs.PrivateMachine.{ActionState, target, action_step, action_ended, found, refused, action_run}
+use Rattle.math_action.specs.PrivateReading.{is_full_action, ActionReading, read_whole, stopped, passed, at_end, next_reading, action_reading, ReadsAction}
 use Rattle.math_action.proofs.Sound.{Sound, sound_start, sound_step}
 use Rattle.math_action.proofs.Place.{alive, Leads, found_action, action_found, unexpected}
 use Rattle.math_action.proofs.Small.{small_action, small_action_step}

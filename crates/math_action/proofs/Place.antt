@@ -24,7 +24,7 @@ use Rattle.math_parse.proofs.Sound as sounds
 use Rattle.math_action.specs.Faults.{IsUnexpectedInAction}
 use Rattle.math_action.specs.declared.stages.Head.{Head}
 use Rattle.math_action.specs.declared.stages.Head.TheVariants as head
-use Rattle.math_action.specs.Machine.{ActionState, target, formula, goal_of, action_step, action_ended, found, refused, action_run}
+use Rattle.math_action.specs.PrivateMachine.{ActionState, target, formula, goal_of, action_step, action_ended, found, refused, action_run}
 use Rattle.math_action.proofs.Formulas.{stops_before}
 use Rattle.math_action.proofs.Complete.{after_stop, formula_run, complete_action}
 use Rattle.math_action.proofs.Sound.{Headed, assigning, Sound, wanting, holding, reading, argued, sound_step, sound_run, sound_start}

@@ -14,8 +14,8 @@ use Rattle.math_parse.specs.Reading.{is_full}
 use Rattle.math_parse.proofs.Small.{small, small_step}
 use Rattle.math_action.specs.declared.stages.Head.{Head}
 use Rattle.math_action.specs.declared.stages.Head.TheVariants as head
-use Rattle.math_action.specs.Machine.{ActionState, target, named, formula, applied, goal_of, ends_at, begin_target, if_first, after_target, separated, after_formula, read_on, after_argument, action_step}
-use Rattle.math_action.specs.Reading.{is_full_action}
+use Rattle.math_action.specs.PrivateMachine.{ActionState, target, named, formula, applied, goal_of, ends_at, begin_target, if_first, after_target, separated, after_formula, read_on, after_argument, action_step}
+use Rattle.math_action.specs.PrivateReading.{is_full_action}
 
 -- what is left of a step within the limit
 abbrev pub small_action : Option ActionState → Option ActionState

@@ -22,7 +22,7 @@ use Rattle.math_parse.proofs.Sound as formulas
 use Rattle.math_action.proofs.Complete.{ends_separates}
 use Rattle.math_action.specs.declared.stages.Head.{Head}
 use Rattle.math_action.specs.declared.stages.Head.TheVariants as head
-use Rattle.math_action.specs.Machine.{ActionState, target, named, formula, applied, goal_of, ends_at, begin_target, after_target, separated, after_formula, read_on, after_argument, action_step, whole, action_ended, found, action_run}
+use Rattle.math_action.specs.PrivateMachine.{ActionState, target, named, formula, applied, goal_of, ends_at, begin_target, after_target, separated, after_formula, read_on, after_argument, action_step, whole, action_ended, found, action_run}
 
 module _ (limit : Option ℕ) where
   -- The tokens s0 up to m spell what stands before a formula.

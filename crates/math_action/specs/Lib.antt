@@ -1,5 +1,5 @@
-pub mod Machine
+pub mod PrivateMachine
 pub mod Faults
 pub mod Limits
-pub mod Reading
-pub mod View
+pub mod PrivateReading
+pub mod PrivateView

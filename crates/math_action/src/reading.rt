@@ -4,8 +4,8 @@ ghost use Rattle.std.specs.Prelude.{◌≡◌, IfOk, IfErr};
 ghost use Rattle.formula_core.specs.declared.raw.RawAction.{RawAction};
 ghost use Rattle.math_grammar.specs.Tokens.{items_of};
 ghost use Rattle.math_action.specs.Limits.{IsAction, FindsAction, IsActionFault};
-ghost use Rattle.math_action.specs.Reading.{is_full_action, ReadsAction};
-ghost use Rattle.math_action.specs.View.{action_state};
+ghost use Rattle.math_action.specs.PrivateReading.{is_full_action, ReadsAction};
+ghost use Rattle.math_action.specs.PrivateView.{action_state};
 
 use crate::stages::Stage;
 use crate::steps::{end_action, step};

@@ -1,7 +1,7 @@
 //! What is read of an action.
 
 ghost use Rattle.std.specs.Prelude.{◌≡◌};
-ghost use Rattle.math_action.specs.Machine.{goal_of, ends_at};
+ghost use Rattle.math_action.specs.PrivateMachine.{goal_of, ends_at};
 
 use formula_core::{List, Raw, Ref};
 use math_grammar::{Bracket, Hole, Symbol};

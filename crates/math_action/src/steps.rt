@@ -1,9 +1,9 @@
 //! The reader of actions: it reads token by token.
 
 ghost use Rattle.std.specs.Prelude.{◌≡◌, ◌∷◌, ◌++◌, [], None, Some, IfOk};
-ghost use Rattle.math_action.specs.Machine.{begin_target, if_first, after_target, separated, after_argument, formula, action_step, whole, action_ended};
+ghost use Rattle.math_action.specs.PrivateMachine.{begin_target, if_first, after_target, separated, after_argument, formula, action_step, whole, action_ended};
 ghost use Rattle.math_action.specs.declared.stages.Stage.TheVariants as stage;
-ghost use Rattle.math_action.specs.View.{action_state, ActionSteps, CompletesAction};
+ghost use Rattle.math_action.specs.PrivateView.{action_state, ActionSteps, CompletesAction};
 ghost use Rattle.math_grammar.specs.Grammar.{item};
 ghost use Rattle.math_parse.specs.Machine.{want};
 

@@ -1,10 +1,10 @@
 pub mod Cause
 pub mod Disk
 pub mod DiskCalls
-pub mod DiskKept
 pub mod DiskLaws
 pub mod DiskLog
 pub mod DiskMemory
 pub mod DiskStop
 pub mod Files
 pub mod Memory
+pub mod PrivateDiskKept

@@ -3,7 +3,7 @@ ghost use Rattle.std.specs.Prelude.{◌≡◌, ◌+◌, ◌≤◌, ◌<◌, ◌�
 ghost use Rattle.outside.specs.Disk.{overwritten, ReadsAt};
 ghost use Rattle.outside.specs.DiskCalls.{by_side, bytes_in, contents, noted, seen, IsInside, IsStill, wrote, was_cut, synced};
 ghost use Rattle.outside.specs.DiskLog.{calls_of};
-ghost use Rattle.outside.specs.DiskKept.{IsSame};
+ghost use Rattle.outside.specs.PrivateDiskKept.{IsSame};
 
 use crate::Side;
 use crate::disk_entry::Log;

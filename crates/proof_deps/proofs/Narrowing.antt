@@ -11,7 +11,7 @@ use Rattle.rule_table.specs.declared.rule.Rule.{Rule}
 use Rattle.sequent_core.specs.declared.tree.Tree.{Tree}
 use Rattle.sequent_core.specs.Trees.{Meets, Applies}
 use Rattle.rule_table.specs.Rules.{IsRule}
-use Rattle.sequent_core.specs.Children.{EachApplies}
+use Rattle.sequent_core.specs.PrivateChildren.{EachApplies}
 use Rattle.sequent_core.proofs.Nodes.{all_both, all_first, all_last, node_applies, applied_rule}
 use Rattle.sequent_core.specs.declared.tree.Tree.TheVariants.{Node}
 use Rattle.sequent_core.specs.declared.sequent.Sequent.{Sequent}

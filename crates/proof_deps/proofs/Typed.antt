@@ -26,7 +26,7 @@ use Rattle.sequent_core.specs.declared.tree.Tree.TheOpen.{Tree-F, Leaf as LeafF,
 use Rattle.sequent_core.specs.declared.tree.Tree.TheVariants.{Leaf, Node}
 use Rattle.sequent_core.specs.declared.tree.Tree.TheViews.{roll-Tree, rolls-Leaf, rolls-Node}
 use Rattle.sequent_core.specs.declared.tree.Tree.TheFolds.{map-Tree, ind-Tree}
-use Rattle.sequent_core.specs.Children.{EachApplies}
+use Rattle.sequent_core.specs.PrivateChildren.{EachApplies}
 use Rattle.rule_table.specs.Rules.{IsRule, needed_formulas, body_of}
 use Rattle.sequent_core.specs.Trees.{goal_or, extended, Meets, IsFresh, Applies}
 use Rattle.sequent_core.proofs.Nodes.{leaf_applies, node_applies, applied_rule}

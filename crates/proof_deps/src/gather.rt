@@ -1,7 +1,7 @@
 // What a proof tree asks of a sequent, gathered from the root down.
 ghost use Rattle.std.specs.Prelude.{◌≡◌, ◌↔◌, None, IfOk, OnOk, IfSome};
 ghost use Rattle.sequent_core.specs.declared.sequent.Sequent.{Sequent};
-ghost use Rattle.sequent_core.specs.Children.{EachApplies};
+ghost use Rattle.sequent_core.specs.PrivateChildren.{EachApplies};
 ghost use Rattle.sequent_core.specs.Sequents.{IsSequent};
 ghost use Rattle.sequent_core.specs.Trees.{Applies, IsFresh, extended};
 ghost use Rattle.proof_deps.specs.Deps.{AreDepsOf};

@@ -8,7 +8,7 @@ use Rattle.sequent_core.specs.declared.sequent.Sequent.{Sequent}
 use Rattle.sequent_core.specs.declared.tree.Tree.{Tree, out-Tree}
 use Rattle.sequent_core.specs.declared.tree.Tree.TheOpen.{Tree-F, Leaf as LeafF, Node as NodeF}
 use Rattle.sequent_core.specs.declared.tree.Tree.TheVariants.{Leaf}
-use Rattle.sequent_core.specs.Children.{EachApplies}
+use Rattle.sequent_core.specs.PrivateChildren.{EachApplies}
 use Rattle.sequent_core.specs.Trees.{extended, IsFresh, Applies}
 use Rattle.sequent_core.proofs.Nodes.{leaf_applies, node_applies, applied_rule}
 use Rattle.proof_steps.specs.Places.{node_at, node_of, if_leaf, child_of, leaf_at, change_at, with_child, put, with_leaves, grown, AppliesTo}

@@ -7,7 +7,7 @@ use Rattle.rule_table.specs.declared.rule.Antecedent.{Antecedent}
 use Rattle.rule_table.specs.declared.rule.Rule.{Rule}
 use Rattle.sequent_core.specs.declared.sequent.Sequent.{Sequent}
 use Rattle.sequent_core.specs.declared.tree.Tree.{Tree}
-use Rattle.sequent_core.specs.Children.{EachApplies}
+use Rattle.sequent_core.specs.PrivateChildren.{EachApplies}
 use Rattle.sequent_core.specs.Trees.{extended, IsFresh, Applies}
 use Rattle.sequent_core.proofs.Nodes.{applied_rule}
 use Rattle.proof_steps.specs.Places.{node_of, child_after, child_of, leaf_at}

@@ -17,7 +17,7 @@ use Rattle.sequent_core.specs.declared.tree.Tree.TheOpen.{Node as NodeF}
 use Rattle.sequent_core.specs.declared.tree.Tree.TheVariants.{Node}
 use Rattle.sequent_core.specs.declared.tree.Tree.TheViews.{rolls-Node}
 use Rattle.sequent_core.specs.declared.tree.Tree.TheFolds.{fold-roll-Tree}
-use Rattle.sequent_core.specs.Children.{EachApplies}
+use Rattle.sequent_core.specs.PrivateChildren.{EachApplies}
 use Rattle.sequent_core.specs.Trees.{goal_or, extended, Meets, Applies}
 use Rattle.sequent_core.proofs.Nodes.{all_first, all_last, leaf_applies, node_applies, applied_rule}
 use Rattle.proof_steps.specs.Laws.{names_of, introduced_step, introduced, AreNewStill, IsLarger}

@@ -15,7 +15,7 @@ use Rattle.sequent_core.specs.declared.prover.Attempt.TheVariants.{Found, NoProo
 use Rattle.sequent_core.specs.declared.sequent.Sequent.{Sequent}
 use Rattle.sequent_core.specs.declared.tree.Tree.{Tree}
 use Rattle.sequent_core.specs.declared.tree.Tree.TheVariants.{Leaf}
-use Rattle.sequent_core.specs.Children.{EachApplies}
+use Rattle.sequent_core.specs.PrivateChildren.{EachApplies}
 use Rattle.sequent_core.specs.Trees.{extended, Applies, IsFresh, node_count, rule_count}
 use Rattle.sequent_core.proofs.Nodes.{leaf_applies, node_applies, node_count-Leaf, node_count-Node, rule_count-Leaf, rule_count-Node}
 use Rattle.proof_strategies.specs.Private.{IsAlone, TellsFault}

@@ -15,7 +15,7 @@ use Rattle.sequent_core.specs.declared.tree.Tree.{Tree, out-Tree, roll-Tree}
 use Rattle.sequent_core.specs.declared.tree.Tree.TheOpen.{Tree-F, Leaf as LeafF, Node as NodeF}
 use Rattle.sequent_core.specs.declared.tree.Tree.TheVariants.{Leaf, Node}
 use Rattle.sequent_core.specs.declared.tree.Tree.TheViews.{roll-out-Tree, rolls-Leaf, rolls-Node}
-use Rattle.sequent_core.specs.Children.{EachApplies}
+use Rattle.sequent_core.specs.PrivateChildren.{EachApplies}
 use Rattle.sequent_core.specs.Trees.{extended, Applies, Meets, IsFresh, node_count, rule_count}
 use Rattle.sequent_core.proofs.Nodes.{leaf_applies, node_applies, applied_rule, node_count-Leaf, node_count-Node, rule_count-Leaf, rule_count-Node}
 use Rattle.proof_strategies.specs.declared.room.Room.{Room}

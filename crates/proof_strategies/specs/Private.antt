@@ -10,7 +10,7 @@ use Rattle.sequent_core.specs.declared.prover.Attempt.TheVariants.{Found, NoProo
 use Rattle.sequent_core.specs.declared.sequent.Sequent.{Sequent}
 use Rattle.sequent_core.specs.declared.tree.Tree.{Tree}
 use Rattle.sequent_core.specs.declared.tree.Tree.TheVariants.{Leaf}
-use Rattle.sequent_core.specs.Children.{EachApplies}
+use Rattle.sequent_core.specs.PrivateChildren.{EachApplies}
 use Rattle.sequent_core.specs.Trees.{Applies, node_count, rule_count}
 use Rattle.proof_strategies.specs.declared.room.Room.{Room}
 use Rattle.proof_strategies.specs.declared.room.Times.{Times}

@@ -2,7 +2,7 @@
 ghost use Rattle.std.specs.Prelude.{◌≡◌, ◌≤◌, IfOk};
 ghost use Rattle.formula_core.specs.Env.{HasDistinctNames};
 ghost use Rattle.proof_steps.specs.Private.{AreDistinct};
-ghost use Rattle.sequent_core.specs.Children.{EachApplies};
+ghost use Rattle.sequent_core.specs.PrivateChildren.{EachApplies};
 ghost use Rattle.sequent_core.specs.Trees.{Applies, IsFresh, extended, node_count, rule_count};
 ghost use Rattle.proof_strategies.specs.Private.{HasGrown, HaveGrown, IsPlaced, WasTried};
 

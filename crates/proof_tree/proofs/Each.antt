@@ -8,7 +8,7 @@ use Rattle.rule_table.specs.Rules.{IsRule}
 use Rattle.sequent_core.specs.declared.sequent.Sequent.{Sequent}
 use Rattle.sequent_core.specs.declared.tree.Tree.{Tree}
 use Rattle.sequent_core.specs.declared.tree.Tree.TheVariants.{Node}
-use Rattle.sequent_core.specs.Children.{EachApplies}
+use Rattle.sequent_core.specs.PrivateChildren.{EachApplies}
 use Rattle.sequent_core.specs.Trees.{extended, Meets, IsFresh, Applies}
 use Rattle.sequent_core.proofs.Nodes.{node_applies, applied_rule}
 

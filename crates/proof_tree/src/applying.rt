@@ -3,7 +3,7 @@ ghost use Rattle.std.specs.Prelude.{◌≡◌, ◌↔◌, ◌+◌, IsTrue, IfOk,
 ghost use Rattle.std.specs.List.{AllByRecursion};
 ghost use Rattle.formula_core.specs.Env.{type_in};
 ghost use Rattle.formula_core.specs.Typed.{Stands};
-ghost use Rattle.sequent_core.specs.Children.{EachApplies};
+ghost use Rattle.sequent_core.specs.PrivateChildren.{EachApplies};
 ghost use Rattle.sequent_core.specs.Provers.{IsGoodTree};
 ghost use Rattle.sequent_core.specs.Trees.{Applies, Derives, IsFresh, Meets, extended};
 ghost use Rattle.proof_tree.specs.Ways.{antecedents_of, at_end, AreFresh};

@@ -27,7 +27,7 @@ use Rattle.sequent_core.specs.declared.tree.Tree.TheOpen.{Tree-F, Leaf as LeafF,
 use Rattle.sequent_core.specs.declared.tree.Tree.TheVariants.{Leaf, Node}
 use Rattle.sequent_core.specs.declared.tree.Tree.TheViews.{rolls-Leaf, rolls-Node}
 use Rattle.sequent_core.specs.declared.tree.Tree.TheFolds.{fold-roll-Tree}
-use Rattle.sequent_core.specs.Children.{EachApplies}
+use Rattle.sequent_core.specs.PrivateChildren.{EachApplies}
 use Rattle.sequent_core.specs.Sequents.{IsSequent}
 use Rattle.sequent_core.specs.Trees.{Applies, extended, goal_or}
 use Rattle.sequent_core.proofs.Nodes.{all_both, all_first, all_last, applied_rule}

@@ -15,7 +15,7 @@ use Rattle.rodin_cli.specs.declared.outcome.Part.{Part}
 use Rattle.check_input.specs.Inputs.{Component, IsInput}
 use Rattle.check_input.specs.Lines.{input_line}
 use Rattle.check_input.specs.declared.input.InputFault.{InputFault}
-use Rattle.rodin_cli.specs.Session.{Extends}
+use Rattle.rodin_cli.specs.PrivateSession.{Extends}
 use Rattle.rodin_cli.specs.Script.{IsFullScript, IsWholeScript, IsFront}
 use Rattle.session_streams.specs.Streams.{SourceState, Writing, Writes, WritesCut, WritesNothing}
 use Rattle.session_ends.specs.Written.{WritesOrFails}

@@ -13,7 +13,7 @@ use Rattle.rodin_cli.specs.declared.round.Numbers.{Numbers}
 use Rattle.rodin_cli.specs.declared.session.Session.{Session}
 use Rattle.check_input.specs.Inputs.{Component}
 use Rattle.rodin_cli.specs.Script.{AreEdits, AreFirstEdits, IsFullScript}
-use Rattle.rodin_cli.specs.Session.{Extends, IsUnchanged, Performs}
+use Rattle.rodin_cli.specs.PrivateSession.{Extends, IsUnchanged, Performs}
 use Rattle.rodin_cli.proofs.Sessions.{both, unchanged, performed}
 
 first_of : (parts others : List Component) (edits : List Exchange) → AreEdits parts edits → AreFirstEdits (parts ++ others) edits

@@ -28,7 +28,7 @@ use Rattle.proof_entries.specs.declared.Origin.{Origin}
 use Rattle.core_steps.specs.declared.Status.{Status}
 use Rattle.rodin_cli.specs.declared.round.Numbers.{Numbers}
 use Rattle.rodin_cli.specs.declared.session.Session.{Session}
-use Rattle.rodin_cli.specs.Session.{Extends, IsUnchanged}
+use Rattle.rodin_cli.specs.PrivateSession.{Extends, IsUnchanged}
 use Rattle.rodin_cli.specs.Script.{AreEdits, AreFirstEdits, AreTurns, AreFirstAsks, IsEndFront, IsBuiltReply, IsFullScript, IsRound, IsRoundFront, IsWholeScript, IsFront}
 use Rattle.rodin_cli.specs.Completeness.{IsComplete}
 use Rattle.rodin_cli.proofs.OneTable.{one_table, distinct_table}

@@ -30,7 +30,7 @@ use Rattle.rodin_cli.specs.Demo.{is_discharged, discharged_in, edited_in, line_a
 use Rattle.rodin_cli.specs.Check.{HasNoHistory, LeadsToPart}
 use Rattle.rodin_cli.specs.Private.{Reaches, Finishes, LineStops, RoundShows, RoundStops, ReachesBoth, ReachesStop, Concludes, IsUntouched, stop_status}
 use Rattle.rodin_cli.specs.Script.{IsFullScript, IsRound, IsRoundFront}
-use Rattle.rodin_cli.specs.Session.{Extends, IsUnchanged}
+use Rattle.rodin_cli.specs.PrivateSession.{Extends, IsUnchanged}
 use Rattle.session_streams.specs.Streams.{Writing, Writes, WritesCut, SinkFailed, writing}
 use Rattle.rodin_cli.proofs.Answering.{leads}
 use Rattle.rodin_cli.proofs.Completing.{AtRest}

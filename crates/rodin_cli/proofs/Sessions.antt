@@ -21,7 +21,7 @@ use Rattle.core_steps.specs.Run.{Exchange, IsStepOf, Runs, history_of}
 use Rattle.rodin_cli.specs.declared.round.Numbers.{Numbers}
 use Rattle.rodin_cli.specs.declared.session.Session.{Session}
 use Rattle.check_input.specs.Inputs.{Component}
-use Rattle.rodin_cli.specs.Session.{Performs, IsUnchanged, Extends}
+use Rattle.rodin_cli.specs.PrivateSession.{Performs, IsUnchanged, Extends}
 use Rattle.rodin_cli.specs.Script.{AreEdits, AreTurns, AreFirstAsks, IsEndFront, IsRound, IsRoundFront, IsWholeScript, IsFront}
 
 pub Run-both : (a b c : State) (xs ys : List Exchange) → Runs a xs b → Runs b ys c → Runs a (xs ++ ys) c

@@ -14,7 +14,7 @@ use Rattle.core_steps.specs.Step.{Does, take_reply}
 use Rattle.core_steps.specs.Tickets.{TakesFirst, ticket_for}
 use Rattle.core_steps.proofs.Alls.{all_last}
 use Rattle.rodin_cli.specs.declared.session.Session.{Session}
-use Rattle.rodin_cli.specs.Session.{Performs}
+use Rattle.rodin_cli.specs.PrivateSession.{Performs}
 use Rattle.rodin_cli.proofs.OneTable.{table_typed}
 
 abbrev IsTyped : Obligation → Type 0

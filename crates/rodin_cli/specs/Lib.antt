@@ -3,8 +3,8 @@ pub mod Completeness
 pub mod Demo
 pub mod Hyp
 pub mod Private
+pub mod PrivateSession
 pub mod Script
-pub mod Session
 pub mod Streams
 pub mod Texts
 pub mod Words

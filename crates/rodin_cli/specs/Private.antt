@@ -13,7 +13,7 @@ use Rattle.rodin_cli.specs.declared.demo.Stop.TheVariants.{Full, Cut, OutOfMemor
 use Rattle.rodin_cli.specs.Completeness.{IsComplete}
 use Rattle.rodin_cli.specs.Demo.{edited_in, line_after, Counts, ComesAfter}
 use Rattle.rodin_cli.specs.Script.{IsFullScript, IsRoundFront}
-use Rattle.rodin_cli.specs.Session.{Extends}
+use Rattle.rodin_cli.specs.PrivateSession.{Extends}
 use Rattle.session_streams.specs.Streams.{Writing, Writes, WritesCut, WritesNothing}
 use Rattle.session_ends.specs.Written.{WritesOrFails}
 use Rattle.rodin_cli.specs.Words.{IsNumberWord}

@@ -10,7 +10,7 @@ ghost use Rattle.core_steps.specs.State.{opened, no_texts};
 ghost use Rattle.check_input.specs.Inputs.{IsInput};
 ghost use Rattle.rodin_cli.specs.Completeness.{IsComplete};
 ghost use Rattle.rodin_cli.specs.Script.{IsFullScript, IsWholeScript, IsFront};
-ghost use Rattle.rodin_cli.specs.Session.{Extends, IsUnchanged};
+ghost use Rattle.rodin_cli.specs.PrivateSession.{Extends, IsUnchanged};
 ghost use Rattle.session_streams.specs.Streams.{reading, writing, Writes, WritesCut, WritesNothing};
 ghost use Rattle.session_ends.specs.Written.{WritesOrFails};
 ghost use Rattle.rodin_cli.specs.Texts.{printed_lines};

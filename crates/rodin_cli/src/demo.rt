@@ -8,7 +8,7 @@ ghost use Rattle.core_steps.specs.declared.Reply.{Reply};
 ghost use Rattle.core_steps.specs.Run.{Exchange};
 ghost use Rattle.core_steps.specs.State.{opened, no_texts};
 ghost use Rattle.rodin_cli.specs.Script.{IsFullScript, IsRoundFront};
-ghost use Rattle.rodin_cli.specs.Session.{Extends, IsUnchanged};
+ghost use Rattle.rodin_cli.specs.PrivateSession.{Extends, IsUnchanged};
 ghost use Rattle.session_streams.specs.Streams.{writing, Writes};
 ghost use Rattle.rodin_cli.specs.Demo.{is_discharged, discharged_in, edited_in, line_after, Counts, Demonstrates};
 ghost use Rattle.rodin_cli.specs.Private.{HasFewModels, LineStops, RoundShows, RoundStops, ReachesBoth, ReachesStop, Concludes, stop_status};

@@ -4,7 +4,7 @@ ghost use Rattle.core_steps.specs.declared.Event.{Event};
 ghost use Rattle.core_steps.specs.declared.Reply.{Reply};
 ghost use Rattle.core_steps.specs.Run.{Exchange};
 ghost use Rattle.rodin_cli.specs.Script.{AreEdits, AreFirstEdits, AreTurns, IsTurn, IsEndFront, IsFullScript, IsRound, IsRoundFront};
-ghost use Rattle.rodin_cli.specs.Session.{Extends};
+ghost use Rattle.rodin_cli.specs.PrivateSession.{Extends};
 
 use crate::session::{Session, finish, perform, take};
 use core_steps::{Event, Reply};

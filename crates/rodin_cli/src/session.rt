@@ -6,7 +6,7 @@ ghost use Rattle.core_steps.specs.declared.Reply.{Reply};
 ghost use Rattle.core_steps.specs.State.{opened, no_texts};
 ghost use Rattle.core_steps.specs.Step.{IsTake, take_reply};
 ghost use Rattle.sequent_core.specs.declared.Ticket.{Ticket};
-ghost use Rattle.rodin_cli.specs.Session.{Performs, IsUnchanged};
+ghost use Rattle.rodin_cli.specs.PrivateSession.{Performs, IsUnchanged};
 
 use core_steps::{Durable, Event, Reply};
 use formula_core::{OutOfMemory, Steps};

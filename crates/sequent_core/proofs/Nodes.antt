@@ -13,7 +13,7 @@ use Rattle.sequent_core.specs.declared.tree.Tree.TheFolds.{fold-roll-Tree}
 use Rattle.rule_table.specs.Parts.{is_review}
 use Rattle.rule_table.specs.Rules.{IsRule}
 use Rattle.sequent_core.specs.Trees.{extended, Meets, IsFresh, NodeAt, below, nodes_step, nodes, Fits, Applies, is_closed_step, is_closed, is_reviewed_step, is_reviewed, Derives, node_count_step, node_count, rule_count_step, rule_count}
-use Rattle.sequent_core.specs.Children.{EachApplies}
+use Rattle.sequent_core.specs.PrivateChildren.{EachApplies}
 
 module _ {X : Type 0} (P : X → Type 0) where
   pub all_both : (xs ys : List X) → AllByRecursion P xs → AllByRecursion P ys → AllByRecursion P (xs ++ ys)

@@ -1,5 +1,5 @@
-pub mod Children
 pub mod Members
+pub mod PrivateChildren
 pub mod Provers
 pub mod Sequents
 pub mod Trees

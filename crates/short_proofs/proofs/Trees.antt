@@ -14,7 +14,7 @@ use Rattle.sequent_core.specs.declared.tree.Tree.TheOpen.{Leaf as LeafF, Node as
 use Rattle.sequent_core.specs.declared.tree.Tree.TheVariants.{Node}
 use Rattle.sequent_core.specs.declared.tree.Tree.TheViews.{rolls-Node}
 use Rattle.sequent_core.specs.declared.tree.Tree.TheFolds.{fold-roll-Tree}
-use Rattle.sequent_core.specs.Children.{EachApplies}
+use Rattle.sequent_core.specs.PrivateChildren.{EachApplies}
 use Rattle.sequent_core.specs.Trees.{extended, Meets, IsFresh, Applies, Derives, is_closed, is_reviewed, node_count, rule_count}
 use Rattle.sequent_core.proofs.Nodes.{node_applies, closed-Node, reviewed-Node, node_count-Node, rule_count-Node}
 use Rattle.short_proofs.specs.Short.{is_plain, is_plain_step, takes_no_formula, IsShortProof}

@@ -19,7 +19,7 @@ use Rattle.core_steps.specs.Outcomes.{StepOutcome, told, entering}
 use Rattle.core_steps.specs.Tickets.{IsPresentStatus, CanStore, EndsTicket, tried_with, by_prover}
 use Rattle.prepared_events.specs.Prepared.{Ready, ComesAs, Prepares}
 use Rattle.table_lookup.specs.Tickets.{IsTicketAt}
-use Rattle.status_core.specs.Parts.{Finds, without_at}
+use Rattle.status_core.specs.PrivateParts.{Finds, without_at}
 use Rattle.status_core.proofs.Made.{if_ok, as_made}
 use Rattle.status_core.proofs.Finished.{ends_stored, ends_stale, ends_refused, finish_found}
 

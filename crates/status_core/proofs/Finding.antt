@@ -20,7 +20,7 @@ use Rattle.core_steps.specs.Step.{Tells}
 use Rattle.core_steps.specs.Tickets.{IsOpen, IsPresentStatus}
 use Rattle.core_steps.proofs.Lists.{split}
 use Rattle.table_lookup.proofs.Places.{all_at}
-use Rattle.status_core.specs.Parts.{Finds, IsFirstOpen}
+use Rattle.status_core.specs.PrivateParts.{Finds, IsFirstOpen}
 
 -- the obligation at the place of a name is the present one
 pub present_at : (table : List Obligation) (name : List ℕ) (at : ℕ) (o : Obligation) → IsPlaceOf table name (Some at) → o ≡ get_or table at o →

@@ -27,7 +27,7 @@ use Rattle.core_steps.proofs.Lists.{split}
 use Rattle.core_steps.proofs.NameMaps.{get_same}
 use Rattle.prepared_events.specs.Prepared.{Ready, ComesAs, Prepares, made, tried_of}
 use Rattle.table_lookup.specs.Tickets.{IsTicketAt}
-use Rattle.status_core.specs.Parts.{Finds, without_at}
+use Rattle.status_core.specs.PrivateParts.{Finds, without_at}
 use Rattle.prepared_events.specs.Making.{trying}
 use Rattle.status_core.proofs.Made.{so_made, made_as}
 use Rattle.status_core.proofs.Readied.{ready_trying}

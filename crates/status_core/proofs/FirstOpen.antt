@@ -7,7 +7,7 @@ use Rattle.sequent_core.specs.declared.Ticket.{Ticket}
 use Rattle.core_steps.specs.State.{State}
 use Rattle.core_steps.specs.Tickets.{CanTake, IsOpen}
 use Rattle.core_steps.proofs.Alls.{all_front}
-use Rattle.status_core.specs.Parts.{IsFirstOpen}
+use Rattle.status_core.specs.PrivateParts.{IsFirstOpen}
 
 -- what is found beside the state's tickets
 pub first_of : (s : State) (table : List Obligation) (out : List Ticket) (found : Option ℕ) → out ≡ s.out →

@@ -9,7 +9,7 @@ use Rattle.core_steps.specs.Outcomes.{StepOutcome, told}
 use Rattle.core_steps.specs.Table.{IsPresent}
 use Rattle.core_steps.specs.Step.{ComesBeside}
 use Rattle.prepared_events.specs.Prepared.{Ready, IsReady, ComesAs, Prepares, made}
-use Rattle.status_core.specs.Parts.{Finds}
+use Rattle.status_core.specs.PrivateParts.{Finds}
 
 -- what holds of a result where another does
 pub if_ok : {A E : Type 0} (P Q : A → Type 0) (r : Result A E) → ((a : A) → P a → Q a) → IfOk r P → IfOk r Q

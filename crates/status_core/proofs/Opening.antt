@@ -14,7 +14,7 @@ use Rattle.core_steps.specs.Table.{IsTable}
 use Rattle.core_steps.specs.Tickets.{IsOpen}
 use Rattle.core_steps.proofs.NameMaps.{names_differ}
 use Rattle.prepared_events.specs.Closed.{AreClosedBefore}
-use Rattle.status_core.specs.Parts.{IsFirstOpen}
+use Rattle.status_core.specs.PrivateParts.{IsFirstOpen}
 
 -- what is found in a table is its first open obligation
 first_found : (s : State) (table : List Obligation) (found : Option ℕ) →

@@ -16,7 +16,7 @@ use Rattle.core_steps.specs.State.{State}
 use Rattle.core_steps.specs.Status.{IsStatus, IsTreeStatus}
 use Rattle.core_steps.specs.Outcomes.{told}
 use Rattle.core_steps.specs.Proving.{ShowsOne, ShowsAt, stored_tree, tree_in}
-use Rattle.status_core.specs.Parts.{IsShownAt}
+use Rattle.status_core.specs.PrivateParts.{IsShownAt}
 
 -- a tree of known status applies or doesn't
 tree_applies : (tree : Tree) (s : Sequent) (status : Status) → IsTreeStatus tree s status → Applies tree s ⊎ (Applies tree s → ⊥)

@@ -14,7 +14,7 @@ ghost use Rattle.core_steps.specs.Private.{AreFactsOf};
 ghost use Rattle.core_steps.specs.Tickets.{EndsTicket, IsPresentStatus, by_prover};
 ghost use Rattle.prepared_events.specs.Prepared.{ComesAs, Prepares};
 ghost use Rattle.table_lookup.specs.Tickets.{IsTicketAt};
-ghost use Rattle.status_core.specs.Parts.{IsHeld, without_at};
+ghost use Rattle.status_core.specs.PrivateParts.{IsHeld, without_at};
 
 use crate::core_state::Core;
 use crate::proving::Held;

@@ -8,7 +8,7 @@ ghost use Rattle.core_steps.specs.Tickets.{tried_with};
 ghost use Rattle.proof_entries.specs.declared.Entry.{Entry};
 ghost use Rattle.core_steps.specs.declared.events.Reply.{Reply};
 ghost use Rattle.prepared_events.specs.Prepared.{ComesAs};
-ghost use Rattle.status_core.specs.Parts.{without_at};
+ghost use Rattle.status_core.specs.PrivateParts.{without_at};
 
 use crate::core_state::Core;
 use core_steps::Reply;

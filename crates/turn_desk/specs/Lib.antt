@@ -2,4 +2,4 @@ pub mod Log
 pub mod Rule
 pub mod Plays
 pub mod Chairs
-pub mod Seats
+pub mod PrivateSeats

@@ -72,7 +72,7 @@ fn is_free(word: u64) -> bool
 impl<V: Kept> Desk<V> {
     ghost use Rattle.turn_desk.specs.Chairs.{IsOf, IsAct, first_chair};
     ghost use Rattle.turn_desk.specs.Plays.{at_turn, after_turn};
-    ghost use Rattle.turn_desk.specs.Seats.{IsSameSeat};
+    ghost use Rattle.turn_desk.specs.PrivateSeats.{IsSameSeat};
 
     /// Makes a desk for a value with no entry yet, and chair 0, which has seen nothing.
     ///

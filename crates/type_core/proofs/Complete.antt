@@ -15,7 +15,7 @@ use Rattle.type_core.specs.Scopes.{Scope, position_of, with_names, IsName}
 use Rattle.type_core.specs.TypeExpressions.{denoted}
 use Rattle.type_core.specs.Partition.{partition_schemes, partition_of}
 use Rattle.type_core.specs.Typings.{AreBound, Types, AllTyped}
-use Rattle.type_core.specs.Generated.{width, widths, with_variables, name_equations, condition, type_equations, bound_equations, generated, all_generated, types_at, name_core, built, all_built}
+use Rattle.type_core.specs.PrivateGenerated.{width, widths, with_variables, name_equations, condition, type_equations, bound_equations, generated, all_generated, types_at, name_core, built, all_built}
 use Rattle.type_core.specs.Answers.{AreValueTypes}
 use Rattle.type_core.proofs.Denoted.{denoted_values}
 use Rattle.type_core.proofs.Places.{typed_at, typed_place, values, position-typed, with_names-typed, instances-at, denoted-typed}

@@ -14,8 +14,8 @@ use Rattle.unification.proofs.KnownTypes.{HasTypes, Differ, closed_value, open_d
 use Rattle.type_core.specs.Bare.{Bare, Bares, Bounds, Number, Identifier, Form, Partition, Binding, Ascribed, Broken, nothing, more, unbound, plain, typed, name_count}
 use Rattle.type_core.specs.Scopes.{Scope, position_of}
 use Rattle.type_core.specs.Partition.{partition_of}
-use Rattle.type_core.specs.Generated.{width, with_variables, name_core, types_at, built, all_built}
-use Rattle.type_core.specs.Closed.{before, known_names, known_name, known_form, known_partition, known_binding, known, all_known}
+use Rattle.type_core.specs.PrivateGenerated.{width, with_variables, name_core, types_at, built, all_built}
+use Rattle.type_core.specs.PrivateClosed.{before, known_names, known_name, known_form, known_partition, known_binding, known, all_known}
 use Rattle.type_core.proofs.PartitionParts.{same_parts, same_type_of, same_free, same_bound, same_binder_parts, same_binder_type, same_bound_types, same_heads, same_tails, partition_same}
 
 some_before : {A : Type 0} → (o : Option A) (p : Option (List A)) (us : List A) → before o p ≡ Some us → (t : A) × (ts : List A) × (o ≡ Some t) × (p ≡ Some ts) × (t ∷ ts ≡ us)

@@ -16,7 +16,7 @@ use Rattle.type_core.specs.Scopes.{Scope, position_of, IsName}
 use Rattle.type_core.specs.TypeExpressions.{denoted}
 use Rattle.type_core.specs.Partition.{partition_schemes}
 use Rattle.type_core.specs.Typings.{AreBound, Types, AllTyped}
-use Rattle.type_core.specs.Generated.{width, with_variables, name_equations, condition, type_equations, bound_equations, generated, all_generated, types_at, name_core, built, all_built}
+use Rattle.type_core.specs.PrivateGenerated.{width, with_variables, name_equations, condition, type_equations, bound_equations, generated, all_generated, types_at, name_core, built, all_built}
 use Rattle.type_core.proofs.Places.{typed_at, typed_place, values, position-typed, with_names-typed, instances-at, denoted-typed}
 
 pub impossible_unsolved : (v : ℕ → Ty) → ty.Int ≡ ty.Bool → ⊥

@@ -1,10 +1,10 @@
 pub mod Answers
 pub mod Bare
-pub mod Closed
 pub mod CoreForms
-pub mod Generated
 pub mod Laws
 pub mod Partition
+pub mod PrivateClosed
+pub mod PrivateGenerated
 pub mod Scopes
 pub mod TypeExpressions
 pub mod Typings

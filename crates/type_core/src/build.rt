@@ -6,8 +6,8 @@ ghost use Rattle.unification.specs.Terms.{instance, term_of};
 ghost use Rattle.unification.specs.Known.{type_at, closed};
 ghost use Rattle.type_core.specs.Bare.{Form, Partition, Binding, name_count};
 ghost use Rattle.type_core.specs.Scopes.{position_of};
-ghost use Rattle.type_core.specs.Generated.{width, widths, with_variables};
-ghost use Rattle.type_core.specs.Closed.{behind, known_names, known_name, known, all_known, known_form, known_partition, known_binding};
+ghost use Rattle.type_core.specs.PrivateGenerated.{width, widths, with_variables};
+ghost use Rattle.type_core.specs.PrivateClosed.{behind, known_names, known_name, known, all_known, known_form, known_partition, known_binding};
 ghost use Rattle.type_core.specs.Views.{bare_of, bares_of, bounds_of, scope_of};
 
 use crate::collect::{bind_names, count_names, take_variables};

@@ -8,7 +8,7 @@ ghost use Rattle.type_core.specs.Bare.{part_count, name_count, has_names};
 ghost use Rattle.type_core.specs.Scopes.{position_of};
 ghost use Rattle.type_core.specs.TypeExpressions.{denoted};
 ghost use Rattle.type_core.specs.Partition.{partition_schemes};
-ghost use Rattle.type_core.specs.Generated.{width, widths, impossible, condition, type_equations, bound_equations, generated, all_generated, binder_equations, with_variables, name_equations};
+ghost use Rattle.type_core.specs.PrivateGenerated.{width, widths, impossible, condition, type_equations, bound_equations, generated, all_generated, binder_equations, with_variables, name_equations};
 ghost use Rattle.type_core.specs.Views.{bare_of, bares_of, bounds_of, scope_of, entry, free_scope, terms_of};
 
 use crate::denote::denote;

@@ -9,7 +9,7 @@ ghost use Rattle.type_core.specs.CoreForms.{core_form};
 ghost use Rattle.type_core.specs.Laws.{IsExpectedOver, IsStanding, StandsAfter};
 ghost use Rattle.type_core.specs.Unknowns.{unknowns, first_by_place, unknown_in};
 ghost use Rattle.type_core.specs.Views.{bare_of, free_scope, expected_term};
-ghost use Rattle.type_core.specs.Generated.{generated};
+ghost use Rattle.type_core.specs.PrivateGenerated.{generated};
 ghost use Rattle.unification.specs.Terms.{term_of};
 ghost use Rattle.unification.specs.Solutions.{equations_of};
 ghost use Rattle.std.specs.Option.{option_copied};

@@ -6,7 +6,7 @@ use Rattle.formula_core.specs.declared.ty.Ty.{Ty}
 use Rattle.unification.specs.declared.graph.Node.{Node}
 use Rattle.unification.specs.declared.graph.Node.TheVariants.{Free, Int, Bool as BoolN, Truth, Given, Pow, Pair, Same}
 use Rattle.unification.specs.Terms.{value}
-use Rattle.unification.specs.Graph.{node_at, form_of, link_of, Holds, Fits, IsGraph, weight, unlinked, Alike}
+use Rattle.unification.specs.PrivateGraph.{node_at, form_of, link_of, Holds, Fits, IsGraph, weight, unlinked, Alike}
 
 -- what a form says of its place
 abbrev pub Says : (ℕ → Ty) → ℕ → Node → Type 0

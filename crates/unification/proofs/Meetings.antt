@@ -11,7 +11,7 @@ use Rattle.unification.specs.declared.graph.Node.TheVariants.{Free, Int, Bool as
 use Rattle.unification.specs.declared.merging.Meeting.{Meeting}
 use Rattle.unification.specs.declared.merging.Meeting.TheVariants as meeting
 use Rattle.unification.specs.Terms.{integers, booleans, predicates, carrier, variable, powerset, product}
-use Rattle.unification.specs.Graph.{node_at, form_of, link_of, is_free, Holds, Fits, IsGraph, weight, unlinked, meeting_of, AllSame, AreInside, Adds, Joins}
+use Rattle.unification.specs.PrivateGraph.{node_at, form_of, link_of, is_free, Holds, Fits, IsGraph, weight, unlinked, meeting_of, AllSame, AreInside, Adds, Joins}
 use Rattle.unification.proofs.Terms.{same_pow, same_left, same_right, same_name, open_variant, same_variants}
 use Rattle.unification.proofs.Forms.{Says, set_all, of_other, of_own, graph_set, unlinked-set, read}
 

@@ -3,7 +3,7 @@ use Rattle.std.proofs.Common.{◌≡◌, ◌≢◌, ℕ, ◌<◌, List, [], ◌�
 use Rattle.formula_core.specs.declared.ty.Ty.{Ty}
 use Rattle.unification.specs.declared.graph.Node.{Node}
 use Rattle.unification.specs.declared.graph.Node.TheVariants.{Free}
-use Rattle.unification.specs.Graph.{node_at, Holds, IsGraph, Alike, AllSame, AreInside, Joins, Merges}
+use Rattle.unification.specs.PrivateGraph.{node_at, Holds, IsGraph, Alike, AllSame, AreInside, Joins, Merges}
 use Rattle.unification.proofs.Meetings.{AllSame-append, AreInside-append}
 
 -- how far the pairs have come

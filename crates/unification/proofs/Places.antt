@@ -11,7 +11,7 @@ use Rattle.unification.specs.declared.graph.Parts.{Parts}
 use Rattle.unification.specs.declared.graph.Parts.TheVariants.{Zero, One, Two}
 use Rattle.unification.specs.Terms.{Open, value, variable, powerset, product}
 use Rattle.unification.specs.Solutions.{Equality, Solves}
-use Rattle.unification.specs.Graph.{node_at, form_of, parts_of, AllParts, link_of, is_free, Holds, Fits, IsGraph, AllSame, AreInside, variables_of, variables_in, Extension, Grows, StandsFor, Builds}
+use Rattle.unification.specs.PrivateGraph.{node_at, form_of, parts_of, AllParts, link_of, is_free, Holds, Fits, IsGraph, AllSame, AreInside, variables_of, variables_in, Extension, Grows, StandsFor, Builds}
 use Rattle.unification.proofs.Forms.{Says}
 use Rattle.unification.proofs.Meetings.{AllSame-append, AreInside-append}
 

@@ -10,8 +10,8 @@ use Rattle.unification.specs.declared.graph.Node.TheVariants.{Free}
 use Rattle.unification.specs.Terms.{Open, integers, booleans, predicates, carrier, variable, powerset, product, value}
 use Rattle.unification.specs.Solutions.{Equality, IsAssignment, Solves, HasNoSolution}
 use Rattle.unification.specs.Known.{type_at, AreKnown}
-use Rattle.unification.specs.Graph.{node_at, form_of, Holds, Fits, IsGraph, AllSame, variables_of, variables_in, Extension, Builds, Merges}
-use Rattle.unification.specs.Order.{HasNoModel, HasModels, HasSorts, HasWrongSort, TypeFits}
+use Rattle.unification.specs.PrivateGraph.{node_at, form_of, Holds, Fits, IsGraph, AllSame, variables_of, variables_in, Extension, Builds, Merges}
+use Rattle.unification.specs.PrivateOrder.{HasNoModel, HasModels, HasSorts, HasWrongSort, TypeFits}
 use Rattle.unification.proofs.Terms.{value-Int, value-Bool}
 use Rattle.unification.proofs.KnownTypes.{type_at-past}
 use Rattle.unification.proofs.Places.{past}

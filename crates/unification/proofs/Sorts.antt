@@ -5,8 +5,8 @@ use Rattle.formula_core.specs.declared.ty.Ty.{Ty}
 use Rattle.formula_core.specs.Types.{is_value_type}
 use Rattle.unification.specs.declared.graph.Node.{Node}
 use Rattle.unification.specs.declared.graph.Node.TheVariants.{Free, Int, Bool as BoolN, Truth, Given, Pow, Pair, Same}
-use Rattle.unification.specs.Graph.{node_at, parts_of, AllParts}
-use Rattle.unification.specs.Order.{place_at, IsListed, IsInOrder, IsOrder, sort_at, sort_of, IsFine, HasSorts, HasWrongSort}
+use Rattle.unification.specs.PrivateGraph.{node_at, parts_of, AllParts}
+use Rattle.unification.specs.PrivateOrder.{place_at, IsListed, IsInOrder, IsOrder, sort_at, sort_of, IsFine, HasSorts, HasWrongSort}
 use Rattle.unification.proofs.Terms.{value-Int, value-Bool, value-Truth, value-Given, value-Pow, value-Pair}
 use Rattle.unification.proofs.Forms.{Says}
 use Rattle.unification.proofs.Places.{all_parts}

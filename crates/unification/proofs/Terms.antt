@@ -9,7 +9,7 @@ use Rattle.formula_core.specs.Schemes as scheme
 use Rattle.formula_core.specs.Schemes.{Scheme, type_at}
 use Rattle.formula_core.proofs.Equations.{type_fold}
 use Rattle.formula_core.proofs.Types.{type_induction}
-use Rattle.unification.specs.Order.{depth_step, depth}
+use Rattle.unification.specs.PrivateOrder.{depth_step, depth}
 use Rattle.unification.specs.Terms.{Open, integers, booleans, predicates, carrier, variable, powerset, product, value, open_of_step, open_of, instance, letters_at}
 
 pub value-Int : is_value_type ty.Int ≡ true

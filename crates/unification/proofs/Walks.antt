@@ -9,8 +9,8 @@ use Rattle.unification.specs.declared.graph.Parts.{Parts}
 use Rattle.unification.specs.declared.ordering.Mark.{Mark}
 use Rattle.unification.specs.declared.ordering.Mark.TheVariants.{New, Open, Done}
 use Rattle.unification.specs.Terms.{value}
-use Rattle.unification.specs.Graph.{node_at, form_of, parts_of, AllParts, Holds, Fits, IsGraph}
-use Rattle.unification.specs.Order.{depth, mark_at, place_at, IsListed, IsUnder, AreAbove, HasNoModel, Model, IsInOrder, IsWalk, Advances, IsOrder, HasModels}
+use Rattle.unification.specs.PrivateGraph.{node_at, form_of, parts_of, AllParts, Holds, Fits, IsGraph}
+use Rattle.unification.specs.PrivateOrder.{depth, mark_at, place_at, IsListed, IsUnder, AreAbove, HasNoModel, Model, IsInOrder, IsWalk, Advances, IsOrder, HasModels}
 use Rattle.unification.proofs.Terms.{depth-Pow, depth-Pair}
 use Rattle.unification.proofs.Forms.{Says, read}
 use Rattle.unification.proofs.Places.{put_type, put_same, put_other, says_put, all_parts, past, parts_fit}

@@ -6,8 +6,8 @@ use Rattle.formula_core.specs.declared.ty.Ty.TheVariants as ty
 use Rattle.unification.specs.declared.graph.Node.{Node}
 use Rattle.unification.specs.declared.graph.Node.TheVariants.{Free, Int, Bool as BoolN, Truth, Given, Pow, Pair, Same}
 use Rattle.unification.specs.Known.{type_at, powerset_of, product_of}
-use Rattle.unification.specs.Graph.{node_at, parts_of, AllParts, Holds}
-use Rattle.unification.specs.Order.{place_at, IsListed, IsInOrder, IsOrder, closed_form, DifferWhereFree, TypeFits}
+use Rattle.unification.specs.PrivateGraph.{node_at, parts_of, AllParts, Holds}
+use Rattle.unification.specs.PrivateOrder.{place_at, IsListed, IsInOrder, IsOrder, closed_form, DifferWhereFree, TypeFits}
 use Rattle.unification.proofs.Terms.{same_pow, same_left, same_right}
 use Rattle.unification.proofs.Forms.{Says}
 use Rattle.unification.proofs.Places.{all_parts}

@@ -1,5 +1,5 @@
-pub mod Graph
 pub mod Known
-pub mod Order
+pub mod PrivateGraph
+pub mod PrivateOrder
 pub mod Solutions
 pub mod Terms

@@ -1,7 +1,7 @@
 ghost use Rattle.std.specs.Prelude.{◌≡◌, ◌≤◌, [], ◌∷◌, ◌++◌, IfOk, OnOk, vec_len, replicate};
 ghost use Rattle.unification.specs.Terms.{term_of};
 ghost use Rattle.unification.specs.Solutions.{equations_of};
-ghost use Rattle.unification.specs.Graph.{variables_in, variables_of, IsGraph, Grows, StandsFor, Builds};
+ghost use Rattle.unification.specs.PrivateGraph.{variables_in, variables_of, IsGraph, Grows, StandsFor, Builds};
 
 use crate::equations::Equation;
 use crate::graph::Node;

@@ -2,7 +2,7 @@ ghost use Rattle.std.specs.Prelude.{◌≡◌, ℕ, ◌<◌, ◌==◌, if◌then
 ghost use Rattle.std.specs.Option.{option_copied};
 ghost use Rattle.unification.specs.Terms.{term_of};
 ghost use Rattle.unification.specs.Known.{type_at, closed};
-ghost use Rattle.unification.specs.Order.{closed_form, IsOrder, TypeFits};
+ghost use Rattle.unification.specs.PrivateOrder.{closed_form, IsOrder, TypeFits};
 
 use crate::graph::Node;
 use crate::term::Term;

@@ -1,6 +1,6 @@
 ghost use Rattle.std.specs.Prelude.{◌≡◌, ◌≢◌, ◌<◌, ℕ, None, IsErrOf, OnOk, vec_len};
 ghost use Rattle.formula_core.specs.declared.ty.Ty.{Ty};
-ghost use Rattle.unification.specs.Graph.{node_at, link_of, is_free, meeting_of, Adds, AllSame, AreInside, IsGraph, Holds, Joins, Merges};
+ghost use Rattle.unification.specs.PrivateGraph.{node_at, link_of, is_free, meeting_of, Adds, AllSame, AreInside, IsGraph, Holds, Joins, Merges};
 
 use crate::equations::SolveFault;
 use crate::graph::{Node, put, replace_by_link, root};

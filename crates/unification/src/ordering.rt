@@ -1,6 +1,6 @@
 ghost use Rattle.std.specs.Prelude.{◌≡◌, ◌≤◌, ◌<◌, ℕ, [], ◌∷◌, ◌++◌, IfOk, OnOk, IsErrOf, length, slice_set, vec_len};
-ghost use Rattle.unification.specs.Graph.{parts_of, AllParts, IsGraph};
-ghost use Rattle.unification.specs.Order.{mark_at, sort_of, IsWalk, Advances, AreAbove, HasNoModel, IsOrder, HasModels, HasSorts, HasWrongSort};
+ghost use Rattle.unification.specs.PrivateGraph.{parts_of, AllParts, IsGraph};
+ghost use Rattle.unification.specs.PrivateOrder.{mark_at, sort_of, IsWalk, Advances, AreAbove, HasNoModel, IsOrder, HasModels, HasSorts, HasWrongSort};
 
 use crate::equations::SolveFault;
 use crate::graph::{Node, Parts, places_in};

@@ -1,6 +1,6 @@
 ghost use Rattle.std.specs.Prelude.{◌≡◌, ◌+◌, ◌<◌, ◌^◌, IfOk};
 ghost use Rattle.unification.specs.Terms.{term_of, open_of, instance, variable, powerset, product};
-ghost use Rattle.unification.specs.Graph.{variables_of};
+ghost use Rattle.unification.specs.PrivateGraph.{variables_of};
 ghost use Rattle.formula_core.specs.SchemeView.{scheme_of, letter_of};
 
 use formula_core::{Letter, Name, OutOfMemory, Scheme, Ty};

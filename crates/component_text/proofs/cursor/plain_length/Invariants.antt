@@ -1,5 +1,5 @@
 use Rattle.std.proofs.Common.{◌≡◌, ◌+◌, ◌-◌, ◌≤◌, length, drop}
-use Rattle.component_text.specs.Texts.{plain_length}
+use Rattle.component_text.specs.PrivateTexts.{plain_length}
 use Rattle.component_text.proofs.cursor.plain_length.Given as goal
 
 abbrev pub invariant-loop-n : goal.invariant-loop-n

@@ -4,7 +4,7 @@ use Rattle.model_core.specs.declared.component.RawStep.{RawStep}
 use Rattle.component_text.specs.Marks.{Mark}
 use Rattle.component_text.specs.Forms.{limits}
 use Rattle.component_text.specs.Machines.{Steps}
-use Rattle.component_text.specs.Reading.{Refuses, Passes}
+use Rattle.component_text.specs.PrivateReading.{Refuses, Passes}
 use Rattle.component_text.proofs.machine.steps.Given as goal
 
 abbrev pub invariant-loop-alloc : goal.invariant-loop-alloc

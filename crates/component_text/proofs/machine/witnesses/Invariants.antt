@@ -4,7 +4,7 @@ use Rattle.model_core.specs.declared.component.RawLabelled.{RawLabelled}
 use Rattle.component_text.specs.Marks.{Mark}
 use Rattle.component_text.specs.Forms.{limits}
 use Rattle.component_text.specs.Machines.{Witnesses}
-use Rattle.component_text.specs.Reading.{Refuses, Passes}
+use Rattle.component_text.specs.PrivateReading.{Refuses, Passes}
 use Rattle.component_text.proofs.machine.witnesses.Given as goal
 
 abbrev pub invariant-loop-alloc : goal.invariant-loop-alloc

@@ -4,7 +4,7 @@ use Rattle.formula_core.specs.declared.raw.Ref.{Ref}
 use Rattle.component_text.specs.Marks.{Mark}
 use Rattle.component_text.specs.Forms.{limits}
 use Rattle.component_text.specs.Grammar.{Names}
-use Rattle.component_text.specs.Reading.{AddsNames}
+use Rattle.component_text.specs.PrivateReading.{AddsNames}
 use Rattle.component_text.proofs.parse.add_names.Given as goal
 
 abbrev pub invariant-loop-name : goal.invariant-loop-name

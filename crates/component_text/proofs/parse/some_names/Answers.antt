@@ -1,5 +1,5 @@
 use Rattle.std.proofs.Common.{◌≡◌, ◌∙◌, ◌∷◌, ◌++◌, [], ap, subst}
-use Rattle.component_text.specs.Reading.{AddsNames}
+use Rattle.component_text.specs.PrivateReading.{AddsNames}
 use Rattle.component_text.proofs.Components.{some_names_none, some_names_read}
 use Rattle.component_text.proofs.parse.some_names.Goals as goal
 

@@ -1,8 +1,8 @@
 -- what is left, read from the state so far, gives what all tokens give
 use Rattle.std.proofs.Common.{◌≡◌, ◌≤◌, [], drop}
-use Rattle.math_action.specs.Machine.{target}
-use Rattle.math_action.specs.Reading.{action_reading}
-use Rattle.math_action.specs.View.{action_state}
+use Rattle.math_action.specs.PrivateMachine.{target}
+use Rattle.math_action.specs.PrivateReading.{action_reading}
+use Rattle.math_action.specs.PrivateView.{action_state}
 use Rattle.math_action.proofs.reading.read.Given as goal
 
 abbrev pub invariant-loop-index : goal.invariant-loop-index

@@ -1,5 +1,5 @@
 use Rattle.std.proofs.Common.{take}
-use Rattle.sequent_core.specs.Children.{EachApplies}
+use Rattle.sequent_core.specs.PrivateChildren.{EachApplies}
 use Rattle.proof_deps.specs.Private.{antecedents_of, Narrows}
 use Rattle.proof_deps.proofs.gather.+gather.Given as goal
 

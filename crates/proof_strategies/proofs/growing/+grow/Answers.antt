@@ -1,7 +1,7 @@
 use Rattle.std.proofs.Common.{sym, ap, subst, rules, [], map, sum, ◌+◌, take, arith}
 use Rattle.std.proofs.lemmas.Result.{IfOk-weaker}
 use Rattle.sequent_core.specs.declared.tree.Tree.TheVariants.{Node}
-use Rattle.sequent_core.specs.Children.{EachApplies}
+use Rattle.sequent_core.specs.PrivateChildren.{EachApplies}
 use Rattle.sequent_core.specs.Trees.{node_count}
 use Rattle.proof_steps.specs.Private.{AreDistinct}
 use Rattle.proof_strategies.specs.Private.{HasGrown, HaveGrown, IsPut, WasTried}

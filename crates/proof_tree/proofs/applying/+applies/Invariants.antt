@@ -1,5 +1,5 @@
 use Rattle.std.proofs.Common.{take}
-use Rattle.sequent_core.specs.Children.{EachApplies}
+use Rattle.sequent_core.specs.PrivateChildren.{EachApplies}
 use Rattle.proof_tree.specs.Ways.{antecedents_of, at_end}
 use Rattle.proof_tree.proofs.applying.+applies.Given as goal
 

@@ -1,7 +1,7 @@
 use Rattle.std.proofs.Common.{List}
 use Rattle.core_steps.specs.Run.{Exchange}
 use Rattle.rodin_cli.specs.Script.{AreEdits}
-use Rattle.rodin_cli.specs.Session.{Extends}
+use Rattle.rodin_cli.specs.PrivateSession.{Extends}
 use Rattle.rodin_cli.proofs.round.edit_all.Given as goal
 
 abbrev pub invariant-loop-name : goal.invariant-loop-name

@@ -1,7 +1,7 @@
 use Rattle.std.proofs.Common.{◌≡◌, ◌*◌, List, length}
 use Rattle.core_steps.specs.Run.{Exchange}
 use Rattle.rodin_cli.specs.Script.{AreTurns}
-use Rattle.rodin_cli.specs.Session.{Extends}
+use Rattle.rodin_cli.specs.PrivateSession.{Extends}
 use Rattle.rodin_cli.proofs.round.turns.Given as goal
 
 abbrev pub invariant-loop-turn : goal.invariant-loop-turn

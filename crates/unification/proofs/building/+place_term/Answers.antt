@@ -1,6 +1,6 @@
 use Rattle.std.proofs.Common.{IfOk, refl, sym, ap, ◌∙◌, subst}
 use Rattle.unification.specs.Terms.{term_of, powerset, product}
-use Rattle.unification.specs.Graph.{StandsFor}
+use Rattle.unification.specs.PrivateGraph.{StandsFor}
 use Rattle.unification.proofs.Places.{atom_grown, power_grown, power_stands, pair_grown, pair_stands}
 use Rattle.unification.proofs.building.+place_term.Goals as goal
 

@@ -1,6 +1,6 @@
 use Rattle.std.proofs.Common.{◌≡◌, max, drop}
 use Rattle.unification.specs.Solutions.{equations_of}
-use Rattle.unification.specs.Graph.{variables_in}
+use Rattle.unification.specs.PrivateGraph.{variables_in}
 use Rattle.unification.proofs.building.count_variables.Given as goal
 
 abbrev pub invariant-loop-equation : goal.invariant-loop-equation

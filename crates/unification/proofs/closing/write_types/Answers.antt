@@ -1,6 +1,6 @@
 use Rattle.std.proofs.Common.{◌∙◌, ap, cond, eqb}
 use Rattle.unification.specs.Known.{type_at}
-use Rattle.unification.specs.Order.{place_at, closed_form}
+use Rattle.unification.specs.PrivateOrder.{place_at, closed_form}
 use Rattle.unification.proofs.Forms.{read}
 use Rattle.unification.proofs.Writes.{Writing-step, all_written}
 use Rattle.unification.proofs.closing.write_types.Goals as goal

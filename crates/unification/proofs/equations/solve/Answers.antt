@@ -2,8 +2,8 @@ use Rattle.std.proofs.Common.{◌≤◌, ◌<◌, ℕ, length, subst, arith}
 use Rattle.std.proofs.lemmas.Result.{err_from_is_err_and}
 use Rattle.unification.specs.Solutions.{equations_of}
 use Rattle.unification.specs.Known.{type_at}
-use Rattle.unification.specs.Graph.{variables_in}
-use Rattle.unification.specs.Order.{HasNoModel, HasModels, HasSorts, HasWrongSort, TypeFits}
+use Rattle.unification.specs.PrivateGraph.{variables_in}
+use Rattle.unification.specs.PrivateOrder.{HasNoModel, HasModels, HasSorts, HasWrongSort, TypeFits}
 use Rattle.unification.proofs.Solved.{none_merged, none_ordered, none_sorted, known}
 use Rattle.unification.proofs.equations.solve.Goals as goal
 

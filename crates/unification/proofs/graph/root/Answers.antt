@@ -1,5 +1,5 @@
 use Rattle.std.proofs.Common.{◌≡◌, Some, sym, ap, ◌∙◌, arith}
-use Rattle.unification.specs.Graph.{node_at, link_of}
+use Rattle.unification.specs.PrivateGraph.{node_at, link_of}
 use Rattle.unification.proofs.Forms.{Alike-trans, link_below, link_same, read}
 use Rattle.unification.proofs.graph.root.Goals as goal
 

@@ -1,6 +1,6 @@
 use Rattle.std.proofs.Common.{◌≡◌, ℕ, ◌<◌, length}
 use Rattle.formula_core.specs.declared.ty.Ty.{Ty}
-use Rattle.unification.specs.Graph.{Holds, Alike}
+use Rattle.unification.specs.PrivateGraph.{Holds, Alike}
 use Rattle.unification.proofs.graph.root.Given as goal
 
 -- the same types, and the place reached has that of the first one

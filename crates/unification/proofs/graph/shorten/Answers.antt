@@ -1,5 +1,5 @@
 use Rattle.std.proofs.Common.{sym, ap, ◌∙◌, ◌<◌, length, arith}
-use Rattle.unification.specs.Graph.{link_of}
+use Rattle.unification.specs.PrivateGraph.{link_of}
 use Rattle.unification.proofs.Forms.{Alike-refl, shortened, link_below, read}
 use Rattle.unification.proofs.graph.shorten.Goals as goal
 

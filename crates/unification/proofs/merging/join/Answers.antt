@@ -1,6 +1,6 @@
 use Rattle.std.proofs.Common.{sym, ◌∙◌, subst, ◌<◌, length, arith}
 use Rattle.std.proofs.lemmas.Result.{on_ok_weaker}
-use Rattle.unification.specs.Graph.{AreInside}
+use Rattle.unification.specs.PrivateGraph.{AreInside}
 use Rattle.unification.proofs.Meetings.{join_free, join_met, join_never}
 use Rattle.unification.proofs.merging.join.Goals as goal
 

@@ -1,6 +1,6 @@
 use Rattle.std.proofs.Common.{sym, subst, arith}
 use Rattle.std.proofs.lemmas.Result.{err_from_is_err_and}
-use Rattle.unification.specs.Graph.{AreInside}
+use Rattle.unification.specs.PrivateGraph.{AreInside}
 use Rattle.unification.proofs.Merges.{last_inside, found, found_flip, found_same, found_joined, found_refused}
 use Rattle.unification.proofs.merging.merge.Goals as goal
 

@@ -1,5 +1,5 @@
 use Rattle.std.proofs.Common.{◌+◌, ◌*◌, length}
-use Rattle.unification.specs.Graph.{unlinked}
+use Rattle.unification.specs.PrivateGraph.{unlinked}
 use Rattle.unification.proofs.Merges.{Merging}
 use Rattle.unification.proofs.merging.merge.Given as goal
 

@@ -1,8 +1,8 @@
 use Rattle.std.proofs.Common.{◌≡◌, ◌<◌, length, set, sym, ◌∙◌, subst, arith}
 use Rattle.std.proofs.lemmas.Result.{on_ok_weaker}
 use Rattle.unification.specs.declared.ordering.Mark.TheVariants.{New, Open, Done}
-use Rattle.unification.specs.Graph.{AllParts}
-use Rattle.unification.specs.Order.{mark_at, AreAbove}
+use Rattle.unification.specs.PrivateGraph.{AllParts}
+use Rattle.unification.specs.PrivateOrder.{mark_at, AreAbove}
 use Rattle.unification.proofs.Walks.{cycle, begins, read_mark, read_parts, above_advanced, count_advanced, done_advanced, Advances-refl, Advances-trans, visited_ok}
 use Rattle.unification.proofs.ordering.+visit.Goals as goal
 

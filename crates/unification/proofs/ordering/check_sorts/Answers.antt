@@ -1,5 +1,5 @@
 use Rattle.std.proofs.Common.{◌≡◌, ◌<◌, true, refl, ◌∙◌, arith}
-use Rattle.unification.specs.Order.{place_at, sort_of}
+use Rattle.unification.specs.PrivateOrder.{place_at, sort_of}
 use Rattle.unification.proofs.Forms.{read}
 use Rattle.unification.proofs.Sorts.{Sorting-step, all_sorts, wrong_sort}
 use Rattle.unification.proofs.ordering.check_sorts.Goals as goal

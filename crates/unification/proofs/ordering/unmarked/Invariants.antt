@@ -1,5 +1,5 @@
 use Rattle.std.proofs.Common.{◌≡◌, ℕ, vec_len}
-use Rattle.unification.specs.Order.{mark_at}
+use Rattle.unification.specs.PrivateOrder.{mark_at}
 use Rattle.unification.specs.declared.ordering.Mark.TheVariants.{New}
 use Rattle.unification.proofs.ordering.unmarked.Given as goal
 

@@ -1,7 +1,7 @@
 use Rattle.std.proofs.Common.{◌∙◌, ap, sym}
 use Rattle.math_grammar.specs.Tokens.{item_of, bytes_of}
 use Rattle.component_text.specs.Marks.{is_word, is_at}
-use Rattle.component_text.specs.Texts.{is_word_text}
+use Rattle.component_text.specs.PrivateTexts.{is_word_text}
 use Rattle.component_text.proofs.Marks.{word_test, at_first}
 use Rattle.component_text.proofs.cursor.Cursor.is_at_word.Goals as goal
 

@@ -1,6 +1,6 @@
 use Rattle.std.proofs.Common.{sym, subst}
 use Rattle.component_text.specs.Machines.{either}
-use Rattle.component_text.specs.Reading.{Takes}
+use Rattle.component_text.specs.PrivateReading.{Takes}
 use Rattle.component_text.proofs.Marks.{either_first, either_second}
 use Rattle.component_text.proofs.cursor.Cursor.take_either.Goals as goal
 

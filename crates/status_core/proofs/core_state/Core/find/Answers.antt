@@ -1,7 +1,7 @@
 use Rattle.std.proofs.Common.{◌∙◌, ap, sym, map, subst}
 use Rattle.std.specs.Prelude.{Some}
 use Rattle.sequent_core.specs.declared.Obligation.{Obligation}
-use Rattle.status_core.specs.Parts.{Finds}
+use Rattle.status_core.specs.PrivateParts.{Finds}
 use Rattle.std.proofs.lemmas.List.{length-map}
 use Rattle.std.specs.Arc.{arc_value}
 use Rattle.std.specs.FinMap.{entries}

@@ -8,7 +8,7 @@ use Rattle.build_core.specs.Projects.{Project}
 use Rattle.build_core.specs.Tables.{IsTable as IsTableOf}
 use Rattle.core_steps.specs.State.{State}
 use Rattle.core_steps.specs.Tickets.{CanTake, IsOpen}
-use Rattle.status_core.specs.Parts.{IsFirstOpen}
+use Rattle.status_core.specs.PrivateParts.{IsFirstOpen}
 use Rattle.status_core.proofs.FirstOpen.{first_of, closed_until}
 use Rattle.status_core.proofs.core_state.Core.find_open.Goals as goal
 

@@ -6,7 +6,7 @@ use Rattle.sequent_core.specs.declared.Attempt.TheVariants.{Found}
 use Rattle.sequent_core.specs.Provers.{IsGoodTree}
 use Rattle.core_steps.specs.State.{State}
 use Rattle.core_steps.specs.Tickets.{EndsTicket}
-use Rattle.status_core.specs.Parts.{without_at}
+use Rattle.status_core.specs.PrivateParts.{without_at}
 use Rattle.status_core.proofs.Made.{as_made}
 use Rattle.status_core.proofs.Finished.{same_ticket, ticket_there}
 use Rattle.status_core.proofs.Ending.{isnt, result_as, stored_named, stale_named, refused_named}

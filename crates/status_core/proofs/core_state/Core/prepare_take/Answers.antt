@@ -2,7 +2,7 @@ use Rattle.std.proofs.Common.{◌+◌, ◌<◌, ◌^◌, sym, subst, List}
 use Rattle.sequent_core.specs.declared.Obligation.{Obligation}
 use Rattle.core_steps.specs.State.{State}
 use Rattle.core_steps.specs.Table.{IsTable}
-use Rattle.status_core.specs.Parts.{IsFirstOpen}
+use Rattle.status_core.specs.PrivateParts.{IsFirstOpen}
 use Rattle.status_core.proofs.core_state.Core.prepare_take.Goals as goal
 
 pub take_at-requires : goal.take_at-requires

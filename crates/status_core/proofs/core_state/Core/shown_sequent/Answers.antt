@@ -4,7 +4,7 @@ use Rattle.std.specs.FinMap.{get}
 use Rattle.std.specs.Option.{option_copied}
 use Rattle.core_steps.specs.State.{State}
 use Rattle.core_steps.specs.Proving.{stored_tree, tree_in}
-use Rattle.status_core.specs.Parts.{IsShownAt}
+use Rattle.status_core.specs.PrivateParts.{IsShownAt}
 use Rattle.status_core.proofs.Showing.{shown_at}
 use Rattle.status_core.proofs.core_state.Core.shown_sequent.Goals as goal
 

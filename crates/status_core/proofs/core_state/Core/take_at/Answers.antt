@@ -8,7 +8,7 @@ use Rattle.build_core.specs.Tables.{IsTable as IsTableOf}
 use Rattle.core_steps.specs.State.{State}
 use Rattle.core_steps.specs.Tickets.{IsOpen}
 use Rattle.core_steps.proofs.Lists.{split}
-use Rattle.status_core.specs.Parts.{IsFirstOpen}
+use Rattle.status_core.specs.PrivateParts.{IsFirstOpen}
 use Rattle.status_core.proofs.Made.{if_ok, so_made, as_made}
 use Rattle.table_lookup.proofs.Places.{map_at}
 use Rattle.status_core.proofs.core_state.Core.take_at.Goals as goal

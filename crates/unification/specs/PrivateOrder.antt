@@ -9,7 +9,7 @@ use Rattle.unification.specs.declared.graph.Node.{Node}
 use Rattle.unification.specs.declared.graph.Node.TheVariants.{Free, Int, Bool as BoolN, Truth, Given, Pow, Pair, Same}
 use Rattle.unification.specs.declared.ordering.Mark.{Mark}
 use Rattle.unification.specs.declared.ordering.Mark.TheVariants.{New, Open, Done}
-use Rattle.unification.specs.Graph.{node_at, form_of, parts_of, AllParts, Holds}
+use Rattle.unification.specs.PrivateGraph.{node_at, form_of, parts_of, AllParts, Holds}
 use Rattle.unification.specs.Terms.{value}
 use Rattle.unification.specs.Known.{type_at, powerset_of, product_of}
 

@@ -6,7 +6,7 @@ use Rattle.math_parse.specs.declared.fault.StepFault.TheVariants as fault
 use Rattle.math_parse.specs.View.{state_of}
 use Rattle.math_action.specs.declared.stages.Stage.{Stage}
 use Rattle.math_action.specs.declared.stages.Stage.TheVariants as stage
-use Rattle.math_action.specs.Machine.{ActionState, target, named, formula, applied}
+use Rattle.math_action.specs.PrivateMachine.{ActionState, target, named, formula, applied}
 
 abbrev pub action_state : Stage → ActionState
 action_state (stage.Target before) = target before

@@ -7,7 +7,7 @@ use Rattle.math_parse.specs.declared.fault.ParseFault.{ParseFault}
 use Rattle.math_parse.specs.declared.fault.ParseFault.TheVariants as fault
 use Rattle.math_parse.specs.Limits.{passes, open_after}
 use Rattle.math_parse.specs.Reading.{is_full}
-use Rattle.math_action.specs.Machine.{ActionState, target, formula, action_step, action_ended}
+use Rattle.math_action.specs.PrivateMachine.{ActionState, target, formula, action_step, action_ended}
 
 -- a part behind the last one allowed is wanted
 abbrev pub is_full_action : ActionState → Bool
