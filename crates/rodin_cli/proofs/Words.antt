@@ -1,12 +1,11 @@
--- Words of the command line, and words that are printed.
-use Rattle.std.proofs.Common.{◌≡◌, ◌≢◌, ◌∙◌, ◌<◌, ◌≤◌, ◌^◌, ℕ, List, [], ◌∷◌, ◌++◌, ap, sym, subst, length, get_or, map, arith, append_assoc, String, Global}
+-- Words of the command line.
+use Rattle.std.proofs.Common.{◌≡◌, ◌≢◌, ◌∙◌, ◌<◌, ◌≤◌, ◌^◌, ℕ, List, [], ◌∷◌, ap, sym, subst, length, get_or, map, arith, String, Global}
 use Rattle.std.specs.Prelude.{Option, Some, None, MatchOption, Result, Ok, Err, codes, string_bytes}
 use Rattle.std.specs.Str.Parse.{digits_value, IsNumeral, ParsesUnsigned}
 use Rattle.std.proofs.lemmas.Str.Parse.{digit_at, without_leading_plus_none}
 use Rattle.rodin_cli.specs.Check.{IsCheckWords}
 use Rattle.rodin_cli.specs.Private.{AreDemoWords}
 use Rattle.rodin_cli.specs.Words.{IsDemoWords, IsSessionWords, IsNumberWord}
-use Rattle.rodin_cli.specs.Texts.{warning_line}
 
 -- a list of one word has that word
 pub one_word : (words : List (String Global)) (word : String Global) → 1 ≤ length words → length words < 2 → word ≡ get_or words 0 word →
@@ -14,18 +13,6 @@ pub one_word : (words : List (String Global)) (word : String Global) → 1 ≤ l
 one_word [] word low high is = absurd (omega arith)
 one_word (first ∷ []) word low high is = ap (λ w. string_bytes w ∷ []) (sym is)
 one_word (first ∷ second ∷ words) word low high is = absurd (omega arith)
-
-joined : (a b c d e : List ℕ) → a ++ (b ++ (c ++ (d ++ e))) ≡ (((a ++ b) ++ c) ++ d) ++ e
-joined a b c d e = simp append_assoc
-
--- the words of a warning, one behind the other
-pub warning_words : (old new machine event m e : List ℕ) → new ≡ old ++ (codes "warning " ++ (machine ++ (codes ": event " ++ (event ++ codes " is not refined\n")))) →
-    machine ≡ m → event ≡ e → new ≡ old ++ warning_line (m, e)
-warning_words old new machine event m e is is_m is_e =
-    is ∙ ap (λ t. old ++ t)
-    (ap (λ w. codes "warning " ++ (w ++ (codes ": event " ++ (event ++ codes " is not refined\n")))) is_m
-    ∙ ap (λ w. codes "warning " ++ (m ++ (codes ": event " ++ (w ++ codes " is not refined\n")))) is_e
-    ∙ joined (codes "warning ") m (codes ": event ") e (codes " is not refined\n"))
 
 -- a list of three words has those words
 pub three_words : (words : List (String Global)) (a b c : String Global) → 3 ≤ length words → length words < 4 → a ≡ get_or words 0 a → b ≡ get_or words 1 b → c ≡ get_or words 2 c →
