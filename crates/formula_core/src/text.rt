@@ -185,7 +185,7 @@ fn add_part(text: &mut String, part: &str) -> Result<(), OutOfMemory>
 }
 
 /// A text. Its copies share it, so that a copy takes little time and no memory.
-#[derive(Drop)]
+#[derive(Debug, Drop)]
 pub struct Text {
     text: Arc<String>,
 }
