@@ -15,10 +15,12 @@ use Rattle.rule_table.specs.declared.law.Law.{Law}
 use Rattle.rule_table.specs.Rewriting.{part_at, part, with_part_at, with_part, right_side, rewritten}
 use Rattle.made_rules.proofs.Typed.{Env, Is, AreOf}
 use Rattle.made_rules.proofs.Forms.{carried, retyped, node_is, opened, bind_is, opened_binder}
-use Rattle.made_rules.proofs.Operands.{then_if}
+use Rattle.made_rules.proofs.Operands.{then_if, some}
 
-some : {X : Type 0} (x y : X) → Some x ≡ Some y → x ≡ y
-some x y e = cc
+-- what is made of what is there has what follows from what it had
+pub put_in : {X Y : Type 0} (P : X → Type 0) (Q : Y → Type 0) (make : X → Y) → ((x : X) → P x → Q (make x)) → (o : Option X) → IfSome o P → IfSome (option_map make o) Q
+put_in P Q make f None h = tt
+put_in P Q make f (Some x) h = f x h
 
 module _ (env : Env) where
   -- one of several typed formulas, and what stands where another one of its type is in its place
@@ -85,10 +87,6 @@ module _ (env : Env) where
       go (NodeF o parts u) k e = at_node o parts u k e
       go (BindF b types parts u) k e = at_binder b types parts u k e
 
-  put_back : (P Q : Formula → Type 0) (make : Formula → Formula) → ((q : Formula) → P q → Q (make q)) → (o : Option Formula) → IfSome o P → IfSome (option_map make o) Q
-  put_back P Q make f None h = tt
-  put_back P Q make f (Some q) h = f q h
-
   abbrev pub KeepsTypes : Law → Type 0
   KeepsTypes law = (bound : List Ty) (t : Ty) (f : Formula) → Is env bound t f → IfSome (right_side law f) (Is env bound t)
 
@@ -97,4 +95,4 @@ module _ (env : Env) where
   rewritten_is law keeps (i ∷ place) bound t f h =
       then_if (Is env bound t) (part f i) (λ p. option_map (with_part f i) (rewritten law place p)) (λ p e.
       let w = placed bound t f h i p e in
-      put_back (Is env w.inner w.type) (Is env bound t) (with_part f i) w.put (rewritten law place p) (rewritten_is law keeps place w.inner w.type p w.is))
+      put_in (Is env w.inner w.type) (Is env bound t) (with_part f i) w.put (rewritten law place p) (rewritten_is law keeps place w.inner w.type p w.is))

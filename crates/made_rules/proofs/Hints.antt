@@ -1,10 +1,8 @@
 -- What a hint names is typed in the environment of the sequent.
-use Rattle.std.proofs.Common.{◌≡◌, ◌∙◌, inl, inr, sym, ap, subst, refl, ℕ, zero, suc, ◌-◌, ◌==◌, Bool, true, false, ◌&&◌, ◌||◌, List, [], ◌∷◌, ◌++◌, length, Option, Some, None, IfSome, is_some, slice_get, if◌then◌else◌}
+use Rattle.std.proofs.Common.{◌≡◌, ◌∙◌, inl, inr, ap, subst, refl, ℕ, zero, suc, ◌-◌, ◌==◌, Bool, true, false, ◌||◌, List, [], ◌∷◌, ◌++◌, Option, Some, None, IfSome, is_some, slice_get, if◌then◌else◌}
 use Rattle.std.specs.Prelude.{bytes_eq, Contains}
 use Rattle.std.specs.List.{AllByRecursion, IsDistinct, list_any}
 use Rattle.std.specs.Option.{option_and_then, option_map_or}
-use Rattle.std.specs.Cmp.Lexicographic.{same_text}
-use Rattle.std.proofs.lemmas.Slice.Eq.{bytes_eq-Decides}
 use Rattle.std.proofs.lemmas.List.Elements.{All-contains_itself, recursion_from_All, Contains-append_left, Contains-append_right, Contains-push}
 use Rattle.formula_core.specs.declared.Binder.{Binder}
 use Rattle.formula_core.specs.declared.Binder.TheVariants.{ForAll, Exists}
@@ -17,18 +15,17 @@ use Rattle.formula_core.specs.Typed.{Stands, HasCarriers, IsTypedIn, IsPredicate
 use Rattle.type_core.specs.CoreForms.{core_form}
 use Rattle.type_core.proofs.Standing.{formulas_stand}
 use Rattle.rule_table.specs.declared.kind.RuleKind.{RuleKind}
-use Rattle.rule_table.specs.declared.kind.RuleKind.TheVariants as kind
 use Rattle.rule_table.specs.Rows.{first}
 use Rattle.rule_table.specs.Rules.{terms_of}
 use Rattle.rule_table.specs.Shapes.{one_bound}
 use Rattle.sequent_core.specs.declared.hint.Hint.{Hint}
 use Rattle.sequent_core.specs.declared.sequent.Sequent.{Sequent}
 use Rattle.sequent_core.specs.Sequents.{IsSequent}
-use Rattle.rule_making.specs.Make.{AreTerms, IsTerm, first_hyp, first_taken, goal_for, has_only, hyps_at, hyps_for, hypothesis, kind_of, kinds, main_for, multiplying, naming, plain, replaced_types, reviewing, rewriting, takes_goal, types_under, with_term, with_terms, without_first}
+use Rattle.rule_making.specs.Make.{AreTerms, IsTerm, first_hyp, first_taken, goal_for, hyps_at, hyps_for, hypothesis, kind_of, kinds, main_for, replaced_types, takes_goal, types_under, without_first}
 use Rattle.made_rules.proofs.Typed.{Env, Carried}
 use Rattle.made_rules.proofs.Instances.{predicate_is, at_some}
 use Rattle.made_rules.proofs.Makers.{carried_truth}
-use Rattle.made_rules.proofs.NewNames.{AreNew, carriers_each}
+use Rattle.made_rules.proofs.NewNames.{AreNew, carriers_each, or_false, turned}
 use Rattle.made_rules.proofs.Operands.{binder_found}
 
 -- terms
@@ -52,20 +49,9 @@ module _ (env : Env) (has : HasCarriers env) where
       (term_typed types c raw f are.0, terms_typed (without_first types) (rest_carried types c) raws terms are.1)
 
 -- new names
-or_false : (a b : Bool) → (a || b) ≡ false → (a ≡ false) × (b ≡ false)
-or_false true b e = absurd (cc)
-or_false false b e = (refl, e)
-
 none_of : {X : Type 0} (o : Option X) → is_some o ≡ false → o ≡ None
 none_of None e = refl
 none_of (Some x) e = absurd (cc)
-
-turned : (x y : List ℕ) → bytes_eq y x ≡ false → bytes_eq x y ≡ false
-turned x y e = at (bytes_eq x y) refl
-  where
-    at : (c : Bool) → bytes_eq x y ≡ c → c ≡ false
-    at true k = let d : bytes_eq y x ≡ true = (bytes_eq-Decides y x).1 (sym (same_text x y (sym k))) in cc
-    at false k = refl
 
 any_parts : {X : Type 0} (p : X → Bool) (xs ys : List X) → list_any p (xs ++ ys) ≡ false → (list_any p xs ≡ false) × (list_any p ys ≡ false)
 any_parts p [] ys e = (refl, e)
@@ -209,134 +195,8 @@ module _ (P : Formula → Type 0) (h : Hint) (terms : List Formula) (typed : All
   chosen true k t = t
   chosen false k t = tt
 
-  plain_has : (k : RuleKind) → HasTerms k → IfSome (plain h terms k) HasTerms
-  plain_has k = chosen (has_only h false false false && (length terms == 0)) k
-
-  reviewing_has : (k : RuleKind) → HasTerms k → IfSome (reviewing h terms k) HasTerms
-  reviewing_has k = chosen (has_only h false false false && (length terms == 0) && (length h.hyps == 0)) k
-
-  naming_has : (k : RuleKind) → HasTerms k → IfSome (naming h terms k) HasTerms
-  naming_has k = chosen (has_only h true false false && (length terms == 0)) k
-
-  terms_has : (k : RuleKind) → HasTerms k → IfSome (with_terms h k) HasTerms
-  terms_has k = chosen (has_only h false false false) k
-
-  term_has : (k : RuleKind) → HasTerms k → IfSome (with_term h terms k) HasTerms
-  term_has k = chosen (has_only h false false false && (length terms == 1)) k
-
-  rewriting_has : (count : ℕ) (k : RuleKind) → HasTerms k → IfSome (rewriting count h terms k) HasTerms
-  rewriting_has count k = chosen (has_only h false true false && (length terms == 0) && (length h.hyps == count)) k
-
-  multiplying_has : (k : RuleKind) → HasTerms k → IfSome (multiplying h terms k) HasTerms
-  multiplying_has k = chosen (has_only h false false true && (length terms == 0)) k
-
   each_kind : AllByRecursion (λ o. IfSome o HasTerms) (kinds h terms)
-  each_kind = (
-    plain_has kind.Hyp tt,
-    (
-      plain_has kind.Top tt,
-      (
-        plain_has kind.Bot tt,
-        (
-          plain_has kind.Contr tt,
-          (
-            plain_has kind.AndR tt,
-            (
-              plain_has kind.AndL tt,
-              (
-                plain_has kind.OrR tt,
-                (
-                  plain_has kind.OrL tt,
-                  (
-                    plain_has kind.ImpR tt,
-                    (
-                      plain_has kind.ImpL tt,
-                      (
-                        plain_has kind.Mp tt,
-                        (
-                          plain_has kind.IffR tt,
-                          (
-                            plain_has kind.IffL tt,
-                            (
-                              plain_has kind.NotR tt,
-                              (
-                                plain_has kind.NotL tt,
-                                (
-                                  plain_has kind.Contra tt,
-                                  (
-                                    naming_has kind.AllR tt,
-                                    (
-                                      terms_has (kind.AllL terms) typed,
-                                      (
-                                        terms_has (kind.ExR terms) typed,
-                                        (
-                                          naming_has kind.ExL tt,
-                                          (
-                                            term_has kind.Cut tt,
-                                            (
-                                              term_has kind.Cases tt,
-                                              (
-                                                reviewing_has kind.Review tt,
-                                                (
-                                                  plain_has kind.EqRefl tt,
-                                                  (
-                                                    plain_has kind.EqGoal tt,
-                                                    (
-                                                      plain_has kind.EqHyp tt,
-                                                      (
-                                                        term_has kind.BoolCases tt,
-                                                        (
-                                                          plain_has kind.BoolDiff tt,
-                                                          (
-                                                            rewriting_has 0 (kind.RwGoal h.law h.place) tt,
-                                                            (
-                                                              rewriting_has 1 (kind.RwHyp h.law h.place) tt,
-                                                              (
-                                                                multiplying_has (kind.Linear h.multipliers) tt,
-                                                                (
-                                                                  term_has kind.CardNat tt,
-                                                                  (
-                                                                    term_has kind.FunIn tt,
-                                                                    (
-                                                                      plain_has kind.FunEq tt,
-                                                                      (
-                                                                        plain_has kind.OverOther tt,
-                                                                        tt,
-                                                                      ),
-                                                                    ),
-                                                                  ),
-                                                                ),
-                                                              ),
-                                                            ),
-                                                          ),
-                                                        ),
-                                                      ),
-                                                    ),
-                                                  ),
-                                                ),
-                                              ),
-                                            ),
-                                          ),
-                                        ),
-                                      ),
-                                    ),
-                                  ),
-                                ),
-                              ),
-                            ),
-                          ),
-                        ),
-                      ),
-                    ),
-                  ),
-                ),
-              ),
-            ),
-          ),
-        ),
-      ),
-    ),
-  )
+  each_kind = search (chosen, typed) parts 40
 
   at_place : (os : List (Option RuleKind)) (i : ℕ) (k : RuleKind) → AllByRecursion (λ o. IfSome o HasTerms) os → option_and_then (λ o. o) (slice_get os i) ≡ Some k → HasTerms k
   at_place [] i k each e = absurd (cc)

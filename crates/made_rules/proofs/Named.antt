@@ -29,7 +29,7 @@ use Rattle.made_rules.proofs.Fitting.{IsLeftIn, sound, used_stand}
 use Rattle.made_rules.proofs.Hints.{terms_typed, names_are_new, main_goal, main_hyps, main_names, main_chosen, replaced_carried, kind_terms}
 use Rattle.made_rules.proofs.Instances.{at_some, predicate_is, plain_left, goal_row, hyp_row, chosen_row, and_r_is, and_l_is, or_r_is, or_l_is, imp_r_is, imp_l_is, mp_is, iff_r_is, iff_l_is, not_r_is, not_l_is, contra_is, all_l_is, ex_r_is, cut_is, cases_is, bool_cases_is}
 use Rattle.made_rules.proofs.NewNames.{AreNew, all_r_is, ex_l_is}
-use Rattle.made_rules.proofs.Operands.{test_if}
+use Rattle.made_rules.proofs.Operands.{test_if, some}
 use Rattle.made_rules.proofs.SetRows.{eq_refl_is, eq_goal_is, eq_hyp_is, rw_goal_is, rw_hyp_is, card_nat_is, fun_in_is, fun_eq_is, over_other_is}
 
 -- the main formulas of a kind are typed, and its names are new
@@ -107,9 +107,6 @@ module _ (env : Env) where
           more (fun_eq f g) (fun_eq_is env f g (predicate_is env f all.0) (predicate_is env g all.1.0)) (λ b k e. k (g ∷ rest) (e ∙ z))
 
 -- what the names and the needed formulas are
-some : {X : Type 0} (x y : X) → Some x ≡ Some y → x ≡ y
-some x y e = cc
-
 same_goal_exact : (o p : Option Formula) → same_goal o p ≡ true → o ≡ p
 same_goal_exact None None e = refl
 same_goal_exact None (Some g) e = absurd (cc)

@@ -82,8 +82,8 @@ later (x ∷ env) ids name h = at (bytes_eq name x.0) (λ k. later env ids name 
     at true f k = absurd (cc)
     at false f k = f k
 
-turned : (x y : List ℕ) (b : Bool) → bytes_eq y x ≡ b → b ≡ false → bytes_eq x y ≡ false
-turned x y b e f = at (bytes_eq x y) refl
+pub turned : (x y : List ℕ) → bytes_eq y x ≡ false → bytes_eq x y ≡ false
+turned x y e = at (bytes_eq x y) refl
   where
     at : (c : Bool) → bytes_eq x y ≡ c → c ≡ false
     at true k = let d : bytes_eq y x ≡ true = (bytes_eq-Decides y x).1 (sym (same_text x y (sym k))) in cc
@@ -105,10 +105,10 @@ each_there (y ∷ ids) d = (here (bytes_eq y.0 y.0) ((bytes_eq-Decides y.0 y.0).
 
     go : (xs : Env) → AllByRecursion (λ z. bytes_eq y.0 z ≡ false) (keys_of xs) → AllByRecursion (Stands ids) xs → AllByRecursion (Stands (y ∷ ids)) xs
     go [] a h = tt
-    go (x ∷ xs) a h = (past x (bytes_eq x.0 y.0) (turned x.0 y.0 (bytes_eq y.0 x.0) refl a.0) h.0, go xs a.1 h.1)
+    go (x ∷ xs) a h = (past x (bytes_eq x.0 y.0) (turned x.0 y.0 a.0) h.0, go xs a.1 h.1)
 
 -- a name that stands among others is named by them
-or_false : (a b : Bool) → (a || b) ≡ false → (a ≡ false) × (b ≡ false)
+pub or_false : (a b : Bool) → (a || b) ≡ false → (a ≡ false) × (b ≡ false)
 or_false true b e = absurd (cc)
 or_false false b e = (refl, e)
 

@@ -23,14 +23,8 @@ use Rattle.well_defined.specs.Predicates.{top}
 use Rattle.made_rules.proofs.Typed.{Env, Is, AreOf}
 use Rattle.made_rules.proofs.Forms.{opened, OpenedBinder}
 use Rattle.made_rules.proofs.Makers.{top_is, quantified_is, moved_is}
-use Rattle.made_rules.proofs.Operands.{operands_are, one_is, then_if, map_if, test_if, power_exact, pair_right}
+use Rattle.made_rules.proofs.Operands.{operands_are, one_is, then_if, map_if, test_if, power_exact, pair_right, head_is, tail_is}
 use Rattle.made_rules.proofs.SetMakers.{re, conj, disj, impl, eq, mem, member_of, parts_of, one, two, in_set, pair_of, bound_two}
-
-head : (a b : Ty) (rest more : List Ty) → a ∷ rest ≡ b ∷ more → a ≡ b
-head a b rest more e = cc
-
-tail : (a b : Ty) (rest more : List Ty) → a ∷ rest ≡ b ∷ more → rest ≡ more
-tail a b rest more e = cc
 
 -- a formula below the identifiers of a binder
 over_all : {env : Env} {bound : List Ty} {t : Ty} {f : Formula} (types : List Ty) → Is env bound t f → Is env (reverse types ++ bound) t (below_all types f)
@@ -52,8 +46,8 @@ two_parts {env} {bound} {types} {p} {q} {t} b s whole e k w =
     record {
       letters = w.fit.letters;
       value = w.fit.values.alpha;
-      predicate = re (head _ _ _ _ are) w.inner.0;
-      term = re (head _ _ _ _ (tail _ _ _ _ are)) w.inner.1.0;
+      predicate = re (head_is _ _ _ _ are) w.inner.0;
+      term = re (head_is _ _ _ _ (tail_is _ _ _ _ are)) w.inner.1.0;
       is = w.fit.whole_is ∙ ap (type_at w.fit.letters) k;
     }
 
@@ -70,7 +64,7 @@ module _ (env : Env) (bound : List Ty) where
   repeated l k [] (p ∷ parts) h e = absurd h
   repeated l k (t ∷ ts) [] h e = absurd h
   repeated l zero (t ∷ ts) (p ∷ parts) h e = absurd (cc)
-  repeated l (suc k) (t ∷ ts) (p ∷ parts) h e = (re (head _ _ _ _ e) h.0, repeated l k ts parts h.1 (tail _ _ _ _ e))
+  repeated l (suc k) (t ∷ ts) (p ∷ parts) h e = (re (head_is _ _ _ _ e) h.0, repeated l k ts parts h.1 (tail_is _ _ _ _ e))
 
   each_listed : (l : Letters) (k : ℕ) (ts : List Ty) (parts : List Formula) → AreOf env bound ts parts → ts ≡ map (type_at l) (alpha ∷ replicate k alpha) → AllByRecursion (Is env bound l.alpha) parts
   each_listed l k ts parts h e = repeated l (suc k) ts parts h e

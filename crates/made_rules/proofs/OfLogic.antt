@@ -15,15 +15,12 @@ use Rattle.rule_table.specs.Shapes.{negation}
 use Rattle.made_rules.proofs.Typed.{Env, Is}
 use Rattle.made_rules.proofs.Forms.{retyped, OpenedBinder}
 use Rattle.made_rules.proofs.Makers.{not_is, and_is, or_is, equivalent_is, equal_is, quantified_is}
-use Rattle.made_rules.proofs.Operands.{on_none_if, on_one_if, on_two_if, under_binder_if}
-
-head : (a b : Ty) → a ∷ [] ≡ b ∷ [] → a ≡ b
-head a b e = cc
+use Rattle.made_rules.proofs.Operands.{on_none_if, on_one_if, on_two_if, under_binder_if, head_is}
 
 -- the body of a quantifier
 pub body_is : (env : Env) (bound : List Ty) (b : Binder) → part_schemes b ≡ part_schemes binder.ForAll → (types : List Ty) (p : Formula) (t : Ty)
     → OpenedBinder env bound b types (p ∷ []) t → Is env (reverse types ++ bound) ty.Truth p
-body_is env bound b s types p t w = retyped env (reverse types ++ bound) _ ty.Truth p (head _ _ (w.fit.operands_are ∙ ap (map (type_at w.fit.letters)) s)) w.inner.0
+body_is env bound b s types p t w = retyped env (reverse types ++ bound) _ ty.Truth p (head_is _ _ _ _ (w.fit.operands_are ∙ ap (map (type_at w.fit.letters)) s)) w.inner.0
 
 module _ (env : Env) (bound : List Ty) (t : Ty) (f : Formula) (h : Is env bound t f) where
   abbrev Kept : Option Formula → Type 0

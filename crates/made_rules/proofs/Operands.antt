@@ -32,7 +32,8 @@ use Rattle.rule_table.specs.Shapes.{operands_at, operands, one_of, two_of, two_o
 use Rattle.made_rules.proofs.Typed.{Env, Is}
 use Rattle.made_rules.proofs.Forms.{opened, opened_binder, OpenedBinder}
 
-some : {X : Type 0} (x y : X) → Some x ≡ Some y → x ≡ y
+-- what stands in equal values
+pub some : {X : Type 0} (x y : X) → Some x ≡ Some y → x ≡ y
 some x y e = cc
 
 -- operators of one number are one
@@ -125,10 +126,10 @@ none_is : {X : Type 0} (Q : X → Type 0) (made : Option X) (parts : List Formul
 none_is Q made [] h = h refl
 none_is Q made (p ∷ parts) h = tt
 
-head_is : (a b : Ty) (rest more : List Ty) → a ∷ rest ≡ b ∷ more → a ≡ b
+pub head_is : {X : Type 0} (a b : X) (rest more : List X) → a ∷ rest ≡ b ∷ more → a ≡ b
 head_is a b rest more e = cc
 
-tail_is : (a b : Ty) (rest more : List Ty) → a ∷ rest ≡ b ∷ more → rest ≡ more
+pub tail_is : {X : Type 0} (a b : X) (rest more : List X) → a ∷ rest ≡ b ∷ more → rest ≡ more
 tail_is a b rest more e = cc
 
 -- the operands of an operator of a row

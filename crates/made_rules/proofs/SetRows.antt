@@ -1,6 +1,5 @@
 -- What an instance of a row of sets or arithmetic leaves is typed, where its main formulas are.
-use Rattle.std.proofs.Common.{◌≡◌, ◌∙◌, inl, inr, sym, ap, subst, refl, ℕ, Bool, true, false, List, [], ◌∷◌, Option, Some, None, IfSome, if◌then◌else◌}
-use Rattle.std.specs.Option.{option_map}
+use Rattle.std.proofs.Common.{◌≡◌, ◌∙◌, inl, inr, sym, ap, subst, refl, ℕ, Bool, true, false, List, [], ◌∷◌, Some, None, IfSome, if◌then◌else◌}
 use Rattle.formula_core.specs.declared.Op.{Op}
 use Rattle.formula_core.specs.declared.Op.TheVariants as op
 use Rattle.formula_core.specs.declared.Ty.{Ty}
@@ -28,11 +27,11 @@ use Rattle.rule_table.specs.Rows.{is_function_arrow, arrow_at, function_in, eq_r
 use Rattle.rule_table.specs.Shapes.{two_of, two_operands, equal, applied, cardinality}
 use Rattle.made_rules.proofs.Typed.{Env, Is}
 use Rattle.made_rules.proofs.AllLaws.{keeps_types}
-use Rattle.made_rules.proofs.AtPlaces.{rewritten_is}
+use Rattle.made_rules.proofs.AtPlaces.{rewritten_is, put_in}
 use Rattle.made_rules.proofs.Fitting.{IsLeftIn}
 use Rattle.made_rules.proofs.Instances.{plain_left, goal_is, hyp_is, typed_is, condition_is, after_is, at_some}
 use Rattle.made_rules.proofs.Makers.{finite_is, at_most_is, integer_is, cardinality_is}
-use Rattle.made_rules.proofs.Operands.{then_if, map_if, test_if, of_set_some, of_relation_if, power_exact, two_is, two_found, two_opened}
+use Rattle.made_rules.proofs.Operands.{then_if, map_if, test_if, of_set_some, of_relation_if, power_exact, two_is, two_found, two_opened, head_is}
 use Rattle.made_rules.proofs.Replacing.{replaced_is, replaced_over_is}
 use Rattle.made_rules.proofs.SetMakers.{re, eq, mem, dom, value_at, parts_of, one, two, in_set}
 use Rattle.made_rules.proofs.ValueTypes.{sort_of}
@@ -47,10 +46,6 @@ arrow_row op.PartialSurjections h = refl
 arrow_row op.TotalSurjections h = refl
 arrow_row op.Bijections h = refl
 arrow_row _ h = absurd (cc)
-
-put_in : {X Y : Type 0} (P : X → Type 0) (Q : Y → Type 0) (make : X → Y) → ((x : X) → P x → Q (make x)) → (o : Option X) → IfSome o P → IfSome (option_map make o) Q
-put_in P Q make f None h = tt
-put_in P Q make f (Some x) h = f x h
 
 -- a function between two types, and the set to which it goes
 record OfFunction (env : Env) (f u : Formula) : Type 0 where
@@ -155,9 +150,6 @@ module _ (env : Env) where
   abbrev NeedsFirst : Formula → Body → Type 0
   NeedsFirst h b = (rest : List Formula) → b.hyps ≡ h ∷ rest → Left b
 
-  first_of : (a b : Formula) (xs ys : List Formula) → a ∷ xs ≡ b ∷ ys → a ≡ b
-  first_of a b xs ys e = cc
-
   value_is : (g u p : Formula) (f : OfFunction env g u) → Holds (member p g) → (z : Formula × Formula) → two_operands op.Maplet p ≡ Some z → Holds (equal (applied g z.0 f.to) z.1)
   value_is g u p f m z e =
       let v = two_opened env [] op.Member binary.Membership refl p g ty.Truth ty.Truth m in
@@ -171,4 +163,4 @@ module _ (env : Env) where
       let f = at_some (λ x. OfFunction env x.0 x.1) (function_in k) x (function_is k that) found in
       of_relation_if (NeedsFirst h) x.0 f.from f.to _ f.function.type
       (then_if (NeedsFirst h) (two_operands op.Member h) _ (λ y at. then_if (NeedsFirst h) (two_operands op.Maplet y.0) _ (λ z here rest e.
-      plain_left env _ (hyp_is env ty.Truth _ (value_is x.0 x.1 y.0 f (subst Holds (sym (first_of _ _ _ _ e)) is) z here), tt)))))
+      plain_left env _ (hyp_is env ty.Truth _ (value_is x.0 x.1 y.0 f (subst Holds (sym (head_is _ _ _ _ e)) is) z here), tt)))))
