@@ -1,5 +1,5 @@
 -- What is answered, from what was found.
-use Rattle.std.proofs.Common.{◌≡◌, ◌∙◌, ◌⊎◌, inl, inr, sym, ap, refl, subst, ℕ, ℤ, Bool, true, false, List, [], Option, Some, None, Result, Ok, Err, is_none, IsTrue, if◌then◌else◌}
+use Rattle.std.proofs.Common.{◌≡◌, ◌∙◌, inl, inr, sym, ap, refl, subst, ℕ, ℤ, Bool, true, List, [], Option, Some, None, Result, Ok, Err, is_none, IsTrue, if◌then◌else◌}
 use Rattle.std.specs.Prelude.{IfOk, IsErrAnd, MatchOption}
 use Rattle.std.proofs.lemmas.Result.{err_from_is_err_and}
 use Rattle.std.specs.Option.{option_map, option_and_then, option_or}
@@ -15,7 +15,7 @@ use Rattle.sequent_core.specs.declared.hint.Hint.{Hint}
 use Rattle.sequent_core.specs.declared.sequent.Sequent.{Sequent}
 use Rattle.rule_making.specs.declared.fault.RuleFault.{RuleFault}
 use Rattle.rule_making.specs.declared.fault.RuleFault.TheVariants as fault
-use Rattle.rule_making.specs.Make.{Answers, AreTerms, FitsAt, IsNamed, body_for, first_taken, has_places, instance_for, kind_of, main_for, replaced_types, rule_of, unfit, width_for}
+use Rattle.rule_making.specs.Make.{Answers, AreTerms, FitsAt, IsNamed, first_taken, has_places, instance_for, kind_of, main_for, replaced_types, unfit}
 use Rattle.rule_making.specs.Private.{AnswersOver, FindsRule, GivesBody, TestsBody}
 
 -- the exit of a `?`
@@ -67,7 +67,7 @@ module _ (n : ℕ) (h : Hint) (terms : List Formula) (s : Sequent) where
     refused (fault.NotFresh x) g = absurd g
     refused fault.NoForm g = inl (reason_of None None g.0 g.1)
     refused (fault.TooWide x y) g = reason_of (Some (x, y)) (instance_for k (main_for n h terms s)) g refl
-    refused fault.TooLarge g = absurd g
+    refused fault.TooLarge g = (k, g.1, named g.1 (g.0, g.2), g.3)
     refused fault.OutOfMemory g = tt
 
     made : (b : Body) (r : Result Rule RuleFault) → GivesBody k (main_for n h terms s) (Ok b) → TestsBody s k b r → AnswersOver n h terms s r

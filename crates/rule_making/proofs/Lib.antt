@@ -1,4 +1,5 @@
 pub mod Answered
+pub mod Grown
 pub mod HintNames
 pub mod Hyps
 pub mod KindNumbers

@@ -1,5 +1,5 @@
 //! Rules that are made of a kind and a hint, for a sequent.
-ghost use Rattle.std.specs.Prelude.{◌≡◌, ◌↔◌, ◌&&◌, IsTrue, IfOk, None};
+ghost use Rattle.std.specs.Prelude.{◌≡◌, ◌↔◌, ◌&&◌, if◌then◌else◌, IsTrue, IfOk, None, Err, take};
 ghost use Rattle.std.specs.List.{AllByRecursion};
 ghost use Rattle.formula_core.specs.Env.{type_in};
 ghost use Rattle.formula_core.specs.Same.{same_formula, same_list};
@@ -7,14 +7,16 @@ ghost use Rattle.rule_table.specs.Rows.{IsInstance};
 ghost use Rattle.rule_table.specs.Rules.{body_of, used_of, width};
 ghost use Rattle.sequent_core.specs.Trees.{IsFresh};
 ghost use Rattle.rule_making.specs.Make.{Answers, FitsAt, needing, instance_for, rule_of, same_goal};
-ghost use Rattle.rule_making.specs.Private.{AnswersOver, FindsRule, GivesBody, IsMetBy, KeepsWhere, TestsBody};
+ghost use Rattle.instance_size.specs.Growth.{Outgrows, hyp_count, needs_goal};
+ghost use Rattle.rule_making.specs.Private.{AnswersOver, FindsRule, GivesBody, IsMetBy, KeepsWhere, TestsBody, limits, needs_just};
 
 use crate::fault::RuleFault;
 use crate::hint::{first_taken, has_places, replaced_types};
 use crate::kinds::{kind_of, main_for};
 use crate::limits::is_small;
 use crate::terms::typed_terms;
-use formula_core::{Env, Formula, List, Name, OutOfMemory, Ty};
+use formula_core::{Env, Formula, List, MOST_HEIGHT, MOST_NODES, Name, OutOfMemory, Ty};
+use instance_size::{Extent, needed_hyps, needs_goal, outgrows};
 use rule_kernel::{instance, used_if_sound};
 use rule_table::{Antecedent, Body, Main, Rule, RuleKind};
 use rules_arith::{linear_width, width_at};
@@ -79,10 +81,51 @@ fn body_for(alloc: Global, kind: &RuleKind, main: &Main) -> Result<Body, RuleFau
     if let Some((m, n)) = width(alloc, kind, main)? {
         return Err(RuleFault::TooWide(m, n));
     }
+    let room = Extent {
+        nodes: MOST_NODES,
+        height: MOST_HEIGHT,
+    };
+    let large = outgrows(alloc, kind, main, room)?;
+    if large {
+        return Err(fault_of_large(kind, main));
+    }
     match instance_for(alloc, kind, main)? {
         Some(body) => Ok(body),
         None => Err(RuleFault::NoForm),
     }
+}
+
+/// Why there is no rule where an instance would be too large: it has no form where it would need anything else than the
+/// goal and the hypotheses that were named.
+fn fault_of_large(kind: &RuleKind, main: &Main) -> RuleFault
+    requires width { width kind.now main.now ≡ None }
+    requires large { Outgrows limits kind.now main.now }
+    ensures { GivesBody kind.now main.now (Err result) }
+{
+    if !needs_just(kind, main) {
+        return RuleFault::NoForm;
+    }
+    RuleFault::TooLarge
+}
+
+/// Whether a kind whose instances can grow needs just the goal and the hypotheses that were named.
+fn needs_just(kind: &RuleKind, main: &Main) -> bool
+    ensures { result ≡ needs_just kind.now main.now }
+{
+    needs_just_goal(kind, &main.goal) && needs_just_hyps(kind, main.hyps.items())
+}
+
+#[tactic(auto, using(crate::proofs::Grown::same_goal_refl, crate::proofs::Grown::same_as_none))]
+fn needs_just_goal(kind: &RuleKind, goal: &Option<Formula>) -> bool
+    ensures { result ≡ same_goal (if needs_goal kind.now then goal.now else None) goal.now }
+{
+    needs_goal(kind) || goal.is_none()
+}
+
+fn needs_just_hyps(kind: &RuleKind, hyps: &[Formula]) -> bool
+    ensures { result ≡ same_list same_formula (take (hyp_count kind.now) hyps.now) hyps.now }
+{
+    same_hyps(needed_hyps(kind, hyps), hyps)
 }
 
 /// The operands whose result is too wide, where a kind computes.

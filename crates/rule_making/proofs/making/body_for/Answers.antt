@@ -15,3 +15,12 @@ returns-in-Some-2 c = (sym c.in_ok-m.ensures ∙ c.in_default.is, sym c.in_ok-bo
 
 pub returns-in-None : goal.returns-in-None
 returns-in-None c = (sym c.in_ok-m.ensures ∙ c.in_default.is, sym c.in_ok-body.ensures ∙ c.in-None.is)
+
+pub returns-in_err-large : goal.returns-in_err-large
+returns-in_err-large c = exit_with (GivesBody c.args.kind.now c.args.main.now) c.from_residual-in_err-large.result fault.OutOfMemory c.from_residual-in_err-large.ensures.1 tt
+
+pub fault_of_large-requires-clause-width : goal.fault_of_large-requires-clause-width
+fault_of_large-requires-clause-width c = sym c.in_ok-m.ensures ∙ c.in_default.is
+
+pub fault_of_large-requires-clause-large : goal.fault_of_large-requires-clause-large
+fault_of_large-requires-clause-large c = c.in_ok-large.ensures.large c.if-large.true
