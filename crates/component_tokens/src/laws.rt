@@ -7,5 +7,6 @@ ghost use Rattle.component_tokens.specs.Pieces.{Cut};
 
 /// A text is cut in at most one way: it has one list of tokens, and one first fault or none.
 pub fn pieces_one_way()
-    ensures { (text : List ℕ) (ts us : List Token) (o p : Option CutFault) → Cut text 0 ts o → Cut text 0 us p → (ts ≡ us) × (o ≡ p) }
+    ensures { (text : List ℕ) (ts us : List Token) (o p : Option CutFault)
+        → Cut text 0 ts o → Cut text 0 us p → (ts ≡ us) × (o ≡ p) }
 {}

@@ -10,7 +10,8 @@ use sequent_core::Attempt;
 /// What the event weighs, if it is no more than the room.
 pub fn weight_within(event: &Event, room: u64) -> Option<u64>
     requires { room < 2 ^ 64 - 1 }
-    ensures weight { MatchOption result (room < weight_of event.now) (λ weight. (weight ≡ weight_of event.now) × (weight ≤ room)) }
+    ensures weight { MatchOption result (room < weight_of event.now)
+        (λ weight. (weight ≡ weight_of event.now) × (weight ≤ room)) }
 {
     let weight = weight_of(event);
     if weight <= room { Some(weight) } else { None }

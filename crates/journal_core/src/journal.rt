@@ -82,24 +82,37 @@ impl<D: Disk> Journal<D> {
     /// that isn't a header with a gate of 0 becomes a new side, unless the start is refused; then the disk comes back.
     pub fn start(alloc: Global, disk: D) -> Result<(Journal<D>, Vec<Piece>), (D, JournalFault)>
         // The records are those that stand, each on the current side behind its gate; a fault has its cause in the sides.
-        ensures records { D.told → MatchResult result (λ opened. StandsAt (D.bytes_of disk) opened.0.side opened.0.generation (bodies_of opened.1.items)) (λ refused. IsCause (D.bytes_of disk) refused.1) }
+        ensures records { D.told → MatchResult result
+            (λ opened. StandsAt (D.bytes_of disk) opened.0.side opened.0.generation (bodies_of opened.1.items))
+            (λ refused. IsCause (D.bytes_of disk) refused.1) }
         // Sides stand for one thing at most, so a start answers exactly that, if the disk doesn't fail and memory is there.
-        ensures exactly { D.told → (meaning : Meaning) → StandsFor (D.bytes_of disk) meaning → MatchResult result (λ opened. meaning ≡ meaning_of opened.0.side opened.0.generation (bodies_of opened.1.items)) (λ refused. IsAnswerFor meaning refused.1) }
+        ensures exactly { D.told → (meaning : Meaning) → StandsFor (D.bytes_of disk) meaning → MatchResult result
+            (λ opened. meaning ≡ meaning_of opened.0.side opened.0.generation (bodies_of opened.1.items))
+            (λ refused. IsAnswerFor meaning refused.1) }
         ensures placed { D.told → IfOk result (λ opened. ArePlaced opened.0.side 16 opened.1.items) }
-        ensures gate { D.told → IfOk result (λ opened. opened.0.gate ≡ 16 + length (open_records (bodies_of opened.1.items))) }
-        ensures current { D.told → IfOk result (λ opened. HasRecords (D.bytes_of opened.0.disk opened.0.side) opened.0.generation (bodies_of opened.1.items)) }
-        ensures ready { D.told → IfOk result (λ opened. (side : Side) → IsReady side (D.bytes_of disk side) (D.bytes_of opened.0.disk side)) }
+        ensures gate { D.told → IfOk result (λ opened.
+            opened.0.gate ≡ 16 + length (open_records (bodies_of opened.1.items))) }
+        ensures current { D.told → IfOk result (λ opened.
+            HasRecords (D.bytes_of opened.0.disk opened.0.side) opened.0.generation (bodies_of opened.1.items)) }
+        ensures ready { D.told → IfOk result (λ opened. (side : Side)
+            → IsReady side (D.bytes_of disk side) (D.bytes_of opened.0.disk side)) }
         ensures begun { IfOk result (λ opened. opened.0.failed ≡ false) }
 
         // A stop at any moment leaves what stands for what a stop before would have left; after Ok it leaves these records.
         ensures any_moment { D.told → MatchResult result
             (λ opened. LeavesOnly D.clock D.moments disk opened.0.disk (StandsAsSome (D.images disk)))
             (λ refused. LeavesOnly D.clock D.moments disk refused.0 (StandsAsSome (D.images disk))) }
-        ensures standing { D.told → IfOk result (λ opened. (c : Sides) → D.images opened.0.disk c → StandsAt c opened.0.side opened.0.generation (bodies_of opened.1.items)) }
-        ensures read { D.told → IfOk result (λ opened. StandsAt (D.bytes_of opened.0.disk) opened.0.side opened.0.generation (bodies_of opened.1.items)) }
-        ensures untouched { D.told → MatchResult result (λ _. ⊤) (λ refused. refused.1 ≢ JournalFault.DiskFault → D.bytes_of refused.0 ≡ D.bytes_of disk) }
-        ensures fault { MatchResult result (λ _. ⊤) (λ refused. refused.1 ≡ JournalFault.DiskFault → Rose (D.faults disk) (D.faults refused.0)) }
-        ensures later { MatchResult result (λ opened. D.faults disk ≤ D.faults opened.0.disk) (λ refused. D.faults disk ≤ D.faults refused.0) }
+        ensures standing { D.told → IfOk result (λ opened. (c : Sides) → D.images opened.0.disk c
+            → StandsAt c opened.0.side opened.0.generation (bodies_of opened.1.items)) }
+        ensures read { D.told → IfOk result (λ opened.
+            StandsAt (D.bytes_of opened.0.disk) opened.0.side opened.0.generation (bodies_of opened.1.items)) }
+        ensures untouched { D.told → MatchResult result (λ _. ⊤) (λ refused.
+            refused.1 ≢ JournalFault.DiskFault → D.bytes_of refused.0 ≡ D.bytes_of disk) }
+        ensures fault { MatchResult result (λ _. ⊤) (λ refused.
+            refused.1 ≡ JournalFault.DiskFault → Rose (D.faults disk) (D.faults refused.0)) }
+        ensures later { MatchResult result
+            (λ opened. D.faults disk ≤ D.faults opened.0.disk)
+            (λ refused. D.faults disk ≤ D.faults refused.0) }
     {
         let mut disk = disk;
         let found = match open(alloc, &mut disk) {
@@ -121,21 +134,29 @@ impl<D: Disk> Journal<D> {
     /// Adds a record behind those that stand. After Ok every stop leaves sides that have it. It takes no memory.
     pub fn append(&mut self, bytes: &[u8]) -> Result<(), AppendFault>
         // A stop at any moment leaves the records from before, with the new one or without.
-        ensures any_moment { D.told → self.old.failed ≡ false → (bodies : List (List ℕ)) → StandsAt (D.bytes_of self.old.disk) self.old.side self.old.generation bodies
-            → LeavesOnly D.clock D.moments self.old.disk self.new.disk (IsBeforeOrAfter self.old.side self.old.generation bodies bytes.now) }
-        ensures acknowledged { D.told → OnOk result ((bodies : List (List ℕ)) → StandsAt (D.bytes_of self.old.disk) self.old.side self.old.generation bodies
-            → (c : Sides) → D.images self.new.disk c → StandsAt c self.old.side self.old.generation (bodies ++ bytes.now ∷ [])) }
-        ensures read { D.told → OnOk result ((bodies : List (List ℕ)) → StandsAt (D.bytes_of self.old.disk) self.old.side self.old.generation bodies
+        ensures any_moment { D.told → self.old.failed ≡ false → (bodies : List (List ℕ))
+            → StandsAt (D.bytes_of self.old.disk) self.old.side self.old.generation bodies
+            → LeavesOnly D.clock D.moments self.old.disk self.new.disk
+            (IsBeforeOrAfter self.old.side self.old.generation bodies bytes.now) }
+        ensures acknowledged { D.told → OnOk result ((bodies : List (List ℕ))
+            → StandsAt (D.bytes_of self.old.disk) self.old.side self.old.generation bodies
+            → (c : Sides) → D.images self.new.disk c
+            → StandsAt c self.old.side self.old.generation (bodies ++ bytes.now ∷ [])) }
+        ensures read { D.told → OnOk result ((bodies : List (List ℕ))
+            → StandsAt (D.bytes_of self.old.disk) self.old.side self.old.generation bodies
             → StandsAt (D.bytes_of self.new.disk) self.old.side self.old.generation (bodies ++ bytes.now ∷ [])) }
         ensures length { OnOk result (self.new.gate ≡ self.old.gate + 5 + length bytes.now) }
 
         // Exactly when it is refused, and what stays.
         ensures failed { IsErrOf result AppendFault.Failed ↔ (self.old.failed ≡ true) }
-        ensures full { IsErrOf result AppendFault.JournalFull ↔ ((self.old.failed ≡ false) × (67108864 < self.old.gate + 6 + length bytes.now)) }
+        ensures full { IsErrOf result AppendFault.JournalFull
+            ↔ ((self.old.failed ≡ false) × (67108864 < self.old.gate + 6 + length bytes.now)) }
         ensures fault { IsErrOf result AppendFault.DiskFault → Rose (D.faults self.old.disk) (D.faults self.new.disk) }
         ensures kept { (self.new.failed ≡ true) ↔ ((self.old.failed ≡ true) ⊎ IsErrOf result AppendFault.DiskFault) }
-        ensures untouched { IsErrOf result AppendFault.Failed ⊎ IsErrOf result AppendFault.JournalFull → self.new ≡ self.old }
-        ensures same { (self.new.side ≡ self.old.side) × (self.new.generation ≡ self.old.generation) × (self.new.rest_open ≡ self.old.rest_open) }
+        ensures untouched { IsErrOf result AppendFault.Failed ⊎ IsErrOf result AppendFault.JournalFull
+            → self.new ≡ self.old }
+        ensures same { (self.new.side ≡ self.old.side) × (self.new.generation ≡ self.old.generation)
+            × (self.new.rest_open ≡ self.old.rest_open) }
         ensures later { D.faults self.old.disk ≤ D.faults self.new.disk }
     {
         if self.failed {
@@ -158,10 +179,14 @@ impl<D: Disk> Journal<D> {
     /// sides that have it alone. It takes no memory.
     pub fn checkpoint(&mut self, bytes: &[u8]) -> Result<(), AppendFault>
         // A stop at any moment leaves the records from before, or the new one alone.
-        ensures any_moment { D.told → self.old.failed ≡ false → (bodies : List (List ℕ)) → StandsAt (D.bytes_of self.old.disk) self.old.side self.old.generation bodies
-            → LeavesOnly D.clock D.moments self.old.disk self.new.disk (IsBeforeOrOne self.old.side self.old.generation bodies bytes.now) }
-        ensures acknowledged { D.told → OnOk result ((c : Sides) → D.images self.new.disk c → StandsAt c (other self.old.side) (self.old.generation + 1) (bytes.now ∷ [])) }
-        ensures read { D.told → OnOk result (StandsAt (D.bytes_of self.new.disk) (other self.old.side) (self.old.generation + 1) (bytes.now ∷ [])) }
+        ensures any_moment { D.told → self.old.failed ≡ false → (bodies : List (List ℕ))
+            → StandsAt (D.bytes_of self.old.disk) self.old.side self.old.generation bodies
+            → LeavesOnly D.clock D.moments self.old.disk self.new.disk
+            (IsBeforeOrOne self.old.side self.old.generation bodies bytes.now) }
+        ensures acknowledged { D.told → OnOk result ((c : Sides) → D.images self.new.disk c
+            → StandsAt c (other self.old.side) (self.old.generation + 1) (bytes.now ∷ [])) }
+        ensures read { D.told → OnOk result
+            (StandsAt (D.bytes_of self.new.disk) (other self.old.side) (self.old.generation + 1) (bytes.now ∷ [])) }
         ensures length { OnOk result (self.new.gate ≡ 21 + length bytes.now) }
         ensures turned { OnOk result (self.new.side ≡ other self.old.side) }
         ensures next { OnOk result (self.new.generation ≡ self.old.generation + 1) }
@@ -172,7 +197,8 @@ impl<D: Disk> Journal<D> {
             ↔ ((self.old.failed ≡ false) × ((67108864 < 22 + length bytes.now) ⊎ (self.old.generation ≡ 2 ^ 64 - 1))) }
         ensures fault { IsErrOf result AppendFault.DiskFault → Rose (D.faults self.old.disk) (D.faults self.new.disk) }
         ensures kept { (self.new.failed ≡ true) ↔ ((self.old.failed ≡ true) ⊎ IsErrOf result AppendFault.DiskFault) }
-        ensures untouched { IsErrOf result AppendFault.Failed ⊎ IsErrOf result AppendFault.JournalFull → self.new ≡ self.old }
+        ensures untouched { IsErrOf result AppendFault.Failed ⊎ IsErrOf result AppendFault.JournalFull
+            → self.new ≡ self.old }
         ensures later { D.faults self.old.disk ≤ D.faults self.new.disk }
     {
         if self.failed {

@@ -42,7 +42,8 @@ pub trait Disk {
         ensures bytes { told → bytes_of self.new ≡ bytes_of self.old }
         ensures images { told → SameImages (images self.old) (images self.new) }
         ensures image { told → images self.new (bytes_of self.new) }
-        ensures time { told → Elapses (clock self.old) (clock self.new) (moments self.old) (moments self.new) (images self.new) }
+        ensures time { told
+            → Elapses (clock self.old) (clock self.new) (moments self.old) (moments self.new) (images self.new) }
         ensures cause { HasCause (faults self.old) (faults self.new) result };
 
     /// Reads the bytes that stand in a side from this place on, as many as there are, up to the slice's length, into the
@@ -53,26 +54,32 @@ pub trait Disk {
         ensures bytes { told → bytes_of self.new ≡ bytes_of self.old }
         ensures images { told → SameImages (images self.old) (images self.new) }
         ensures image { told → images self.new (bytes_of self.new) }
-        ensures time { told → Elapses (clock self.old) (clock self.new) (moments self.old) (moments self.new) (images self.new) }
+        ensures time { told
+            → Elapses (clock self.old) (clock self.new) (moments self.old) (moments self.new) (images self.new) }
         ensures cause { HasCause (faults self.old) (faults self.new) result };
 
     /// Writes these bytes into a side from this place on. A side that ends before the last of them grows.
     fn write_at(&mut self, side: Side, at: u64, bytes: &[u8]) -> Result<(), Failed>
         requires within { told → at ≤ length (bytes_of self.old side) }
         requires fits { at + length bytes.now < 2 ^ 64 }
-        ensures bytes { told → Reads side (overwritten at bytes.now (bytes_of self.old side)) result (bytes_of self.old) (bytes_of self.new) }
-        ensures images { told → Leaves (OnSide side (Torn at (length bytes.now))) result (images self.old) (images self.new) }
+        ensures bytes { told → Reads side (overwritten at bytes.now (bytes_of self.old side)) result
+            (bytes_of self.old) (bytes_of self.new) }
+        ensures images { told → Leaves (OnSide side (Torn at (length bytes.now))) result
+            (images self.old) (images self.new) }
         ensures image { told → images self.new (bytes_of self.new) }
-        ensures time { told → Elapses (clock self.old) (clock self.new) (moments self.old) (moments self.new) (images self.new) }
+        ensures time { told
+            → Elapses (clock self.old) (clock self.new) (moments self.old) (moments self.new) (images self.new) }
         ensures cause { HasCause (faults self.old) (faults self.new) result };
 
     /// Cuts a side to this length.
     fn cut(&mut self, side: Side, len: u64) -> Result<(), Failed>
         requires within { told → «len» ≤ length (bytes_of self.old side) }
-        ensures bytes { told → Reads side (take «len» (bytes_of self.old side)) result (bytes_of self.old) (bytes_of self.new) }
+        ensures bytes { told → Reads side (take «len» (bytes_of self.old side)) result
+            (bytes_of self.old) (bytes_of self.new) }
         ensures images { told → Leaves (OnSide side (TornCut «len»)) result (images self.old) (images self.new) }
         ensures image { told → images self.new (bytes_of self.new) }
-        ensures time { told → Elapses (clock self.old) (clock self.new) (moments self.old) (moments self.new) (images self.new) }
+        ensures time { told
+            → Elapses (clock self.old) (clock self.new) (moments self.old) (moments self.new) (images self.new) }
         ensures cause { HasCause (faults self.old) (faults self.new) result };
 
     /// Makes what was written to a side and cut from it outlast a stop of the machine.
@@ -80,7 +87,8 @@ pub trait Disk {
         ensures bytes { told → bytes_of self.new ≡ bytes_of self.old }
         ensures images { told → Syncs side (bytes_of self.old side) result (images self.old) (images self.new) }
         ensures image { told → images self.new (bytes_of self.new) }
-        ensures time { told → Elapses (clock self.old) (clock self.new) (moments self.old) (moments self.new) (images self.new) }
+        ensures time { told
+            → Elapses (clock self.old) (clock self.new) (moments self.old) (moments self.new) (images self.new) }
         ensures cause { HasCause (faults self.old) (faults self.new) result };
 
     // This moment is one of those since an earlier one.

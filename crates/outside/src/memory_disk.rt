@@ -99,17 +99,23 @@ impl MemoryDisk {
         fill: u8,
         long: bool,
     ) -> Result<(Vec<u8>, Vec<u8>), AllocError>
-        ensures left { IfOk result (λ sides. sides.0.items ≡ left_after fill long (first_of self.now) (begun call self.now.kept) Left) }
-        ensures right { IfOk result (λ sides. sides.1.items ≡ left_after fill long (first_of self.now) (begun call self.now.kept) Right) }
+        ensures left { IfOk result (λ sides.
+            sides.0.items ≡ left_after fill long (first_of self.now) (begun call self.now.kept) Left) }
+        ensures right { IfOk result (λ sides.
+            sides.1.items ≡ left_after fill long (first_of self.now) (begun call self.now.kept) Right) }
 
         // It is an image of the disk once that call has begun, the longest or the shortest of them, and each of its bytes is
         // `fill` or what all of them have there.
-        ensures image { IfOk result (λ sides. Images (first_of self.now) (begun call self.now.kept) (by_side sides.0.items sides.1.items)) }
-        ensures extreme { IfOk result (λ sides. IsExtreme long (Images (first_of self.now) (begun call self.now.kept)) (by_side sides.0.items sides.1.items)) }
-        ensures filled { IfOk result (λ sides. IsFilled fill (Images (first_of self.now) (begun call self.now.kept)) (by_side sides.0.items sides.1.items)) }
+        ensures image { IfOk result (λ sides.
+            Images (first_of self.now) (begun call self.now.kept) (by_side sides.0.items sides.1.items)) }
+        ensures extreme { IfOk result (λ sides. IsExtreme long
+            (Images (first_of self.now) (begun call self.now.kept)) (by_side sides.0.items sides.1.items)) }
+        ensures filled { IfOk result (λ sides. IsFilled fill
+            (Images (first_of self.now) (begun call self.now.kept)) (by_side sides.0.items sides.1.items)) }
 
         // So it is one of the images of all moments since any earlier call.
-        ensures moment { (t : ℕ) → t < call → IfOk result (λ sides. Since (first_of self.now) self.now.kept t (by_side sides.0.items sides.1.items)) }
+        ensures moment { (t : ℕ) → t < call
+            → IfOk result (λ sides. Since (first_of self.now) self.now.kept t (by_side sides.0.items sides.1.items)) }
     {
         let count = self.disk.log.begun(call);
         let left = self.disk.left_on(alloc, Side::Left, count, fill, long)?;
@@ -145,9 +151,11 @@ impl Disk for MemoryDisk {
     fn len(&mut self, side: Side) -> Result<u64, Failed>
         ensures len { ⊤ → IfOk result (λ n. n ≡ length (contents (first_of self.old) self.old.kept side)) }
         ensures bytes { ⊤ → contents (first_of self.new) self.new.kept ≡ contents (first_of self.old) self.old.kept }
-        ensures images { ⊤ → SameImages (Images (first_of self.old) self.old.kept) (Images (first_of self.new) self.new.kept) }
+        ensures images { ⊤
+            → SameImages (Images (first_of self.old) self.old.kept) (Images (first_of self.new) self.new.kept) }
         ensures image { ⊤ → Images (first_of self.new) self.new.kept (contents (first_of self.new) self.new.kept) }
-        ensures time { ⊤ → Elapses (length self.old.kept) (length self.new.kept) (Since (first_of self.old) self.old.kept) (Since (first_of self.new) self.new.kept) (Images (first_of self.new) self.new.kept) }
+        ensures time { ⊤ → Elapses (length self.old.kept) (length self.new.kept) (Since (first_of self.old)
+            self.old.kept) (Since (first_of self.new) self.new.kept) (Images (first_of self.new) self.new.kept) }
         ensures cause { HasCause self.old.faults self.new.faults result }
 
         // Exactly which calls fail, and what each leaves.
@@ -167,11 +175,14 @@ impl Disk for MemoryDisk {
 
     fn read_at(&mut self, side: Side, at: u64, into: &mut [u8]) -> Result<usize, Failed>
         ensures bound { ReadsAtMost result into.new }
-        ensures read { ⊤ → IfOk result (λ n. ReadsAt (contents (first_of self.old) self.old.kept side) at n into.old into.new) }
+        ensures read { ⊤
+            → IfOk result (λ n. ReadsAt (contents (first_of self.old) self.old.kept side) at n into.old into.new) }
         ensures bytes { ⊤ → contents (first_of self.new) self.new.kept ≡ contents (first_of self.old) self.old.kept }
-        ensures images { ⊤ → SameImages (Images (first_of self.old) self.old.kept) (Images (first_of self.new) self.new.kept) }
+        ensures images { ⊤
+            → SameImages (Images (first_of self.old) self.old.kept) (Images (first_of self.new) self.new.kept) }
         ensures image { ⊤ → Images (first_of self.new) self.new.kept (contents (first_of self.new) self.new.kept) }
-        ensures time { ⊤ → Elapses (length self.old.kept) (length self.new.kept) (Since (first_of self.old) self.old.kept) (Since (first_of self.new) self.new.kept) (Images (first_of self.new) self.new.kept) }
+        ensures time { ⊤ → Elapses (length self.old.kept) (length self.new.kept) (Since (first_of self.old)
+            self.old.kept) (Since (first_of self.new) self.new.kept) (Images (first_of self.new) self.new.kept) }
         ensures cause { HasCause self.old.faults self.new.faults result }
 
         // Exactly which calls fail, and what each leaves.
@@ -193,10 +204,13 @@ impl Disk for MemoryDisk {
     fn write_at(&mut self, side: Side, at: u64, bytes: &[u8]) -> Result<(), Failed>
         requires within { ⊤ → at ≤ length (contents (first_of self.old) self.old.kept side) }
         requires fits { at + length bytes.now < 2 ^ 64 }
-        ensures bytes { ⊤ → Reads side (overwritten at bytes.now (contents (first_of self.old) self.old.kept side)) result (contents (first_of self.old) self.old.kept) (contents (first_of self.new) self.new.kept) }
-        ensures images { ⊤ → Leaves (OnSide side (Torn at (length bytes.now))) result (Images (first_of self.old) self.old.kept) (Images (first_of self.new) self.new.kept) }
+        ensures bytes { ⊤ → Reads side (overwritten at bytes.now (contents (first_of self.old) self.old.kept side))
+            result (contents (first_of self.old) self.old.kept) (contents (first_of self.new) self.new.kept) }
+        ensures images { ⊤ → Leaves (OnSide side (Torn at (length bytes.now))) result
+            (Images (first_of self.old) self.old.kept) (Images (first_of self.new) self.new.kept) }
         ensures image { ⊤ → Images (first_of self.new) self.new.kept (contents (first_of self.new) self.new.kept) }
-        ensures time { ⊤ → Elapses (length self.old.kept) (length self.new.kept) (Since (first_of self.old) self.old.kept) (Since (first_of self.new) self.new.kept) (Images (first_of self.new) self.new.kept) }
+        ensures time { ⊤ → Elapses (length self.old.kept) (length self.new.kept) (Since (first_of self.old)
+            self.old.kept) (Since (first_of self.new) self.new.kept) (Images (first_of self.new) self.new.kept) }
         ensures cause { HasCause self.old.faults self.new.faults result }
 
         // Exactly which calls fail, and what each leaves.
@@ -220,10 +234,13 @@ impl Disk for MemoryDisk {
 
     fn cut(&mut self, side: Side, len: u64) -> Result<(), Failed>
         requires within { ⊤ → «len» ≤ length (contents (first_of self.old) self.old.kept side) }
-        ensures bytes { ⊤ → Reads side (take «len» (contents (first_of self.old) self.old.kept side)) result (contents (first_of self.old) self.old.kept) (contents (first_of self.new) self.new.kept) }
-        ensures images { ⊤ → Leaves (OnSide side (TornCut «len»)) result (Images (first_of self.old) self.old.kept) (Images (first_of self.new) self.new.kept) }
+        ensures bytes { ⊤ → Reads side (take «len» (contents (first_of self.old) self.old.kept side)) result
+            (contents (first_of self.old) self.old.kept) (contents (first_of self.new) self.new.kept) }
+        ensures images { ⊤ → Leaves (OnSide side (TornCut «len»)) result
+            (Images (first_of self.old) self.old.kept) (Images (first_of self.new) self.new.kept) }
         ensures image { ⊤ → Images (first_of self.new) self.new.kept (contents (first_of self.new) self.new.kept) }
-        ensures time { ⊤ → Elapses (length self.old.kept) (length self.new.kept) (Since (first_of self.old) self.old.kept) (Since (first_of self.new) self.new.kept) (Images (first_of self.new) self.new.kept) }
+        ensures time { ⊤ → Elapses (length self.old.kept) (length self.new.kept) (Since (first_of self.old)
+            self.old.kept) (Since (first_of self.new) self.new.kept) (Images (first_of self.new) self.new.kept) }
         ensures cause { HasCause self.old.faults self.new.faults result }
 
         // Exactly which calls fail, and what each leaves.
@@ -243,9 +260,11 @@ impl Disk for MemoryDisk {
 
     fn sync(&mut self, side: Side) -> Result<(), Failed>
         ensures bytes { ⊤ → contents (first_of self.new) self.new.kept ≡ contents (first_of self.old) self.old.kept }
-        ensures images { ⊤ → Syncs side (contents (first_of self.old) self.old.kept side) result (Images (first_of self.old) self.old.kept) (Images (first_of self.new) self.new.kept) }
+        ensures images { ⊤ → Syncs side (contents (first_of self.old) self.old.kept side) result
+            (Images (first_of self.old) self.old.kept) (Images (first_of self.new) self.new.kept) }
         ensures image { ⊤ → Images (first_of self.new) self.new.kept (contents (first_of self.new) self.new.kept) }
-        ensures time { ⊤ → Elapses (length self.old.kept) (length self.new.kept) (Since (first_of self.old) self.old.kept) (Since (first_of self.new) self.new.kept) (Images (first_of self.new) self.new.kept) }
+        ensures time { ⊤ → Elapses (length self.old.kept) (length self.new.kept) (Since (first_of self.old)
+            self.old.kept) (Since (first_of self.new) self.new.kept) (Images (first_of self.new) self.new.kept) }
         ensures cause { HasCause self.old.faults self.new.faults result }
 
         // Exactly which calls fail, and what each leaves.

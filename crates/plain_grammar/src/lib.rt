@@ -13,8 +13,10 @@ ghost use Rattle.plain_grammar.specs.OpenType.{open_type};
 /// Without the condition, but for a type before ↦ in a pattern of λ, the grammar accepts the same token lists, at any limit
 /// of parts of a partition.
 pub fn same_sentences()
-    ensures spelled { (limit : Option ℕ) (everywhere : Bool) (h : Hole) (s : List Item) (t : Raw) → Spells limit h s t → Accepts limit everywhere h s }
-    ensures accepted { (limit : Option ℕ) (h : Hole) (s : List Item) → Accepts limit false h s → (t : Raw) × Spells limit h s t }
+    ensures spelled { (limit : Option ℕ) (everywhere : Bool) (h : Hole) (s : List Item) (t : Raw)
+        → Spells limit h s t → Accepts limit everywhere h s }
+    ensures accepted { (limit : Option ℕ) (h : Hole) (s : List Item)
+        → Accepts limit false h s → (t : Raw) × Spells limit h s t }
 {}
 
 /// Without it there too the grammar accepts more.

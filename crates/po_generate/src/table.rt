@@ -183,7 +183,8 @@ pub fn add_obligations(
     checked: &Checked,
     abstraction: Option<&CheckedMachine>,
 ) -> Result<(), OutOfMemory>
-    ensures { OnOk result (view out.new ≡ gathered (view out.old) (obligations_of checked.now (option_copied abstraction.entry))) }
+    ensures { OnOk result (view out.new
+        ≡ gathered (view out.old) (obligations_of checked.now (option_copied abstraction.entry))) }
 {
     match checked {
         Checked::Context(context) => add_axiom_rows(alloc, out, context),
@@ -207,7 +208,8 @@ pub fn obligations(
     checked: &Checked,
     abstraction: Option<&CheckedMachine>,
 ) -> Result<Gathered, OutOfMemory>
-    ensures { IfOk result (λ out. view out ≡ gathered (behind 0) (obligations_of checked.now (option_copied abstraction.entry))) }
+    ensures { IfOk result (λ out.
+        view out ≡ gathered (behind 0) (obligations_of checked.now (option_copied abstraction.entry))) }
 {
     let mut out = nothing(alloc);
     add_obligations(alloc, &mut out, checked, abstraction)?;
@@ -249,7 +251,8 @@ pub fn machine_obligations(
     checked: &Checked,
     abstraction: Option<&CheckedMachine>,
 ) -> Result<Gathered, OutOfMemory>
-    ensures { IfOk result (λ out. view out ≡ gathered (behind 0) (machine_obligations_of checked.now (option_copied abstraction.entry))) }
+    ensures { IfOk result (λ out.
+        view out ≡ gathered (behind 0) (machine_obligations_of checked.now (option_copied abstraction.entry))) }
 {
     let mut out = nothing(alloc);
     add_obligations_alone(alloc, &mut out, checked, abstraction)?;
@@ -291,7 +294,8 @@ pub fn refine_obligations(
     checked: &Checked,
     abstraction: Option<&CheckedMachine>,
 ) -> Result<Gathered, OutOfMemory>
-    ensures { IfOk result (λ out. view out ≡ gathered (behind 0) (refine_obligations_of checked.now (option_copied abstraction.entry))) }
+    ensures { IfOk result (λ out.
+        view out ≡ gathered (behind 0) (refine_obligations_of checked.now (option_copied abstraction.entry))) }
 {
     let mut out = nothing(alloc);
     add_obligations_beside(alloc, &mut out, checked, abstraction)?;

@@ -111,7 +111,8 @@ pub fn add_action_rows(
     out: &mut Gathered,
     parts: &SharedParts<'_>,
 ) -> Result<(), OutOfMemory>
-    ensures { OnOk result (view out.new ≡ gathered (view out.old) (action_rows parts.now.event.now (parts_in parts.now))) }
+    ensures { OnOk result (view out.new
+        ≡ gathered (view out.old) (action_rows parts.now.event.now (parts_in parts.now))) }
 {
     for action in items_from(parts.event.actions.items(), parts.event.own_actions_from) {
         add_action_row(alloc, out, parts, action)?;

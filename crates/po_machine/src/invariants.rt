@@ -82,7 +82,8 @@ pub fn add_invariant_rows(
     out: &mut Gathered,
     parts: &SharedParts<'_>,
 ) -> Result<(), OutOfMemory>
-    ensures { OnOk result (view out.new ≡ gathered (view out.old) (invariant_rows parts.now.machine.now parts.now.event.now (parts_in parts.now))) }
+    ensures { OnOk result (view out.new
+        ≡ gathered (view out.old) (invariant_rows parts.now.machine.now parts.now.event.now (parts_in parts.now))) }
 {
     let changed = Names::of_pairs(alloc, &parts.after)?;
     for invariant in items_from(parts.machine.invariants.items(), parts.machine.own_from) {

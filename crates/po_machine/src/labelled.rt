@@ -188,7 +188,8 @@ pub fn add_guard_rows(
     out: &mut Gathered,
     parts: &SharedParts<'_>,
 ) -> Result<(), OutOfMemory>
-    ensures { OnOk result (view out.new ≡ gathered (view out.old) (guard_rows parts.now.machine.now parts.now.event.now (parts_in parts.now))) }
+    ensures { OnOk result (view out.new
+        ≡ gathered (view out.old) (guard_rows parts.now.machine.now parts.now.event.now (parts_in parts.now))) }
 {
     let site = Site {
         component: &parts.machine.name,

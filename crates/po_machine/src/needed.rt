@@ -148,7 +148,8 @@ pub fn add_from_base(
 ) -> Result<(), OutOfMemory>
     requires label { IsTrue (is_part label.now) }
     requires kind { IsTrue (is_kind kind.now) }
-    ensures { OnOk result (view out.new ≡ gathered (view out.old) (from_base (parts_in parts.now) (of_kind label.now kind.now) goal)) }
+    ensures { OnOk result (view out.new
+        ≡ gathered (view out.old) (from_base (parts_in parts.now) (of_kind label.now kind.now) goal)) }
 {
     if is_idle(out, &goal) {
         return instead_of(goal, Ok(()));
@@ -174,7 +175,8 @@ pub fn add_from_choices(
 ) -> Result<(), OutOfMemory>
     requires label { IsTrue (is_part label.now) }
     requires kind { IsTrue (is_kind kind.now) }
-    ensures { OnOk result (view out.new ≡ gathered (view out.old) (from_choices (parts_in parts.now) (of_kind label.now kind.now) goal)) }
+    ensures { OnOk result (view out.new
+        ≡ gathered (view out.old) (from_choices (parts_in parts.now) (of_kind label.now kind.now) goal)) }
 {
     if is_idle(out, &goal) {
         return instead_of(goal, Ok(()));
@@ -200,7 +202,8 @@ pub fn add_from_witnesses(
 ) -> Result<(), OutOfMemory>
     requires label { IsTrue (is_part label.now) }
     requires kind { IsTrue (is_kind kind.now) }
-    ensures { OnOk result (view out.new ≡ gathered (view out.old) (from_witnesses (parts_in parts.now) (of_kind label.now kind.now) goal)) }
+    ensures { OnOk result (view out.new
+        ≡ gathered (view out.old) (from_witnesses (parts_in parts.now) (of_kind label.now kind.now) goal)) }
 {
     if is_idle(out, &goal) {
         return instead_of(goal, Ok(()));

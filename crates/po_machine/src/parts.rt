@@ -72,7 +72,8 @@ pub fn refined_by<'a>(
     abstraction: Option<&'a CheckedMachine>,
     event: &CheckedEvent,
 ) -> Result<Vec<&'a CheckedEvent>, OutOfMemory>
-    ensures { IfOk result (λ found. map (λ x. x.now) found.items ≡ refined_by (option_copied abstraction.entry) event.now) }
+    ensures { IfOk result (λ found.
+        map (λ x. x.now) found.items ≡ refined_by (option_copied abstraction.entry) event.now) }
 {
     let mut found = Vec::new(alloc);
     if let Some(machine) = abstraction {

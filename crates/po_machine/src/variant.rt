@@ -93,7 +93,8 @@ pub fn add_variant_rows(
     out: &mut Gathered,
     machine: &CheckedMachine,
 ) -> Result<(), OutOfMemory>
-    ensures { OnOk result (view out.new ≡ gathered (view out.old) (for_each (variant_rows machine.now) (option_to_list machine.now.variant))) }
+    ensures { OnOk result (view out.new
+        ≡ gathered (view out.old) (for_each (variant_rows machine.now) (option_to_list machine.now.variant))) }
 {
     match &machine.variant {
         Some(variant) => add_variant_row(alloc, out, machine, variant),
@@ -246,7 +247,9 @@ pub fn add_decrease_rows(
     parts: &SharedParts<'_>,
     refined: &[&CheckedEvent],
 ) -> Result<(), OutOfMemory>
-    ensures { OnOk result (view out.new ≡ gathered (view out.old) (for_each (decrease_rows parts.now.event.now (map (λ x. x.now) refined.now) (parts_in parts.now)) (option_to_list parts.now.machine.now.variant))) }
+    ensures { OnOk result (view out.new ≡ gathered (view out.old) (for_each
+        (decrease_rows parts.now.event.now (map (λ x. x.now) refined.now) (parts_in parts.now))
+        (option_to_list parts.now.machine.now.variant))) }
 {
     match &parts.machine.variant {
         Some(variant) => add_decrease_row(alloc, out, parts, refined, variant),

@@ -136,7 +136,9 @@ pub fn add_equality_rows(
     abstraction: Option<&CheckedMachine>,
     refined: &[&CheckedEvent],
 ) -> Result<(), OutOfMemory>
-    ensures { OnOk result (view out.new ≡ gathered (view out.old) (equality_rows parts.now.machine.now (option_copied abstraction.entry) (map (λ x. x.now) refined.now) (parts_in parts.now))) }
+    ensures { OnOk result (view out.new ≡ gathered (view out.old)
+        (equality_rows parts.now.machine.now (option_copied abstraction.entry) (map (λ x. x.now) refined.now)
+        (parts_in parts.now))) }
 {
     let changes = changes_of(alloc, &parts.after, abstraction, refined)?;
     let variables = parts.machine.variables.items();

@@ -51,7 +51,8 @@ pub fn add_merging_rows(
     parts: &SharedParts<'_>,
     refined: &[&CheckedEvent],
 ) -> Result<(), OutOfMemory>
-    ensures { OnOk result (view out.new ≡ gathered (view out.old) (merging_rows (map (λ x. x.now) refined.now) (parts_in parts.now))) }
+    ensures { OnOk result (view out.new
+        ≡ gathered (view out.old) (merging_rows (map (λ x. x.now) refined.now) (parts_in parts.now))) }
 {
     if refined.len() < 2 {
         return Ok(());

@@ -225,7 +225,9 @@ pub fn add_simulation_rows(
     parts: &SharedParts<'_>,
     refined: &[&CheckedEvent],
 ) -> Result<(), OutOfMemory>
-    ensures { OnOk result (view out.new ≡ gathered (view out.old) (simulation_rows parts.now.machine.now parts.now.event.now (map (λ x. x.now) refined.now) (parts_in parts.now))) }
+    ensures { OnOk result (view out.new ≡ gathered (view out.old)
+        (simulation_rows parts.now.machine.now parts.now.event.now (map (λ x. x.now) refined.now)
+        (parts_in parts.now))) }
 {
     if is_extended(parts.event) {
         return Ok(());

@@ -53,7 +53,8 @@ pub fn add_strengthening_rows(
     parts: &SharedParts<'_>,
     refined: &[&CheckedEvent],
 ) -> Result<(), OutOfMemory>
-    ensures { OnOk result (view out.new ≡ gathered (view out.old) (strengthening_rows parts.now.event.now (map (λ x. x.now) refined.now) (parts_in parts.now))) }
+    ensures { OnOk result (view out.new ≡ gathered (view out.old)
+        (strengthening_rows parts.now.event.now (map (λ x. x.now) refined.now) (parts_in parts.now))) }
 {
     if is_extended(parts.event) {
         return Ok(());

@@ -46,8 +46,8 @@ pub fn closed_beside(
     closed: usize,
 ) -> usize
     requires there { IsThere out.now tickets.now }
-    ensures closed { (s : State) → builder.now ≡ map.entries s.durable.built → s.out ≡ out.now → AreClosedBefore s closed →
-        AreClosedBefore (moved tickets.now s) result }
+    ensures closed { (s : State) → builder.now ≡ map.entries s.durable.built → s.out ≡ out.now
+        → AreClosedBefore s closed → AreClosedBefore (moved tickets.now s) result }
 {
     match tickets {
         TicketMove::Stay => closed,

@@ -51,8 +51,9 @@ pub fn build_over(
 )
     requires built { IfSome built (λ b. b.builder ≡ map.entries b.project) }
     requires builder { builder.old ≡ map.entries project.old }
-    ensures project { (texts : ProjectMap) → FitsBuilt texts (option_map (λ b. b.project) built) (option_copied entry.entry) →
-        project.new ≡ built_after texts project.old (option_copied entry.entry) }
+    ensures project { (texts : ProjectMap)
+        → FitsBuilt texts (option_map (λ b. b.project) built) (option_copied entry.entry)
+        → project.new ≡ built_after texts project.old (option_copied entry.entry) }
     ensures builder { builder.new ≡ map.entries project.new }
 {
     if !is_build(entry) {

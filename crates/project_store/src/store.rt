@@ -126,19 +126,26 @@ impl<D: Disk> Store<D> {
         steps: &mut Steps<L>,
     ) -> Result<Store<D>, (D, OpenFault)>
         // The durable is the one that the sides stand for; a fault has its cause in the sides.
-        ensures opened { D.told → MatchResult result (λ store. Recovers (D.bytes_of disk) store.base) (λ refused. IsCause (D.bytes_of disk) refused.1) }
+        ensures opened { D.told → MatchResult result
+            (λ store. Recovers (D.bytes_of disk) store.base)
+            (λ refused. IsCause (D.bytes_of disk) refused.1) }
         // Sides stand for one thing at most, so a start answers exactly that, if the disk doesn't fail and memory is there.
-        ensures exactly { D.told → (meaning : Meaning) → StandsFor (D.bytes_of disk) meaning → MatchResult result (λ store. meaning ≡ durable store.base) (λ refused. IsAnswerFor meaning refused.1) }
+        ensures exactly { D.told → (meaning : Meaning) → StandsFor (D.bytes_of disk) meaning → MatchResult result
+            (λ store. meaning ≡ durable store.base)
+            (λ refused. IsAnswerFor meaning refused.1) }
         ensures fits { IfOk result (λ store. (table : List Obligation) × IsTableWithin store.base.built table) }
-        ensures begun { IfOk result (λ store. (store.core ≡ opened store.base) × (store.history ≡ []) × (store.kept ≡ None)) }
+        ensures begun { IfOk result (λ store.
+            (store.core ≡ opened store.base) × (store.history ≡ []) × (store.kept ≡ None)) }
         ensures count { IfOk result (λ store. store.count ≡ D.faults disk) }
 
         // A stop at any moment leaves what stands for what a stop at entry would have left; after Ok it leaves the durable.
         ensures any_moment { D.told → MatchResult result
             (λ store. LeavesOnly D.clock D.moments disk store.journal.disk (StandsAsSome (D.images disk)))
             (λ refused. LeavesOnly D.clock D.moments disk refused.0 (StandsAsSome (D.images disk))) }
-        ensures standing { D.told → IfOk result (λ store. (c : Sides) → D.images store.journal.disk c → Recovers c store.base) }
-        ensures fault { MatchResult result (λ _. ⊤) (λ refused. refused.1 ≡ OpenFault.DiskFault → Rose (D.faults disk) (D.faults refused.0)) }
+        ensures standing { D.told → IfOk result (λ store. (c : Sides)
+            → D.images store.journal.disk c → Recovers c store.base) }
+        ensures fault { MatchResult result (λ _. ⊤) (λ refused.
+            refused.1 ≡ OpenFault.DiskFault → Rose (D.faults disk) (D.faults refused.0)) }
         ensures steps { IfOk result (λ store. steps.new ≤ steps.old + map.len store.base.built) }
     {
         let count = disk.faults();
@@ -180,22 +187,33 @@ impl<D: Disk> Store<D> {
         ensures base { (self.new.base ≡ self.old.base) × (self.new.count ≡ self.old.count) }
 
         // A stop at any moment leaves the durable, or the one after the event's entry; after Ok it leaves the new one.
-        ensures any_moment { D.told → (IsDiskFault self.old.kept → ⊥) → LeavesOnly D.clock D.moments self.old.journal.disk self.new.journal.disk (IsBeforeOrAfter self.old.core event) }
-        ensures acknowledged { D.told → OnOk result ((c : Sides) → D.images self.new.journal.disk c → Recovers c self.new.core.durable) }
+        ensures any_moment { D.told → (IsDiskFault self.old.kept → ⊥)
+            → LeavesOnly D.clock D.moments self.old.journal.disk self.new.journal.disk
+            (IsBeforeOrAfter self.old.core event) }
+        ensures acknowledged { D.told → OnOk result ((c : Sides)
+            → D.images self.new.journal.disk c → Recovers c self.new.core.durable) }
 
         // Which fault comes, the first of these, and what stays. All memory is taken before the first device call.
-        ensures again { (kept : KeptFault) → self.old.kept ≡ Some kept → (result ≡ Err (again kept.fault)) × (self.new ≡ self.old) }
+        ensures again { (kept : KeptFault) → self.old.kept ≡ Some kept
+            → (result ≡ Err (again kept.fault)) × (self.new ≡ self.old) }
         ensures first { self.old.kept ≡ None → IsErrOf result StoreFault.Failed → ⊥ }
-        ensures heavy { self.old.kept ≡ None → (IsErrOf result StoreFault.SessionFull ↔ IsTooHeavy self.old.history event) }
-        ensures full { self.old.kept ≡ None → IsErrOf result StoreFault.JournalFull → HasNoRoomFor self.old.journal self.old.core event }
-        ensures no_room { HasNoRoomFor self.old.journal self.old.core event → OnOk result ⊥ × (IsErrOf result StoreFault.DiskFault → ⊥) }
-        ensures fault { IsErrOf result StoreFault.DiskFault → Rose (D.faults self.old.journal.disk) (D.faults self.new.journal.disk) }
+        ensures heavy { self.old.kept ≡ None
+            → (IsErrOf result StoreFault.SessionFull ↔ IsTooHeavy self.old.history event) }
+        ensures full { self.old.kept ≡ None → IsErrOf result StoreFault.JournalFull
+            → HasNoRoomFor self.old.journal self.old.core event }
+        ensures no_room { HasNoRoomFor self.old.journal self.old.core event
+            → OnOk result ⊥ × (IsErrOf result StoreFault.DiskFault → ⊥) }
+        ensures fault { IsErrOf result StoreFault.DiskFault
+            → Rose (D.faults self.old.journal.disk) (D.faults self.new.journal.disk) }
         ensures untouched { OnErr result (IsErrOf result StoreFault.DiskFault ⊎ (self.new.journal ≡ self.old.journal)) }
-        ensures kept { self.old.kept ≡ None → MatchResult result (λ _. self.new.kept ≡ None) (λ fault. self.new.kept ≡ Some (met fault chair event)) }
+        ensures kept { self.old.kept ≡ None → MatchResult result
+            (λ _. self.new.kept ≡ None)
+            (λ fault. self.new.kept ≡ Some (met fault chair event)) }
         ensures later { D.faults self.old.journal.disk ≤ D.faults self.new.journal.disk }
 
         // What a build counts.
-        ensures build { event ≡ Event.Build → HasFewSteps (map.entries self.old.core.durable.built) (map.entries self.old.core.durable.texts) steps.old steps.new }
+        ensures build { event ≡ Event.Build → HasFewSteps (map.entries self.old.core.durable.built)
+            (map.entries self.old.core.durable.texts) steps.old steps.new }
         ensures steps { (event ≡ Event.Build → ⊥) → steps.new ≡ steps.old }
     {
         if let Some(kept) = &self.kept {

@@ -214,7 +214,8 @@ fn entries<V: Version>(alloc: Global, bytes: &[u8]) -> Result<Vec<Entry>, CodecF
 pub fn read_entries(alloc: Global, bytes: &[u8]) -> Result<Vec<Entry>, CodecFault>
     ensures read { IfOk result (λ read. AreEntries read.items bytes.now) }
     ensures only { (es : ListOf Entry) → AreEntries es bytes.now → IfOk result (λ read. read.items ≡ es) }
-    ensures good { (es : ListOf Entry) → AreEntries es bytes.now → IfErr result (λ fault. fault ≡ CodecFault.OutOfMemory) }
+    ensures good { (es : ListOf Entry) → AreEntries es bytes.now
+        → IfErr result (λ fault. fault ≡ CodecFault.OutOfMemory) }
     ensures bad { (at : ℕ) → IsErrOf result (CodecFault.BadBytes at) → IsStuck bytes.now at }
 {
     entries::<Second>(alloc, bytes)
@@ -224,7 +225,8 @@ pub fn read_entries(alloc: Global, bytes: &[u8]) -> Result<Vec<Entry>, CodecFaul
 pub fn read_entries_v1(alloc: Global, bytes: &[u8]) -> Result<Vec<Entry>, CodecFault>
     ensures read { IfOk result (λ read. AreOldEntries read.items bytes.now) }
     ensures only { (es : ListOf Entry) → AreOldEntries es bytes.now → IfOk result (λ read. read.items ≡ es) }
-    ensures good { (es : ListOf Entry) → AreOldEntries es bytes.now → IfErr result (λ fault. fault ≡ CodecFault.OutOfMemory) }
+    ensures good { (es : ListOf Entry) → AreOldEntries es bytes.now
+        → IfErr result (λ fault. fault ≡ CodecFault.OutOfMemory) }
     ensures bad { (at : ℕ) → IsErrOf result (CodecFault.BadBytes at) → IsOldStuck bytes.now at }
 {
     entries::<First>(alloc, bytes)

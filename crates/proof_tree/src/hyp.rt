@@ -20,7 +20,8 @@ pub fn hypothesis(alloc: Global, goal: &Formula) -> Result<Rule, OutOfMemory>
     ensures hyps { IfOk result (λ rule. rule.needed_hyps ≡ goal.now ∷ []) }
     ensures antecedents { IfOk result (λ rule. rule.antecedents ≡ []) }
     ensures used { IfOk result (λ rule. rule.used ≡ used_of rule.kind (body_of rule)) }
-    ensures derives { (s : Sequent) → IsSequent s → IsWithinLimits s.goal → s.goal ≡ goal.now → Contains s.hyps s.goal → IfOk result (λ rule. Derives (tree.Node rule []) s) }
+    ensures derives { (s : Sequent) → IsSequent s → IsWithinLimits s.goal → s.goal ≡ goal.now → Contains s.hyps s.goal
+        → IfOk result (λ rule. Derives (tree.Node rule []) s) }
 {
     let used = used_by(alloc, goal)?;
     let mut hyps = Vec::new(alloc);

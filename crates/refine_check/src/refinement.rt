@@ -142,7 +142,8 @@ pub fn check_refinement(
     checked: &CheckedMachine,
     abstraction: Option<&Checked>,
 ) -> Result<Option<Fault>, OutOfMemory>
-    ensures first { IfOk result (λ first. first ≡ first_by_place (refinements_of raw.now checked.now (option_copied abstraction.entry))) }
+    ensures first { IfOk result (λ first.
+        first ≡ first_by_place (refinements_of raw.now checked.now (option_copied abstraction.entry))) }
 {
     match raw {
         RawComponent::Context { .. } => Ok(None),

@@ -272,7 +272,8 @@ pub fn run_check<I: Source, O: Sink, P: Prover>(
     ensures ended { (result.status ≡ 0) ⊎ (result.status ≡ 1) ⊎ (result.status ≡ 4) → IsAtEnd (I.left input.new) }
     ensures read_fault { result.status ≡ 3 → Rose (I.faults input.old) (I.faults input.new) }
     ensures write_fault { result.status ≡ 4 → Rose (O.faults output.old) (O.faults output.new) }
-    ensures without_faults { (Rose (I.faults input.old) (I.faults input.new) → ⊥) → (Rose (O.faults output.old) (O.faults output.new) → ⊥)
+    ensures without_faults { (Rose (I.faults input.old) (I.faults input.new) → ⊥)
+        → (Rose (O.faults output.old) (O.faults output.new) → ⊥)
         → (result.status ≡ 0) ⊎ (result.status ≡ 1) ⊎ (result.status ≡ 7) ⊎ (result.status ≡ 9) }
 {
     check_source(alloc, input, output, prover)

@@ -90,7 +90,8 @@ pub fn end_played<O: Sink, D: Disk, P: Prover>(
     output: &mut O,
     prover: &P,
 ) -> Ended<D>
-    ensures { (workers : ℕ) (first : StoreState D) (source : SourceState) (before : Option (List ℕ)) (lost : ℕ) (old : D) →
+    ensures { (workers : ℕ) (first : StoreState D) (source : SourceState)
+        (before : Option (List ℕ)) (lost : ℕ) (old : D) →
         Opens D.told D.bytes_of D.images D.faults old first → base_in store ≡ base_in first →
         IsPlayed chair_of store_meaning (fair (P.answers prover.now) (P.sure prover.now)) workers
         (base_in first) (log_in store) source

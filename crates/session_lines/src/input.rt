@@ -68,7 +68,9 @@ impl Input {
 
     /// The next command, or none where no command is whole. Where memory runs out, the same command comes next.
     pub fn next(&mut self, alloc: Global) -> Result<Option<Command>, OutOfMemory>
-        ensures given { IfOk result (λ read. MatchOption read (GivesNone self.old self.new) (λ command. GivesCommand self.old command self.new)) }
+        ensures given { IfOk result (λ read. MatchOption read
+            (GivesNone self.old self.new)
+            (λ command. GivesCommand self.old command self.new)) }
         ensures left { OnErr result (IsSameReading self.old self.new) }
     {
         while let Some(found) = self.lines.find() {

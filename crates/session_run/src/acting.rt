@@ -68,9 +68,11 @@ pub fn take_next<R: Wait, V: EventStore>(
 ) -> Result<Option<Ticket>, StoreFault>
     requires { IsOf desk.now chair.old × (chair.old.number ≡ 0) }
     ensures chair { IsSameChair chair.old chair.new }
-    ensures took { IfOk result (λ ticket. ActsOn desk.now.base (Event.Take None) chair.old.seen (Ok (take_reply ticket)) chair.new.seen) }
+    ensures took { IfOk result (λ ticket.
+        ActsOn desk.now.base (Event.Take None) chair.old.seen (Ok (take_reply ticket)) chair.new.seen) }
     ensures typed { IfOk result (λ ticket. MatchOption ticket ⊤ (λ k. IsSequent k.sequent)) }
-    ensures stopped { OnErr result ((fault : Fault) × ActsOn desk.now.base (Event.Take None) chair.old.seen (Err fault) chair.new.seen) }
+    ensures stopped { OnErr result ((fault : Fault)
+        × ActsOn desk.now.base (Event.Take None) chair.old.seen (Err fault) chair.new.seen) }
 {
     typed_tables();
     match act_on(rt, desk, chair, Event::Take(None)) {
@@ -101,7 +103,8 @@ pub fn take_named<R: Wait, V: EventStore>(
     requires { IsOf desk.now chair.old × (chair.old.number ≡ 0) }
     ensures chair { IsSameChair chair.old chair.new }
     ensures took { IfOk result (λ taken. TookNamed desk.now.base name chair.old.seen taken chair.new.seen) }
-    ensures stopped { OnErr result ((fault : Fault) × ActsOn desk.now.base (Event.Take (Some name)) chair.old.seen (Err fault) chair.new.seen) }
+    ensures stopped { OnErr result ((fault : Fault)
+        × ActsOn desk.now.base (Event.Take (Some name)) chair.old.seen (Err fault) chair.new.seen) }
 {
     typed_tables();
     match act_on(rt, desk, chair, Event::Take(Some(name))) {
@@ -118,8 +121,10 @@ pub fn ask_idle<R: Wait, V: EventStore>(
 ) -> Result<bool, StoreFault>
     requires { IsOf desk.now chair.old × (chair.old.number ≡ 0) }
     ensures chair { IsSameChair chair.old chair.new }
-    ensures asked { IfOk result (λ idle. ActsOn desk.now.base (Event.Ask Question.Idle) chair.old.seen (Ok (Reply.Idle idle)) chair.new.seen) }
-    ensures stopped { OnErr result ((fault : Fault) × ActsOn desk.now.base (Event.Ask Question.Idle) chair.old.seen (Err fault) chair.new.seen) }
+    ensures asked { IfOk result (λ idle.
+        ActsOn desk.now.base (Event.Ask Question.Idle) chair.old.seen (Ok (Reply.Idle idle)) chair.new.seen) }
+    ensures stopped { OnErr result ((fault : Fault)
+        × ActsOn desk.now.base (Event.Ask Question.Idle) chair.old.seen (Err fault) chair.new.seen) }
 {
     match act_on(rt, desk, chair, Event::Ask(Question::Idle)) {
         Ok(Reply::Idle(idle)) => Ok(idle),

@@ -288,7 +288,8 @@ pub fn answer<R: Wait, V: EventStore, P: Prover, G: Gate>(
     requires chair { IsOf desk.now chair.old × (chair.old.number ≡ 0) }
     requires line { (line ≢ Line.Quit) × (line ≢ Line.CutEdit) }
     ensures chair { IsSameChair chair.old chair.new }
-    ensures answered { ComesOfLine (fair (P.answers prover.now) (P.sure prover.now)) desk.now.base line chair.old.seen result chair.new.seen }
+    ensures answered { ComesOfLine (fair (P.answers prover.now) (P.sure prover.now))
+        desk.now.base line chair.old.seen result chair.new.seen }
 {
     match line {
         Line::One(event) => answer_one(rt, alloc, desk, chair, notices, prover, event),

@@ -41,7 +41,8 @@ impl Commands {
 
     /// Adds a piece of the input.
     pub fn feed(&mut self, piece: &[u8]) -> Result<(), OutOfMemory>
-        ensures fed { OnOk result (self.new ≡ record self.old { fed = record self.old.fed { left = self.old.fed.left ++ piece.now } }) }
+        ensures fed { OnOk result (self.new
+            ≡ record self.old { fed = record self.old.fed { left = self.old.fed.left ++ piece.now } }) }
         ensures unchanged { OnErr result (self.new ≡ self.old) }
     {
         self.input.feed(piece)
@@ -85,7 +86,9 @@ impl Commands {
 
     /// The next line, or none where no line is whole. Where memory runs out, the same line comes next.
     pub fn next(&mut self) -> Result<Option<Line>, OutOfMemory>
-        ensures given { IfOk result (λ read. MatchOption read (GivesNoLine self.old self.new) (λ line. GivesLine self.old line self.new)) }
+        ensures given { IfOk result (λ read. MatchOption read
+            (GivesNoLine self.old self.new)
+            (λ line. GivesLine self.old line self.new)) }
         ensures kept { OnErr result (KeepsLines self.old self.new) }
     {
         self.hold()?;

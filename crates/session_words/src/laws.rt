@@ -16,12 +16,14 @@ pub fn one_line()
 
 /// Bytes have one list of lines.
 pub fn one_list()
-    ensures { (bytes : List ℕ) (ended : Bool) (a b : List Line) → AreLines bytes ended a → AreLines bytes ended b → a ≡ b }
+    ensures { (bytes : List ℕ) (ended : Bool) (a b : List Line)
+        → AreLines bytes ended a → AreLines bytes ended b → a ≡ b }
 {
     one_hint();
 }
 
 /// The lines that a reader gave until it gave none are those of the bytes that it was fed, however these were cut into pieces.
 pub fn gives_all_lines()
-    ensures { (bytes : List ℕ) (lines : List Line) (left new : Left) → Reads bytes lines left → GivesNoLine left new → AreLines bytes left.fed.ended lines }
+    ensures { (bytes : List ℕ) (lines : List Line) (left new : Left)
+        → Reads bytes lines left → GivesNoLine left new → AreLines bytes left.fed.ended lines }
 {}

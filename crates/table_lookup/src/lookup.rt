@@ -106,7 +106,8 @@ fn is_unsettled_with(proofs: &PoMap<StoredProof>, numbered: &Numbered) -> bool
 /// Whether the obligation is unattempted or broken, and no ticket for it is out.
 pub fn is_free(proofs: &PoMap<StoredProof>, out: &[Ticket], obligation: &Obligation) -> bool
     requires sequent { IsSequent obligation.now.sequent }
-    ensures free { IsTrue result ↔ (IsUnsettledBy proofs.now obligation.now × AllByRecursion (λ ticket. IsFor obligation.now ticket → ⊥) out.now) }
+    ensures free { IsTrue result ↔ (IsUnsettledBy proofs.now obligation.now
+        × AllByRecursion (λ ticket. IsFor obligation.now ticket → ⊥) out.now) }
 {
     is_unsettled_by(proofs, obligation) && is_not_out(out, obligation)
 }
@@ -136,10 +137,12 @@ pub fn first_open(
     from: usize,
 ) -> Option<usize>
     requires sequents { AreSequents (map arc_value table.now) }
-    requires closed { AllByRecursion (λ o. CanTake proofs.now out.now tried.now o → ⊥) (take from (map arc_value table.now)) }
+    requires closed { AllByRecursion (λ o. CanTake proofs.now out.now tried.now o
+        → ⊥) (take from (map arc_value table.now)) }
     ensures first { MatchOption result
         (AllByRecursion (λ o. CanTake proofs.now out.now tried.now o → ⊥) (map arc_value table.now))
-        (λ at. (at < length (map arc_value table.now)) × AllByRecursion (λ o. CanTake proofs.now out.now tried.now o → ⊥) (take at (map arc_value table.now))
+        (λ at. (at < length (map arc_value table.now))
+        × AllByRecursion (λ o. CanTake proofs.now out.now tried.now o → ⊥) (take at (map arc_value table.now))
         × HoldsAt (λ o. CanTake proofs.now out.now tried.now o) (map arc_value table.now) at) }
 {
     for at in from..table.len() {
@@ -169,7 +172,8 @@ pub fn present_status(
     obligation: Option<&Obligation>,
 ) -> Option<Status>
     requires sequent { IfSome (option_copied obligation) (λ o. IsSequent o.sequent) }
-    ensures status { IsPresentStatus proofs.now name.now (option_map (λ o. o.sequent) (option_copied obligation.entry)) result }
+    ensures status { IsPresentStatus proofs.now name.now
+        (option_map (λ o. o.sequent) (option_copied obligation.entry)) result }
 {
     match obligation {
         None => None,
@@ -215,7 +219,8 @@ pub fn facts_to_store(
     ensures facts { IfOk result (λ found. IfSome found (AreFactsOf tree.now)) }
     ensures can { (proofs : FinMap text_cmp Proof) (name : List ℕ) →
         IsPresentStatus proofs name (option_map (λ o. o.sequent) (option_copied obligation.entry)) status →
-        IfOk result (λ found. IsSome found ↔ CanStore proofs name (option_map (λ o. o.sequent) (option_copied obligation.entry)) tree.now) }
+        IfOk result (λ found.
+        IsSome found ↔ CanStore proofs name (option_map (λ o. o.sequent) (option_copied obligation.entry)) tree.now) }
 {
     let Some(obligation) = obligation else {
         return Ok(None);

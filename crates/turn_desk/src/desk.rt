@@ -179,7 +179,8 @@ impl<V: Kept> Desk<V> {
     pub fn act<R: Wait, A: Act<V>>(&self, rt: &R, chair: &mut Chair<V>, action: A) -> A::Answer
         requires { IsOf self.now chair.old }
         ensures chair { chair.new ≡ record chair.old { acts = chair.old.acts + 1; seen = chair.new.seen } }
-        ensures act { IsAct V.log V.chair_of V.base (A.does action chair.old.number) self.now.base chair.old.number chair.old.seen result chair.new.seen }
+        ensures act { IsAct V.log V.chair_of V.base (A.does action chair.old.number)
+            self.now.base chair.old.number chair.old.seen result chair.new.seen }
         ensures joined { JoinedStay V.chair_of chair.old.joined chair.new.seen }
     {
         let number = chair.number;
@@ -242,7 +243,8 @@ impl<V: Kept> Chair<V> {
         requires of { IsOf desk.now self.old × IsOf desk.now other }
         requires first { self.old.number ≡ 0 }
         ensures joined { self.new ≡ with_chair V.chair_of self.old other }
-        ensures seen { HasSeen V.chair_of 0 self.old.seen self.new.seen × HasSeen V.chair_of other.number other.seen self.new.seen }
+        ensures seen { HasSeen V.chair_of 0 self.old.seen self.new.seen
+            × HasSeen V.chair_of other.number other.seen self.new.seen }
         ensures own { JoinedStay V.chair_of self.new.joined self.new.seen }
     {
         let Chair {

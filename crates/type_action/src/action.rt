@@ -30,7 +30,8 @@ pub fn type_action(alloc: Global, env: &Env, raw: &RawAction) -> Result<Action, 
     ensures untyped { IsErrOf result TypeFault.Untyped → HasTwo (IsActionTyping env.now raw.now) }
 
     // An unknown name goes first.
-    ensures unknown { (name : List ℕ) (place : ℕ) → IsErrOf result (TypeFault.Unknown name place) → unknown_in_action env.now raw.now ≡ Some (name, place) }
+    ensures unknown { (name : List ℕ) (place : ℕ) → IsErrOf result (TypeFault.Unknown name place)
+        → unknown_in_action env.now raw.now ≡ Some (name, place) }
     ensures known { IsOk result → unknown_in_action env.now raw.now ≡ None }
     ensures known_clash { IsErrOf result TypeFault.Clash → unknown_in_action env.now raw.now ≡ None }
     ensures known_untyped { IsErrOf result TypeFault.Untyped → unknown_in_action env.now raw.now ≡ None }
