@@ -33,7 +33,8 @@ pub fn free_after_substitution(f: &Formula, pairs: &[(Name, Formula)])
 
 /// Two substitutions one after the other are one.
 pub fn substituting_twice(f: &Formula, first: &[(Name, Formula)], second: &[(Name, Formula)])
-    ensures { substituted second.now (substituted first.now f.now) ≡ substituted (first_then first.now second.now) f.now }
+    ensures { substituted second.now (substituted first.now f.now)
+        ≡ substituted (first_then first.now second.now) f.now }
 {
     let _ = f;
     let _ = first;
@@ -42,7 +43,8 @@ pub fn substituting_twice(f: &Formula, first: &[(Name, Formula)], second: &[(Nam
 
 /// A formula whose free identifiers were bound is given back by these identifiers as terms.
 pub fn binding_is_undone(f: &Formula, identifiers: &[(Name, Ty)])
-    ensures { (depth : ℕ) → instantiated (as_terms identifiers.now) depth (abstracted identifiers.now depth f.now) ≡ f.now }
+    ensures { (depth : ℕ)
+        → instantiated (as_terms identifiers.now) depth (abstracted identifiers.now depth f.now) ≡ f.now }
 {
     let _ = f;
     let _ = identifiers;
@@ -50,14 +52,16 @@ pub fn binding_is_undone(f: &Formula, identifiers: &[(Name, Ty)])
 
 /// A formula that is well stays so below further bound identifiers, wherever they stand: shifting captures no index.
 pub fn shifting_keeps_well(f: &Formula)
-    ensures { (inner new bound : List Ty) → IsTrue (is_well_in f.now (inner ++ bound)) → IsTrue (is_well_in (shifted (length new) (length inner) f.now) (inner ++ (new ++ bound))) }
+    ensures { (inner new bound : List Ty) → IsTrue (is_well_in f.now (inner ++ bound))
+        → IsTrue (is_well_in (shifted (length new) (length inner) f.now) (inner ++ (new ++ bound))) }
 {
     let _ = f;
 }
 
 /// Operands of these types fit an operator, which then has the type `whole`, exactly where this is an instance of its line in the table of types.
 pub fn fits_by_schemes(op: Op, types: &[Ty], whole: &Ty)
-    ensures { IsTrue (fits (row_of op) types.now whole.now) ↔ IsInstance (operand_schemes (row_of op) (length types.now)) (result_scheme (row_of op)) types.now whole.now }
+    ensures { IsTrue (fits (row_of op) types.now whole.now)
+        ↔ IsInstance (operand_schemes (row_of op) (length types.now)) (result_scheme (row_of op)) types.now whole.now }
 {
     let _ = op;
     let _ = types;
@@ -66,7 +70,8 @@ pub fn fits_by_schemes(op: Op, types: &[Ty], whole: &Ty)
 
 /// Parts of these types fit a binder, which then has the type `whole`, exactly where this is an instance of its line in the table of types.
 pub fn binder_fits_by_schemes(binder: Binder, types: &[Ty], whole: &Ty)
-    ensures { IsTrue (binder_fits binder types.now whole.now) ↔ IsInstance (part_schemes binder) (binder_scheme binder) types.now whole.now }
+    ensures { IsTrue (binder_fits binder types.now whole.now)
+        ↔ IsInstance (part_schemes binder) (binder_scheme binder) types.now whole.now }
 {
     let _ = binder;
     let _ = types;
@@ -103,7 +108,8 @@ pub fn typed_in_larger(f: &Formula, env: &[(Name, Ty)], more: &[(Name, Ty)])
 
 /// A substitution by which each name that has no place in another environment is replaced makes a formula that is typed there, of the same type.
 pub fn substituting_keeps_typed(f: &Formula, pairs: &[(Name, Formula)])
-    ensures { (old new : List (List ℕ × Ty)) → Replaces old new pairs.now → StaysTyped old new f.now (substituted pairs.now f.now) }
+    ensures { (old new : List (List ℕ × Ty)) → Replaces old new pairs.now
+        → StaysTyped old new f.now (substituted pairs.now f.now) }
 {
     let _ = f;
     let _ = pairs;

@@ -166,7 +166,8 @@ impl Scheme {
     /// The type of each member of a set extension, and of the set extension.
     #[tactic(auto, using(crate::proofs::SchemeView::scheme_equations))]
     pub fn of_set_extension() -> (Scheme, Scheme)
-        ensures member { (k : ℕ) → operand_schemes SetExtension k ≡ scheme_of result.0 ∷ replicate (k - 1) (scheme_of result.0) }
+        ensures member { (k : ℕ)
+            → operand_schemes SetExtension k ≡ scheme_of result.0 ∷ replicate (k - 1) (scheme_of result.0) }
         ensures whole { scheme_of result.1 ≡ result_scheme SetExtension }
     {
         (ALPHA, SET_OF_ALPHA)

@@ -20,16 +20,19 @@ pub fn written_is_spelled()
 
 /// They are no other sentence.
 pub fn spelled_one_way()
-    ensures { (f : Formula) (t : Raw) → IsTrue (is_well f) → HasNames f → IsCounted f → Spells None (place_for f) (items_of_formula f) t → t ≡ raw_of f }
+    ensures { (f : Formula) (t : Raw) → IsTrue (is_well f) → HasNames f → IsCounted f
+        → Spells None (place_for f) (items_of_formula f) t → t ≡ raw_of f }
 {}
 
 /// The printed text is cut into these tokens, but for their places.
 pub fn text_is_cut()
-    ensures { (f : Formula) → IsTrue (is_well f) → HasNames f → IsCounted f → HasNarrowNumbers f → IsCutInto (text_of f) (items_of_formula f) }
+    ensures { (f : Formula) → IsTrue (is_well f) → HasNames f → IsCounted f
+        → HasNarrowNumbers f → IsCutInto (text_of f) (items_of_formula f) }
 {}
 
 /// The printed text reads back: its tokens spell one tree, which is typed as the formula again, and the parser finds it, unless
 /// they pass a limit.
 pub fn read_back()
-    ensures { (f : Formula) → IsTrue (is_well f) → HasNames f → IsCounted f → HasNarrowNumbers f → ReadsBack f (text_of f) }
+    ensures { (f : Formula) → IsTrue (is_well f) → HasNames f → IsCounted f
+        → HasNarrowNumbers f → ReadsBack f (text_of f) }
 {}

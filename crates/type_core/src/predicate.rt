@@ -70,7 +70,8 @@ pub fn type_predicate(
     ensures standing { HasCarriers env.old → IfOk result (λ f. IsStanding env.old env.new f) }
 
     // An unknown name goes first.
-    ensures unknown { (name : List ℕ) (place : ℕ) → IsErrOf result (TypeFault.Unknown name place) → unknown_in env.old wanted.now raw.now ≡ Some (name, place) }
+    ensures unknown { (name : List ℕ) (place : ℕ) → IsErrOf result (TypeFault.Unknown name place)
+        → unknown_in env.old wanted.now raw.now ≡ Some (name, place) }
     ensures known { IsOk result → unknown_in env.old wanted.now raw.now ≡ None }
     ensures known_clash { IsErrOf result TypeFault.Clash → unknown_in env.old wanted.now raw.now ≡ None }
     ensures known_untyped { IsErrOf result TypeFault.Untyped → unknown_in env.old wanted.now raw.now ≡ None }
@@ -91,12 +92,16 @@ pub fn type_expression(
     ensures typed { IfOk result (λ f. IsTheFormula env.now [] (core_form raw.now) (option_copied expected.entry) f) }
     ensures well { IfOk result (λ f. IsTrue (is_well f)) }
     ensures is_of_type { IfOk result (λ f. IsExpected (option_copied expected.entry) (type_of f)) }
-    ensures clash { IsErrOf result TypeFault.Clash → HasNoFormula env.now [] (core_form raw.now) (option_copied expected.entry) }
-    ensures untyped { IsErrOf result TypeFault.Untyped → HasTwoFormulas env.now [] (core_form raw.now) (option_copied expected.entry) }
-    ensures standing { HasCarriers env.now → IsExpectedOver env.now (option_copied expected.entry) → IfOk result (λ f. IsTypedIn env.now f) }
+    ensures clash { IsErrOf result TypeFault.Clash
+        → HasNoFormula env.now [] (core_form raw.now) (option_copied expected.entry) }
+    ensures untyped { IsErrOf result TypeFault.Untyped
+        → HasTwoFormulas env.now [] (core_form raw.now) (option_copied expected.entry) }
+    ensures standing { HasCarriers env.now → IsExpectedOver env.now (option_copied expected.entry)
+        → IfOk result (λ f. IsTypedIn env.now f) }
 
     // An unknown name goes first.
-    ensures unknown { (name : List ℕ) (place : ℕ) → IsErrOf result (TypeFault.Unknown name place) → unknown_in env.now [] raw.now ≡ Some (name, place) }
+    ensures unknown { (name : List ℕ) (place : ℕ) → IsErrOf result (TypeFault.Unknown name place)
+        → unknown_in env.now [] raw.now ≡ Some (name, place) }
     ensures known { IsOk result → unknown_in env.now [] raw.now ≡ None }
     ensures known_clash { IsErrOf result TypeFault.Clash → unknown_in env.now [] raw.now ≡ None }
     ensures known_untyped { IsErrOf result TypeFault.Untyped → unknown_in env.now [] raw.now ≡ None }
@@ -152,12 +157,16 @@ pub fn type_tree(
     tree: &Tree,
     expected: Option<&Ty>,
 ) -> Result<Formula, TypeFault>
-    ensures typed { IfOk result (λ f. IsTheFormula env.now wanted.now (bare_of tree.now) (option_copied expected.entry) f) }
+    ensures typed { IfOk result (λ f.
+        IsTheFormula env.now wanted.now (bare_of tree.now) (option_copied expected.entry) f) }
     ensures well { IfOk result (λ f. IsTrue (is_well f)) }
     ensures is_of_type { IfOk result (λ f. IsExpected (option_copied expected.entry) (type_of f)) }
-    ensures clash { IsErrOf result TypeFault.Clash → HasNoFormula env.now wanted.now (bare_of tree.now) (option_copied expected.entry) }
-    ensures untyped { IsErrOf result TypeFault.Untyped → HasTwoFormulas env.now wanted.now (bare_of tree.now) (option_copied expected.entry) }
-    ensures standing { HasCarriers env.now → IsExpectedOver env.now (option_copied expected.entry) → IfOk result (λ f. StandsAfter env.now wanted.now f) }
+    ensures clash { IsErrOf result TypeFault.Clash
+        → HasNoFormula env.now wanted.now (bare_of tree.now) (option_copied expected.entry) }
+    ensures untyped { IsErrOf result TypeFault.Untyped
+        → HasTwoFormulas env.now wanted.now (bare_of tree.now) (option_copied expected.entry) }
+    ensures standing { HasCarriers env.now → IsExpectedOver env.now (option_copied expected.entry)
+        → IfOk result (λ f. StandsAfter env.now wanted.now f) }
     ensures unknown { (name : List ℕ) (place : ℕ) → IsErrOf result (TypeFault.Unknown name place) → ⊥ }
 {
     if wanted.len() >= u32::MAX as usize {
