@@ -75,7 +75,8 @@ fn add<'a>(
     ensures seen { OnOk result (AreNames names.new parts.new.items) }
     ensures added { OnOk result (parts.new.items ≡ parts.old.items ++ component_of piece.entry ∷ []) }
     ensures right { OnOk result (fault_behind parts.old.items piece.entry ≡ None) }
-    ensures fault { (f : InputFault) → IsErrOf result (InputError.Fault f) → fault_behind parts.old.items piece.entry ≡ Some f }
+    ensures fault { (f : InputFault) → IsErrOf result (InputError.Fault f)
+        → fault_behind parts.old.items piece.entry ≡ Some f }
 {
     if let Some(fault) = fault_of(alloc, names, parts.len(), piece)? {
         return Err(InputError::Fault(fault));

@@ -80,7 +80,8 @@ fn add_named<'a>(
     references: &[Ref],
     found: &mut Vec<&'a CheckedEvent>,
 ) -> Result<(), OutOfMemory>
-    ensures { OnOk result (map (λ x. x.now) found.new.items ≡ map (λ x. x.now) found.old.items ++ map (λ x. x.1) (filter_map (with_event events.now) references.now)) }
+    ensures { OnOk result (map (λ x. x.now) found.new.items
+        ≡ map (λ x. x.now) found.old.items ++ map (λ x. x.1) (filter_map (with_event events.now) references.now)) }
 {
     for reference in references {
         if let Some(event) = events.event_named(reference.name.as_text()) {
@@ -96,7 +97,8 @@ fn add_implied<'a>(
     event: &RawEvent,
     found: &mut Vec<&'a CheckedEvent>,
 ) -> Result<(), OutOfMemory>
-    ensures { OnOk result (map (λ x. x.now) found.new.items ≡ map (λ x. x.now) found.old.items ++ implied events.now event.now) }
+    ensures { OnOk result (map (λ x. x.now) found.new.items
+        ≡ map (λ x. x.now) found.old.items ++ implied events.now event.now) }
 {
     if !is_initialisation(event) || !event.refines.items().is_empty() {
         return Ok(());

@@ -20,7 +20,8 @@ fn print_context_sections(
     axioms: &[RawLabelled],
     out: &mut String,
 ) -> Result<(), OutOfMemory>
-    ensures { OnOk result (string_bytes out.new ≡ string_bytes out.old ++ context_sections extends.now sets.now constants.now axioms.now) }
+    ensures { OnOk result (string_bytes out.new
+        ≡ string_bytes out.old ++ context_sections extends.now sets.now constants.now axioms.now) }
 {
     print_names("extends", extends, out)?;
     print_names("sets", sets, out)?;
@@ -37,7 +38,8 @@ fn print_machine_sections(
     events: &[RawEvent],
     out: &mut String,
 ) -> Result<(), OutOfMemory>
-    ensures { OnOk result (string_bytes out.new ≡ string_bytes out.old ++ machine_sections refines.now sees.now variables.now invariants.now variant.now events.now) }
+    ensures { OnOk result (string_bytes out.new ≡ string_bytes out.old
+        ++ machine_sections refines.now sees.now variables.now invariants.now variant.now events.now) }
 {
     print_names("refines", refines.as_slice(), out)?;
     print_names("sees", sees, out)?;

@@ -97,7 +97,8 @@ fn sizes(formula: &Formula) -> Both
 fn sizes_of_parts(op: Op, parts: &[Formula]) -> Parts
     ensures nodes { result.nodes ≡ counted (sum (map formula_nodes parts.now)) }
     ensures height { result.height ≡ counted (greatest (map formula_height parts.now)) }
-    ensures condition { result.condition ≡ size_of (conjoined (operands_condition op parts.now (map wd_of parts.now)) (own_condition op parts.now)) }
+    ensures condition { result.condition
+        ≡ size_of (conjoined (operands_condition op parts.now (map wd_of parts.now)) (own_condition op parts.now)) }
 {
     match parts {
         [s] => {
@@ -157,7 +158,8 @@ fn sizes_of_all(parts: &[Formula]) -> Parts
 fn sizes_below(binder: Binder, parts: &[Formula]) -> Parts
     ensures nodes { result.nodes ≡ counted (sum (map formula_nodes parts.now)) }
     ensures height { result.height ≡ counted (greatest (map formula_height parts.now)) }
-    ensures condition { (types : List Ty) → result.condition ≡ size_of (binder_condition binder types parts.now (map wd_of parts.now)) }
+    ensures condition { (types : List Ty)
+        → result.condition ≡ size_of (binder_condition binder types parts.now (map wd_of parts.now)) }
 {
     match parts {
         [p] => {

@@ -20,8 +20,10 @@ pub struct Place {
 pub fn place_of<K: Ord, V>(entries: &[(K, V)], key: &K) -> Place
     requires { T (is_sorted K.cmp entries.now) }
     ensures before { AllByRecursion (λ e. K.cmp key.now e.0 ≡ Ordering.Greater) (take result.at entries.now) }
-    ensures there { IsTrue result.is_there → (result.at < length entries.now) × HoldsAt (λ e. K.cmp key.now e.0 ≡ Ordering.Equal) entries.now result.at }
-    ensures behind { result.is_there ≡ false → (result.at ≤ length entries.now) × AllByRecursion (λ e. K.cmp key.now e.0 ≡ Ordering.Less) (drop result.at entries.now) }
+    ensures there { IsTrue result.is_there
+        → (result.at < length entries.now) × HoldsAt (λ e. K.cmp key.now e.0 ≡ Ordering.Equal) entries.now result.at }
+    ensures behind { result.is_there ≡ false → (result.at ≤ length entries.now)
+        × AllByRecursion (λ e. K.cmp key.now e.0 ≡ Ordering.Less) (drop result.at entries.now) }
 {
     let mut from = 0;
     let mut to = entries.len();

@@ -97,7 +97,8 @@ fn applies_with(facts: &Facts, sequent: &Sequent, prints: &List<u64>) -> bool
 
 // The status of a tree that applies to a sequent, or doesn't.
 fn status_where(facts: &Facts, applies: bool) -> Status
-    ensures { (tree : Tree) (s : Sequent) → AreFactsOf tree facts.now → (IsTrue applies ↔ Applies tree s) → IsTreeStatus tree s result }
+    ensures { (tree : Tree) (s : Sequent) → AreFactsOf tree facts.now → (IsTrue applies ↔ Applies tree s)
+        → IsTreeStatus tree s result }
 {
     if facts.settled == Status::Unattempted {
         return Status::Unattempted;

@@ -68,7 +68,8 @@ fn context(alloc: Global, i: u64, value: u64) -> Result<(Name, Text), OutOfMemor
 
 fn machine(alloc: Global, i: u64, third: bool) -> Result<(Name, Text), OutOfMemory>
     requires { i ≤ 128 }
-    ensures { IfOk result (λ made. made ≡ (machine_name i, machine_with (three_digits i) (third_line third (three_digits i)))) }
+    ensures { IfOk result (λ made.
+        made ≡ (machine_name i, machine_with (three_digits i) (third_line third (three_digits i)))) }
 {
     let name = name_of(alloc, Kind::Machine, i)?;
     let text = machine_text(alloc, i, third)?;

@@ -88,7 +88,8 @@ fn machine_with(alloc: Global, digits: &str, more: &str) -> Result<String, OutOf
 
 /// The text of a machine, by its number, with the third invariant or without.
 pub fn machine_text(alloc: Global, i: u64, third: bool) -> Result<String, OutOfMemory>
-    ensures { IfOk result (λ text. string_bytes text ≡ machine_with (three_digits i) (third_line third (three_digits i))) }
+    ensures { IfOk result (λ text.
+        string_bytes text ≡ machine_with (three_digits i) (third_line third (three_digits i))) }
 {
     let digits = three_digits(alloc, i)?;
     let more = third_line(alloc, third, &digits)?;

@@ -16,7 +16,8 @@ pub fn add_changes(
     texts: &Texts,
     listed: &mut Vec<Entry>,
 ) -> Result<(), OutOfMemory>
-    ensures { OnOk result (listed.new.items ≡ listed.old.items ++ flat_map (λ name. entries_for_change (finite.get built.now name) (finite.get texts.now name) name) (names_of_both built.now texts.now)) }
+    ensures { OnOk result (listed.new.items ≡ listed.old.items ++ flat_map (λ name. entries_for_change
+        (finite.get built.now name) (finite.get texts.now name) name) (names_of_both built.now texts.now)) }
 {
     let names = names_of(alloc, built, texts)?;
     add_each(alloc, built, texts, &names, listed)
@@ -30,7 +31,8 @@ fn add_each(
     names: &Project,
     listed: &mut Vec<Entry>,
 ) -> Result<(), OutOfMemory>
-    ensures { OnOk result (listed.new.items ≡ listed.old.items ++ flat_map (λ name. entries_for_change (finite.get built.now name) (finite.get texts.now name) name) (finite.keys names.now)) }
+    ensures { OnOk result (listed.new.items ≡ listed.old.items ++ flat_map (λ name. entries_for_change
+        (finite.get built.now name) (finite.get texts.now name) name) (finite.keys names.now)) }
 {
     for (name, _) in names.texts() {
         add_change(alloc, text_in(built, name), texts.get(name), name, listed)?;
@@ -73,7 +75,8 @@ fn add_change(
     name: &Name,
     listed: &mut Vec<Entry>,
 ) -> Result<(), OutOfMemory>
-    ensures { OnOk result (listed.new.items ≡ listed.old.items ++ entries_for_change (option_copied built.entry) (option_copied present.entry) name.now) }
+    ensures { OnOk result (listed.new.items
+        ≡ listed.old.items ++ entries_for_change (option_copied built.entry) (option_copied present.entry) name.now) }
 {
     match (built, present) {
         (None, None) => {}

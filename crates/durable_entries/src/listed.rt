@@ -24,7 +24,8 @@ pub fn state_entries(alloc: Global, durable: &Durable) -> Result<Vec<Entry>, Out
 }
 
 fn add_built(alloc: Global, built: &Project, listed: &mut Vec<Entry>) -> Result<(), OutOfMemory>
-    ensures { OnOk result (listed.new.items ≡ listed.old.items ++ map (λ e. Entry.Put e.0 e.1) (finite.entries built.now)) }
+    ensures { OnOk result (listed.new.items
+        ≡ listed.old.items ++ map (λ e. Entry.Put e.0 e.1) (finite.entries built.now)) }
 {
     for (name, text) in built.texts() {
         listed.push(Entry::Put(name.copy(alloc)?, text.copy()?))?;
@@ -37,7 +38,8 @@ fn add_proofs(
     proofs: &PoMap<StoredProof>,
     listed: &mut Vec<Entry>,
 ) -> Result<(), OutOfMemory>
-    ensures { OnOk result (listed.new.items ≡ listed.old.items ++ map (λ e. Entry.SetProof e.0 e.1) (finite.entries proofs.now)) }
+    ensures { OnOk result (listed.new.items
+        ≡ listed.old.items ++ map (λ e. Entry.SetProof e.0 e.1) (finite.entries proofs.now)) }
 {
     for (name, stored) in proofs.entries() {
         listed.push(Entry::SetProof(name.copy(alloc)?, stored.proof().copy(alloc)?))?;

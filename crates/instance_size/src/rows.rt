@@ -66,7 +66,8 @@ pub(crate) fn card_nat_grows(chosen: &Option<Formula>, room: Extent) -> bool
 }
 
 pub(crate) fn fun_in_grows(hyps: &[Formula], chosen: &Option<Formula>, room: Extent) -> bool
-    ensures { IsTrue result → LeavesTooLarge room (option_and_then (λ h. option_and_then (fun_in h) chosen.now) (first hyps.now)) None (take 1 hyps.now) }
+    ensures { IsTrue result → LeavesTooLarge room
+        (option_and_then (λ h. option_and_then (fun_in h) chosen.now) (first hyps.now)) None (take 1 hyps.now) }
 {
     let Some(h) = first(hyps) else {
         return false;
@@ -92,7 +93,8 @@ pub(crate) fn all_l_grows(
     hyps: &[Formula],
     room: Extent,
 ) -> Result<bool, OutOfMemory>
-    ensures { IfOk result (λ large. IsTrue large → LeavesTooLarge room (option_and_then (all_l terms.now) (first hyps.now)) None (take 1 hyps.now)) }
+    ensures { IfOk result (λ large. IsTrue large
+        → LeavesTooLarge room (option_and_then (all_l terms.now) (first hyps.now)) None (take 1 hyps.now)) }
 {
     let Some(h) = first(hyps) else {
         return Ok(false);
@@ -116,7 +118,8 @@ pub(crate) fn ex_r_grows(
     goal: &Option<Formula>,
     room: Extent,
 ) -> Result<bool, OutOfMemory>
-    ensures { IfOk result (λ large. IsTrue large → LeavesTooLarge room (option_and_then (ex_r terms.now) goal.now) goal.now []) }
+    ensures { IfOk result (λ large. IsTrue large
+        → LeavesTooLarge room (option_and_then (ex_r terms.now) goal.now) goal.now []) }
 {
     let Some(g) = goal else {
         return Ok(false);
@@ -135,7 +138,8 @@ pub(crate) fn ex_r_grows(
 }
 
 pub(crate) fn eq_goal_grows(goal: &Option<Formula>, hyps: &[Formula], room: Extent) -> bool
-    ensures { IsTrue result → LeavesTooLarge room (option_and_then (λ g. option_and_then (eq_goal g) (first hyps.now)) goal.now) goal.now (take 1 hyps.now) }
+    ensures { IsTrue result → LeavesTooLarge room
+        (option_and_then (λ g. option_and_then (eq_goal g) (first hyps.now)) goal.now) goal.now (take 1 hyps.now) }
 {
     let Some(g) = goal else {
         return false;
@@ -171,7 +175,8 @@ pub(crate) fn rw_goal_grows(number: u8, place: &[u32], goal: &Option<Formula>, r
 }
 
 pub(crate) fn rw_hyp_grows(number: u8, place: &[u32], hyps: &[Formula], room: Extent) -> bool
-    ensures { IsTrue result → LeavesTooLarge room (option_and_then (rw_hyp number place.now) (first hyps.now)) None (take 1 hyps.now) }
+    ensures { IsTrue result
+        → LeavesTooLarge room (option_and_then (rw_hyp number place.now) (first hyps.now)) None (take 1 hyps.now) }
 {
     let Some(h) = first(hyps) else {
         return false;

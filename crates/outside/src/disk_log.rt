@@ -34,7 +34,8 @@ impl Log {
         requires space { length (calls_of self.old) < self.old.limit }
         requires inside { IsInside 0 entry }
         ensures calls { calls_of self.new ≡ seen [] entry ∷ calls_of self.old }
-        ensures same { (self.new.room ≡ self.old.room) × (self.new.limit ≡ self.old.limit) × (self.new.written ≡ self.old.written) }
+        ensures same { (self.new.room ≡ self.old.room)
+            × (self.new.limit ≡ self.old.limit) × (self.new.written ≡ self.old.written) }
     {
         self.entries.push_reserved(entry);
     }
@@ -43,7 +44,8 @@ impl Log {
     pub(crate) fn note_if_room(&mut self, entry: Entry)
         requires inside { IsInside 0 entry }
         ensures calls { calls_of self.new ≡ noted self.old.limit (seen [] entry) (calls_of self.old) }
-        ensures same { (self.new.room ≡ self.old.room) × (self.new.limit ≡ self.old.limit) × (self.new.written ≡ self.old.written) }
+        ensures same { (self.new.room ≡ self.old.room)
+            × (self.new.limit ≡ self.old.limit) × (self.new.written ≡ self.old.written) }
     {
         if !self.is_full() {
             self.note(entry);

@@ -20,7 +20,8 @@ impl Recorded {
         long: bool,
     ) -> Result<Vec<u8>, AllocError>
         requires inside { count ≤ vec_len self.now.log.entries }
-        ensures { IfOk result (λ bytes. bytes.items ≡ left_after fill long (by_side self.now.first_left.items self.now.first_right.items) (first_calls count self.now.log) side) }
+        ensures { IfOk result (λ bytes. bytes.items ≡ left_after fill long
+            (by_side self.now.first_left.items self.now.first_right.items) (first_calls count self.now.log) side) }
     {
         let first = match side {
             Side::Left => &self.first_left,

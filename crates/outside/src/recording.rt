@@ -82,7 +82,8 @@ impl Recorded {
 
     // The length of a side.
     pub(crate) fn len(&self, side: Side) -> u64
-        ensures { result ≡ length (contents (by_side self.now.first_left.items self.now.first_right.items) (calls_of self.now.log) side) }
+        ensures { result ≡ length
+            (contents (by_side self.now.first_left.items self.now.first_right.items) (calls_of self.now.log) side) }
     {
         match side {
             Side::Left => self.left.len() as u64,
@@ -92,7 +93,8 @@ impl Recorded {
 
     // Reads the bytes at a place of a side, up to the slice.
     pub(crate) fn read(&self, side: Side, at: u64, into: &mut [u8]) -> usize
-        ensures { ReadsAt (contents (by_side self.now.first_left.items self.now.first_right.items) (calls_of self.now.log) side) at result into.old into.new }
+        ensures { ReadsAt (contents (by_side self.now.first_left.items self.now.first_right.items)
+            (calls_of self.now.log) side) at result into.old into.new }
     {
         match side {
             Side::Left => read_from(&self.left, at, into),
@@ -111,7 +113,8 @@ impl Recorded {
     }
 
     pub(crate) fn write(&mut self, side: Side, at: u64, bytes: &[u8])
-        requires within { at ≤ length (contents (by_side self.old.first_left.items self.old.first_right.items) (calls_of self.old.log) side) }
+        requires within { at ≤ length
+            (contents (by_side self.old.first_left.items self.old.first_right.items) (calls_of self.old.log) side) }
         requires space { length (calls_of self.old.log) < self.old.log.limit }
         requires fits { bytes_in (calls_of self.old.log) + length bytes.now ≤ self.old.log.room }
         ensures calls { calls_of self.new.log ≡ wrote side at bytes.now ∷ calls_of self.old.log }
@@ -130,7 +133,8 @@ impl Recorded {
     }
 
     pub(crate) fn cut(&mut self, side: Side, len: u64)
-        requires within { «len» ≤ length (contents (by_side self.old.first_left.items self.old.first_right.items) (calls_of self.old.log) side) }
+        requires within { «len» ≤ length
+            (contents (by_side self.old.first_left.items self.old.first_right.items) (calls_of self.old.log) side) }
         requires space { length (calls_of self.old.log) < self.old.log.limit }
         ensures calls { calls_of self.new.log ≡ was_cut side «len» ∷ calls_of self.old.log }
         ensures same { IsSame self.old self.new }

@@ -48,7 +48,8 @@ impl Replay {
         fill: u8,
         long: bool,
     ) -> Result<Replay, AllocError>
-        ensures { IfOk result (λ r. (r.side ≡ side) × (r.fill ≡ fill) × (r.long ≡ long) × (r.read.items ≡ first.now) × (r.left.items ≡ first.now)) }
+        ensures { IfOk result (λ r. (r.side ≡ side) × (r.fill ≡ fill) × (r.long ≡ long)
+            × (r.read.items ≡ first.now) × (r.left.items ≡ first.now)) }
     {
         Ok(Replay {
             side,
@@ -60,8 +61,10 @@ impl Replay {
     }
 
     fn tear(&mut self, at: usize, count: usize) -> Result<(), AllocError>
-        ensures left { OnOk result (self.new.left.items ≡ torn self.old.fill self.old.long at count self.old.left.items) }
-        ensures same { (self.new.side ≡ self.old.side) × (self.new.fill ≡ self.old.fill) × (self.new.long ≡ self.old.long) × (self.new.read ≡ self.old.read) }
+        ensures left { OnOk result (self.new.left.items
+            ≡ torn self.old.fill self.old.long at count self.old.left.items) }
+        ensures same { (self.new.side ≡ self.old.side)
+            × (self.new.fill ≡ self.old.fill) × (self.new.long ≡ self.old.long) × (self.new.read ≡ self.old.read) }
     {
         let len = self.left.len();
         if at > len {
@@ -78,8 +81,10 @@ impl Replay {
     }
 
     fn tear_cut(&mut self, len: usize) -> Result<(), AllocError>
-        ensures left { OnOk result (self.new.left.items ≡ torn_cut self.old.fill self.old.long «len» self.old.left.items) }
-        ensures same { (self.new.side ≡ self.old.side) × (self.new.fill ≡ self.old.fill) × (self.new.long ≡ self.old.long) × (self.new.read ≡ self.old.read) }
+        ensures left { OnOk result (self.new.left.items
+            ≡ torn_cut self.old.fill self.old.long «len» self.old.left.items) }
+        ensures same { (self.new.side ≡ self.old.side)
+            × (self.new.fill ≡ self.old.fill) × (self.new.long ≡ self.old.long) × (self.new.read ≡ self.old.read) }
     {
         let was = self.left.len();
         self.left.truncate(len);
@@ -91,7 +96,8 @@ impl Replay {
 
     fn settle(&mut self) -> Result<(), AllocError>
         ensures left { OnOk result (self.new.left.items ≡ self.old.read.items) }
-        ensures same { (self.new.side ≡ self.old.side) × (self.new.fill ≡ self.old.fill) × (self.new.long ≡ self.old.long) × (self.new.read ≡ self.old.read) }
+        ensures same { (self.new.side ≡ self.old.side)
+            × (self.new.fill ≡ self.old.fill) × (self.new.long ≡ self.old.long) × (self.new.read ≡ self.old.read) }
     {
         self.left.clear();
         self.left.extend_from_slice(&self.read)
@@ -104,8 +110,10 @@ impl Replay {
             → OnOk result (self.new.read.items ≡ contents first (seen written.now entry ∷ calls) self.old.side) }
         ensures left { (first : Sides) (calls : List Call) → self.old.read.items ≡ contents first calls self.old.side
             → self.old.left.items ≡ left_after self.old.fill self.old.long first calls self.old.side
-            → OnOk result (self.new.left.items ≡ left_after self.old.fill self.old.long first (seen written.now entry ∷ calls) self.old.side) }
-        ensures same { (self.new.side ≡ self.old.side) × (self.new.fill ≡ self.old.fill) × (self.new.long ≡ self.old.long) }
+            → OnOk result (self.new.left.items
+            ≡ left_after self.old.fill self.old.long first (seen written.now entry ∷ calls) self.old.side) }
+        ensures same { (self.new.side ≡ self.old.side)
+            × (self.new.fill ≡ self.old.fill) × (self.new.long ≡ self.old.long) }
     {
         match entry {
             Entry::Wrote {

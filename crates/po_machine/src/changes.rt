@@ -65,7 +65,8 @@ fn add_target(
     wanted: &Wanted<'_>,
     out: &mut Vec<(Name, Ty)>,
 ) -> Result<(), OutOfMemory>
-    ensures { OnOk result (out.new.items ≡ out.old.items ++ wanted_of wanted.entry.now ((name.entry.now, ty.entry.now) ∷ [])) }
+    ensures { OnOk result (out.new.items
+        ≡ out.old.items ++ wanted_of wanted.entry.now ((name.entry.now, ty.entry.now) ∷ [])) }
 {
     if is_wanted(wanted, name) {
         out.push((name.copy(alloc)?, ty.copy(alloc)?))?;
@@ -94,7 +95,8 @@ fn add_member_target(
     wanted: &Wanted<'_>,
     out: &mut Vec<(Name, Ty)>,
 ) -> Result<(), OutOfMemory>
-    ensures { OnOk result (out.new.items ≡ out.old.items ++ wanted_of wanted.entry.now (open_targets (action.ChooseIn name.entry.now set.entry.now))) }
+    ensures { OnOk result (out.new.items
+        ≡ out.old.items ++ wanted_of wanted.entry.now (open_targets (action.ChooseIn name.entry.now set.entry.now))) }
 {
     let integer = Ty::Int;
     match member_type(set, &integer) {
@@ -110,7 +112,8 @@ fn add_open_targets(
     wanted: &Wanted<'_>,
     out: &mut Vec<(Name, Ty)>,
 ) -> Result<(), OutOfMemory>
-    ensures { OnOk result (out.new.items ≡ out.old.items ++ wanted_of wanted.entry.now (open_targets action.entry.now)) }
+    ensures { OnOk result (out.new.items
+        ≡ out.old.items ++ wanted_of wanted.entry.now (open_targets action.entry.now)) }
 {
     match action {
         Action::Assign(_) => Ok(()),
@@ -125,7 +128,8 @@ pub(crate) fn add_all_open_targets(
     wanted: &Wanted<'_>,
     out: &mut Vec<(Name, Ty)>,
 ) -> Result<(), OutOfMemory>
-    ensures { OnOk result (out.new.items ≡ out.old.items ++ wanted_of wanted.entry.now (for_each open_targets (map (λ a. a.1) actions.entry.now))) }
+    ensures { OnOk result (out.new.items
+        ≡ out.old.items ++ wanted_of wanted.entry.now (for_each open_targets (map (λ a. a.1) actions.entry.now))) }
 {
     for action in actions {
         add_open_targets(alloc, &action.1, wanted, out)?;
@@ -170,7 +174,8 @@ fn add_open_value(
     wanted: &Wanted<'_>,
     out: &mut Vec<(Name, Formula)>,
 ) -> Result<(), OutOfMemory>
-    ensures { OnOk result (out.new.items ≡ out.old.items ++ wanted_of wanted.entry.now ((name.entry.now, as_term (with_prime (name.entry.now, ty.entry.now))) ∷ [])) }
+    ensures { OnOk result (out.new.items ≡ out.old.items
+        ++ wanted_of wanted.entry.now ((name.entry.now, as_term (with_prime (name.entry.now, ty.entry.now))) ∷ [])) }
 {
     if is_wanted(wanted, name) {
         out.push((name.copy(alloc)?, primed_term(alloc, name, ty)?))?;
@@ -184,7 +189,8 @@ fn add_open_values(
     wanted: &Wanted<'_>,
     out: &mut Vec<(Name, Formula)>,
 ) -> Result<(), OutOfMemory>
-    ensures { OnOk result (out.new.items ≡ out.old.items ++ wanted_of wanted.entry.now (map (λ y. (y.0, as_term (with_prime y))) targets.entry.now)) }
+    ensures { OnOk result (out.new.items
+        ≡ out.old.items ++ wanted_of wanted.entry.now (map (λ y. (y.0, as_term (with_prime y))) targets.entry.now)) }
 {
     for target in targets {
         add_open_value(alloc, &target.0, &target.1, wanted, out)?;
@@ -199,7 +205,8 @@ fn add_member_value(
     wanted: &Wanted<'_>,
     out: &mut Vec<(Name, Formula)>,
 ) -> Result<(), OutOfMemory>
-    ensures { OnOk result (out.new.items ≡ out.old.items ++ wanted_of wanted.entry.now (new_values (action.ChooseIn name.entry.now set.entry.now))) }
+    ensures { OnOk result (out.new.items
+        ≡ out.old.items ++ wanted_of wanted.entry.now (new_values (action.ChooseIn name.entry.now set.entry.now))) }
 {
     let integer = Ty::Int;
     match member_type(set, &integer) {
@@ -230,7 +237,8 @@ pub(crate) fn add_all_new_values(
     wanted: &Wanted<'_>,
     out: &mut Vec<(Name, Formula)>,
 ) -> Result<(), OutOfMemory>
-    ensures { OnOk result (out.new.items ≡ out.old.items ++ wanted_of wanted.entry.now (for_each new_values (map (λ a. a.1) actions.entry.now))) }
+    ensures { OnOk result (out.new.items
+        ≡ out.old.items ++ wanted_of wanted.entry.now (for_each new_values (map (λ a. a.1) actions.entry.now))) }
 {
     for action in actions {
         add_new_values(alloc, &action.1, wanted, out)?;

@@ -126,7 +126,8 @@ pub(crate) fn witness_hypotheses<'a>(
     alloc: Global,
     parts: &'a SharedParts<'_>,
 ) -> Result<Vec<&'a Formula>, OutOfMemory>
-    ensures { IfOk result (λ hyps. behind hyps.items ≡ (parts_in parts.now).base ++ (parts_in parts.now).choices ++ map (λ w. w.1) (parts_in parts.now).witnesses) }
+    ensures { IfOk result (λ hyps. behind hyps.items
+        ≡ (parts_in parts.now).base ++ (parts_in parts.now).choices ++ map (λ w. w.1) (parts_in parts.now).witnesses) }
 {
     let mut hyps = choice_hypotheses(alloc, parts)?;
     add_witnesses(&parts.witnesses, &mut hyps)?;

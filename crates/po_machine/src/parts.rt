@@ -45,7 +45,8 @@ fn add_found<'a>(
     event: Option<&'a CheckedEvent>,
     found: &mut Vec<&'a CheckedEvent>,
 ) -> Result<(), OutOfMemory>
-    ensures { OnOk result (map (λ x. x.now) found.new.items ≡ map (λ x. x.now) found.old.items ++ option_to_list (option_copied event.entry)) }
+    ensures { OnOk result (map (λ x. x.now) found.new.items
+        ≡ map (λ x. x.now) found.old.items ++ option_to_list (option_copied event.entry)) }
 {
     if let Some(event) = event {
         found.push(event)?;
@@ -58,7 +59,8 @@ fn add_named<'a>(
     names: &[Name],
     found: &mut Vec<&'a CheckedEvent>,
 ) -> Result<(), OutOfMemory>
-    ensures { OnOk result (map (λ x. x.now) found.new.items ≡ map (λ x. x.now) found.old.items ++ filter_map (λ name. find (λ x. bytes_eq name x.name) events.entry.now) names.now) }
+    ensures { OnOk result (map (λ x. x.now) found.new.items ≡ map (λ x. x.now) found.old.items
+        ++ filter_map (λ name. find (λ x. bytes_eq name x.name) events.entry.now) names.now) }
 {
     for name in names {
         add_found(event_named(events, name), found)?;
@@ -135,7 +137,8 @@ fn add_all_lost_params(
     refined: &[&CheckedEvent],
     env: &mut Env,
 ) -> Result<(), OutOfMemory>
-    ensures { OnOk result (env.new ≡ env.old ++ filter (λ x. not (is_among kept.entry.now x.0)) (for_each (λ r. r.params) (map (λ x. x.now) refined.entry.now))) }
+    ensures { OnOk result (env.new ≡ env.old ++ filter (λ x. not (is_among kept.entry.now x.0))
+        (for_each (λ r. r.params) (map (λ x. x.now) refined.entry.now))) }
 {
     for event in refined {
         add_lost_params(alloc, kept, event.params.items(), env)?;
@@ -233,7 +236,8 @@ fn add_primed_values(
     after: &[(Name, Formula)],
     out: &mut Vec<(Name, Formula)>,
 ) -> Result<(), OutOfMemory>
-    ensures { OnOk result (out.new.items ≡ out.old.items ++ map (primed_value after.entry.now) (filter (λ x. is_among variables.entry.now x.0) entries.entry.now)) }
+    ensures { OnOk result (out.new.items ≡ out.old.items
+        ++ map (primed_value after.entry.now) (filter (λ x. is_among variables.entry.now x.0) entries.entry.now)) }
 {
     for entry in entries {
         if variables.has(&entry.0) {
@@ -281,7 +285,8 @@ fn witnesses_of(
     event: &CheckedEvent,
     after: &[(Name, Formula)],
 ) -> Result<Vec<(Name, Formula)>, OutOfMemory>
-    ensures { IfOk result (λ ws. ws.items ≡ map (substituted_witness (primed_values machine.now after.now)) event.now.witnesses) }
+    ensures { IfOk result (λ ws.
+        ws.items ≡ map (substituted_witness (primed_values machine.now after.now)) event.now.witnesses) }
 {
     let witnesses = event.witnesses.items();
     if witnesses.is_empty() {

@@ -85,7 +85,8 @@ fn add_chosen<'a>(
     set: &Formula,
     found: &mut Vec<&'a str>,
 ) -> Result<(), OutOfMemory>
-    ensures { OnOk result (texts found.new.items ≡ texts found.old.items ++ keys_of (new_values (Action.ChooseIn name.entry.now set.now))) }
+    ensures { OnOk result (texts found.new.items
+        ≡ texts found.old.items ++ keys_of (new_values (Action.ChooseIn name.entry.now set.now))) }
 {
     let integer = Ty::Int;
     if set.type_of(&integer).members().is_some() {
@@ -108,7 +109,8 @@ fn add_all_targets<'a>(
     actions: &'a [(Label, Action)],
     found: &mut Vec<&'a str>,
 ) -> Result<(), OutOfMemory>
-    ensures { OnOk result (texts found.new.items ≡ texts found.old.items ++ keys_of (for_each new_values (map (λ a. a.1) actions.entry.now))) }
+    ensures { OnOk result (texts found.new.items
+        ≡ texts found.old.items ++ keys_of (for_each new_values (map (λ a. a.1) actions.entry.now))) }
 {
     for action in actions {
         add_targets(&action.1, found)?;

@@ -76,7 +76,8 @@ fn serve_all<R: Threads + Wait + Sync, V: Work + Send, P: Prover + Sync, G: Gate
 ) -> Vec<Chair<V>>
     requires { All (IsOf desk.now) chairs.items }
     ensures same { AreSame chairs.items result.items }
-    ensures served { EachServed V.chair_of V.meaning (fair (P.answers prover.now) (P.sure prover.now)) desk.now.base chairs.items result.items }
+    ensures served { EachServed V.chair_of V.meaning
+        (fair (P.answers prover.now) (P.sure prover.now)) desk.now.base chairs.items result.items }
 {
     crew(
         rt,
@@ -105,7 +106,8 @@ pub fn work_beside<R: Threads + Wait + Sync, P: Prover + Sync, G: Gate + Sync>(
     gate: &G,
 ) -> Result<Tray, Tray>
     requires { (log_of tray ≡ []) × (workers + 1 < 2 ^ 32) }
-    ensures served { IfOk result (λ done. (k : ℕ) → 0 < k → k ≤ workers → WasServed chair_of meaning (fair (P.answers prover.now) (P.sure prover.now)) tray.room k [] (log_of done)) }
+    ensures served { IfOk result (λ done. (k : ℕ) → 0 < k → k ≤ workers
+        → WasServed chair_of meaning (fair (P.answers prover.now) (P.sure prover.now)) tray.room k [] (log_of done)) }
     ensures no_other { IfOk result (λ done. NoneFrom chair_of (workers + 1) (log_of done)) }
     ensures refused { IfErr result (λ same. same ≡ tray) }
 {

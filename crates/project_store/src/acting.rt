@@ -37,18 +37,25 @@ fn record_prepared<D: Disk>(
     requires sound { journal.old.failed ≡ false }
     requires small { IsSmall durable.now }
     requires next { IsSmall (entered_if durable.now prepared.now.entry) }
-    requires reads { D.told → RecoversAt (D.bytes_of journal.old.disk) journal.old.side journal.old.generation durable.now }
+    requires reads { D.told
+        → RecoversAt (D.bytes_of journal.old.disk) journal.old.side journal.old.generation durable.now }
     requires stops { D.told → (c : Sides) → D.images journal.old.disk c → Recovers c durable.now }
     ensures idle { prepared.now.entry ≡ None → journal.new ≡ journal.old }
-    ensures any_moment { D.told → LeavesOnly D.clock D.moments journal.old.disk journal.new.disk (IsEither durable.now prepared.now.entry) }
-    ensures acknowledged { D.told → OnOk result ((c : Sides) → D.images journal.new.disk c → Recovers c (entered_if durable.now prepared.now.entry)) }
-    ensures reads { D.told → OnOk result (RecoversAt (D.bytes_of journal.new.disk) journal.new.side journal.new.generation (entered_if durable.now prepared.now.entry)) }
+    ensures any_moment { D.told
+        → LeavesOnly D.clock D.moments journal.old.disk journal.new.disk (IsEither durable.now prepared.now.entry) }
+    ensures acknowledged { D.told → OnOk result ((c : Sides) → D.images journal.new.disk c
+        → Recovers c (entered_if durable.now prepared.now.entry)) }
+    ensures reads { D.told → OnOk result (RecoversAt (D.bytes_of journal.new.disk)
+        journal.new.side journal.new.generation (entered_if durable.now prepared.now.entry)) }
     ensures sound { OnOk result (journal.new.failed ≡ false) }
     ensures causes { (IsErrOf result StoreFault.SessionFull → ⊥) × (IsErrOf result StoreFault.Failed → ⊥) }
-    ensures full { IsErrOf result StoreFault.JournalFull → LacksRoom journal.old.gate journal.old.generation durable.now prepared.now.entry }
-    ensures refused { LacksRoom journal.old.gate journal.old.generation durable.now prepared.now.entry → OnOk result ⊥ × (IsErrOf result StoreFault.DiskFault → ⊥) }
+    ensures full { IsErrOf result StoreFault.JournalFull
+        → LacksRoom journal.old.gate journal.old.generation durable.now prepared.now.entry }
+    ensures refused { LacksRoom journal.old.gate journal.old.generation durable.now prepared.now.entry
+        → OnOk result ⊥ × (IsErrOf result StoreFault.DiskFault → ⊥) }
     ensures fault { IsErrOf result StoreFault.DiskFault → Rose (D.faults journal.old.disk) (D.faults journal.new.disk) }
-    ensures failed { OnErr result (((journal.new ≡ journal.old) × (IsErrOf result StoreFault.DiskFault → ⊥)) ⊎ (IsErrOf result StoreFault.DiskFault × (journal.new.failed ≡ true))) }
+    ensures failed { OnErr result (((journal.new ≡ journal.old) × (IsErrOf result StoreFault.DiskFault → ⊥))
+        ⊎ (IsErrOf result StoreFault.DiskFault × (journal.new.failed ≡ true))) }
     ensures later { D.faults journal.old.disk ≤ D.faults journal.new.disk }
 {
     match prepared.entry() {
@@ -81,7 +88,8 @@ fn prepare<L: Ledger>(
     requires number { core.old.next + 1 < 2 ^ 64 }
     ensures known { IfOk result (λ p. IsPreparedFor core.old event.now p) }
     ensures same { core.new ≡ core.old }
-    ensures build { event.now ≡ Event.Build → HasFewSteps (map.entries core.old.durable.built) (map.entries core.old.durable.texts) steps.old steps.new }
+    ensures build { event.now ≡ Event.Build
+        → HasFewSteps (map.entries core.old.durable.built) (map.entries core.old.durable.texts) steps.old steps.new }
     ensures steps { (event.now ≡ Event.Build → ⊥) → steps.new ≡ steps.old }
 {
     if core.durable().proofs.len() as u64 >= TOO_MANY_PROOFS {
@@ -124,18 +132,21 @@ pub(crate) fn perform<D: Disk, L: Ledger>(
     requires small { IsSmall core.old.durable }
     requires orderly { IsOrderly core.old }
     requires number { core.old.next + 1 < 2 ^ 64 }
-    requires reads { D.told → RecoversAt (D.bytes_of journal.old.disk) journal.old.side journal.old.generation core.old.durable }
+    requires reads { D.told
+        → RecoversAt (D.bytes_of journal.old.disk) journal.old.side journal.old.generation core.old.durable }
     requires stops { D.told → (c : Sides) → D.images journal.old.disk c → Recovers c core.old.durable }
 
     // It is done, or a fault is met; a stop at any moment leaves the durable, or the one after the entry.
     ensures outcome { MatchResult result
         (λ reply. IsDone D.told D.bytes_of D.images journal.old journal.new core.old core.new event.now reply)
         (λ fault. IsUndone D.faults journal.old journal.new core.old core.new event.now fault) }
-    ensures any_moment { D.told → LeavesOnly D.clock D.moments journal.old.disk journal.new.disk (IsBeforeOrAfter core.old event.now) }
+    ensures any_moment { D.told
+        → LeavesOnly D.clock D.moments journal.old.disk journal.new.disk (IsBeforeOrAfter core.old event.now) }
     ensures later { D.faults journal.old.disk ≤ D.faults journal.new.disk }
 
     // What a build counts.
-    ensures build { event.now ≡ Event.Build → HasFewSteps (map.entries core.old.durable.built) (map.entries core.old.durable.texts) steps.old steps.new }
+    ensures build { event.now ≡ Event.Build
+        → HasFewSteps (map.entries core.old.durable.built) (map.entries core.old.durable.texts) steps.old steps.new }
     ensures steps { (event.now ≡ Event.Build → ⊥) → steps.new ≡ steps.old }
 {
     let prepared = prepare(core, event, steps)?;

@@ -34,7 +34,8 @@ fn apply_counted<D: Disk, L: Ledger>(
     ensures applied { Applies (base_in store.old) chair event (log_in store.old) result (log_in store.new) }
     ensures log { Grows chair_of chair (log_in store.old) (log_in store.new) }
     ensures base { base_in store.new ≡ base_in store.old }
-    ensures taken { event ≡ Event.Take None → IfOk result (λ reply. (ticket : Ticket) → reply ≡ Reply.Taken ticket → IsSequent ticket.sequent) }
+    ensures taken { event ≡ Event.Take None
+        → IfOk result (λ reply. (ticket : Ticket) → reply ≡ Reply.Taken ticket → IsSequent ticket.sequent) }
 {
     typed_tables();
     let _texts = store.core().builder().texts();
@@ -47,7 +48,8 @@ fn apply_alone<D: Disk>(store: &mut Store<D>, chair: u32, event: Event) -> Resul
     ensures applied { Applies (base_in store.old) chair event (log_in store.old) result (log_in store.new) }
     ensures log { Grows chair_of chair (log_in store.old) (log_in store.new) }
     ensures base { base_in store.new ≡ base_in store.old }
-    ensures taken { event ≡ Event.Take None → IfOk result (λ reply. (ticket : Ticket) → reply ≡ Reply.Taken ticket → IsSequent ticket.sequent) }
+    ensures taken { event ≡ Event.Take None
+        → IfOk result (λ reply. (ticket : Ticket) → reply ≡ Reply.Taken ticket → IsSequent ticket.sequent) }
 {
     apply_counted::<D, Brand>(store, chair, event, Blank::new(1))
 }

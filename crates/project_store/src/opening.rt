@@ -37,10 +37,12 @@ pub(crate) fn open_core<L: Ledger>(
     pieces: &[Piece],
     steps: &mut Steps<L>,
 ) -> Result<Core, OpenFault>
-    ensures opened { IfOk result (λ core. (core ≡ opened core.durable) × Leads no_texts (bodies_of pieces.now) core.durable) }
+    ensures opened { IfOk result (λ core.
+        (core ≡ opened core.durable) × Leads no_texts (bodies_of pieces.now) core.durable) }
     ensures fits { IfOk result (λ core. (table : List Obligation) × IsTableWithin core.durable.built table) }
     ensures small { IfOk result (λ core. IsSmall core.durable) }
-    ensures fault { MatchResult result (λ _. Unit {0}) (λ fault. (on : Side) → ArePlaced on 16 pieces.now → IsCoreFault (bodies_of pieces.now) on fault) }
+    ensures fault { MatchResult result (λ _. Unit {0})
+        (λ fault. (on : Side) → ArePlaced on 16 pieces.now → IsCoreFault (bodies_of pieces.now) on fault) }
     ensures single { OnOk result (AllByRecursion IsSingle (bodies_of pieces.now)) }
     ensures own { IsErrOf result OpenFault.DiskFault → ⊥ }
     ensures steps { IfOk result (λ core. steps.new ≤ steps.old + map.len core.durable.built) }
@@ -62,7 +64,8 @@ pub(crate) fn open_core<L: Ledger>(
 // What these records lead to from nothing, or the first that doesn't lead on.
 #[tactic(auto, using(crate::proofs::Replays::none_replayed, crate::proofs::Replays::next_replayed, crate::proofs::Replays::stuck_there, crate::proofs::Replays::end_led, crate::proofs::Replays::end_single, crate::proofs::Replays::end_small, crate::proofs::Replays::end_short))]
 fn replay(alloc: Global, pieces: &[Piece]) -> Result<Durable, OpenFault>
-    ensures led { MatchResult result (λ led. Leads no_texts (bodies_of pieces.now) led) (λ fault. (on : Side) → ArePlaced on 16 pieces.now → IsReplayFault (bodies_of pieces.now) on fault) }
+    ensures led { MatchResult result (λ led. Leads no_texts (bodies_of pieces.now) led)
+        (λ fault. (on : Side) → ArePlaced on 16 pieces.now → IsReplayFault (bodies_of pieces.now) on fault) }
     ensures single { OnOk result (AllByRecursion IsSingle (bodies_of pieces.now)) }
     ensures own { IsErrOf result OpenFault.DiskFault → ⊥ }
     ensures small { IfOk result IsSmall }
@@ -85,7 +88,8 @@ fn replay(alloc: Global, pieces: &[Piece]) -> Result<Durable, OpenFault>
 #[tactic(auto, using(crate::proofs::Replays::no_body, crate::proofs::Replays::too_many, crate::proofs::Replays::one_reading, crate::proofs::Shorts::stays_short))]
 fn replay_body(alloc: Global, durable: &mut Durable, body: &[u8]) -> Result<(), BodyFault>
     requires short { HasShortTexts durable.old }
-    ensures led { OnOk result ((es : List Entry) × IsBody body.now es × IsSmall (after_all durable.old es) × (durable.new ≡ after_all durable.old es)) }
+    ensures led { OnOk result ((es : List Entry)
+        × IsBody body.now es × IsSmall (after_all durable.old es) × (durable.new ≡ after_all durable.old es)) }
     ensures single { OnOk result (IsSingle body.now) }
     ensures stop { IsErrOf result BodyFault.Bad → IsStop durable.old body.now }
     ensures short { OnOk result (HasShortTexts durable.new) }

@@ -65,7 +65,8 @@ fn read_second(alloc: Global, bytes: &[u8]) -> Result<Vec<Entry>, BodyFault>
 fn read_first(alloc: Global, bytes: &[u8]) -> Result<Vec<Entry>, BodyFault>
     ensures read { IfOk result (λ read. AreOldEntries read.items bytes.now) }
     ensures only { (es : List Entry) → AreOldEntries es bytes.now → IfOk result (λ read. read.items ≡ es) }
-    ensures good { (es : List Entry) → AreOldEntries es bytes.now → IfErr result (λ fault. fault ≡ BodyFault.OutOfMemory) }
+    ensures good { (es : List Entry) → AreOldEntries es bytes.now
+        → IfErr result (λ fault. fault ≡ BodyFault.OutOfMemory) }
 {
     match read_entries_v1(alloc, bytes) {
         Ok(entries) => Ok(entries),

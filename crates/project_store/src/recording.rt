@@ -29,16 +29,22 @@ fn make_room<D: Disk>(
 ) -> Result<(), StoreFault>
     requires sound { journal.old.failed ≡ false }
     requires small { IsSmall durable.now }
-    requires reads { D.told → RecoversAt (D.bytes_of journal.old.disk) journal.old.side journal.old.generation durable.now }
+    requires reads { D.told
+        → RecoversAt (D.bytes_of journal.old.disk) journal.old.side journal.old.generation durable.now }
     requires stops { D.told → (c : Sides) → D.images journal.old.disk c → Recovers c durable.now }
-    ensures any_moment { D.told → LeavesOnly D.clock D.moments journal.old.disk journal.new.disk (λ c. Recovers c durable.now) }
-    ensures reads { D.told → OnOk result (RecoversAt (D.bytes_of journal.new.disk) journal.new.side journal.new.generation durable.now) }
+    ensures any_moment { D.told
+        → LeavesOnly D.clock D.moments journal.old.disk journal.new.disk (λ c. Recovers c durable.now) }
+    ensures reads { D.told
+        → OnOk result (RecoversAt (D.bytes_of journal.new.disk) journal.new.side journal.new.generation durable.now) }
     ensures room { OnOk result ((journal.new.gate + 6 + size ≤ 67108864) × (journal.new.failed ≡ false)) }
     ensures causes { (IsErrOf result StoreFault.SessionFull → ⊥) × (IsErrOf result StoreFault.Failed → ⊥) }
-    ensures full { IsErrOf result StoreFault.JournalFull → HasNoRoom journal.old.gate journal.old.generation durable.now size }
-    ensures refused { HasNoRoom journal.old.gate journal.old.generation durable.now size → OnOk result ⊥ × (IsErrOf result StoreFault.DiskFault → ⊥) }
+    ensures full { IsErrOf result StoreFault.JournalFull
+        → HasNoRoom journal.old.gate journal.old.generation durable.now size }
+    ensures refused { HasNoRoom journal.old.gate journal.old.generation durable.now size
+        → OnOk result ⊥ × (IsErrOf result StoreFault.DiskFault → ⊥) }
     ensures fault { IsErrOf result StoreFault.DiskFault → Rose (D.faults journal.old.disk) (D.faults journal.new.disk) }
-    ensures failed { OnErr result (((journal.new ≡ journal.old) × (IsErrOf result StoreFault.DiskFault → ⊥)) ⊎ (IsErrOf result StoreFault.DiskFault × (journal.new.failed ≡ true))) }
+    ensures failed { OnErr result (((journal.new ≡ journal.old) × (IsErrOf result StoreFault.DiskFault → ⊥))
+        ⊎ (IsErrOf result StoreFault.DiskFault × (journal.new.failed ≡ true))) }
     ensures later { D.faults journal.old.disk ≤ D.faults journal.new.disk }
 {
     if journal.has_room(size) {
@@ -69,21 +75,28 @@ pub(crate) fn record<D: Disk>(
     requires sound { journal.old.failed ≡ false }
     requires small { IsSmall durable.now }
     requires next { IsSmall (entered durable.now entry.now) }
-    requires reads { D.told → RecoversAt (D.bytes_of journal.old.disk) journal.old.side journal.old.generation durable.now }
+    requires reads { D.told
+        → RecoversAt (D.bytes_of journal.old.disk) journal.old.side journal.old.generation durable.now }
     requires stops { D.told → (c : Sides) → D.images journal.old.disk c → Recovers c durable.now }
 
     // A stop at any moment leaves the durable, or the one after the entry; after Ok it leaves the latter.
-    ensures any_moment { D.told → LeavesOnly D.clock D.moments journal.old.disk journal.new.disk (λ c. Recovers c durable.now ⊎ Recovers c (entered durable.now entry.now)) }
-    ensures acknowledged { D.told → OnOk result ((c : Sides) → D.images journal.new.disk c → Recovers c (entered durable.now entry.now)) }
-    ensures reads { D.told → OnOk result (RecoversAt (D.bytes_of journal.new.disk) journal.new.side journal.new.generation (entered durable.now entry.now)) }
+    ensures any_moment { D.told → LeavesOnly D.clock D.moments journal.old.disk journal.new.disk (λ c.
+        Recovers c durable.now ⊎ Recovers c (entered durable.now entry.now)) }
+    ensures acknowledged { D.told
+        → OnOk result ((c : Sides) → D.images journal.new.disk c → Recovers c (entered durable.now entry.now)) }
+    ensures reads { D.told → OnOk result (RecoversAt
+        (D.bytes_of journal.new.disk) journal.new.side journal.new.generation (entered durable.now entry.now)) }
     ensures sound { OnOk result (journal.new.failed ≡ false) }
 
     // Which fault it is, and what stays.
     ensures causes { (IsErrOf result StoreFault.SessionFull → ⊥) × (IsErrOf result StoreFault.Failed → ⊥) }
-    ensures full { IsErrOf result StoreFault.JournalFull → HasNoRoom journal.old.gate journal.old.generation durable.now (length (record_body (entry.now ∷ []))) }
-    ensures refused { HasNoRoom journal.old.gate journal.old.generation durable.now (length (record_body (entry.now ∷ []))) → OnOk result ⊥ × (IsErrOf result StoreFault.DiskFault → ⊥) }
+    ensures full { IsErrOf result StoreFault.JournalFull
+        → HasNoRoom journal.old.gate journal.old.generation durable.now (length (record_body (entry.now ∷ []))) }
+    ensures refused { HasNoRoom journal.old.gate journal.old.generation durable.now
+        (length (record_body (entry.now ∷ []))) → OnOk result ⊥ × (IsErrOf result StoreFault.DiskFault → ⊥) }
     ensures fault { IsErrOf result StoreFault.DiskFault → Rose (D.faults journal.old.disk) (D.faults journal.new.disk) }
-    ensures failed { OnErr result (((journal.new ≡ journal.old) × (IsErrOf result StoreFault.DiskFault → ⊥)) ⊎ (IsErrOf result StoreFault.DiskFault × (journal.new.failed ≡ true))) }
+    ensures failed { OnErr result (((journal.new ≡ journal.old) × (IsErrOf result StoreFault.DiskFault → ⊥))
+        ⊎ (IsErrOf result StoreFault.DiskFault × (journal.new.failed ≡ true))) }
     ensures later { D.faults journal.old.disk ≤ D.faults journal.new.disk }
 {
     let body = entry_body(alloc, entry)?;

@@ -105,7 +105,8 @@ pub(crate) fn write_pair<A: Coded, B: Coded>(
 ) -> Result<(), OutOfMemory>
     requires first { A.IsFit first.now }
     requires second { B.IsFit second.now }
-    ensures { WritesAs (IsPair A.IsGood B.IsGood) (pair_bytes A.bytes_of B.bytes_of) (first.now, second.now) out.old.items out.new.items result }
+    ensures { WritesAs (IsPair A.IsGood B.IsGood)
+        (pair_bytes A.bytes_of B.bytes_of) (first.now, second.now) out.old.items out.new.items result }
 {
     first.write(out)?;
     second.write(out)

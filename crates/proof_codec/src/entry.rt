@@ -126,7 +126,8 @@ impl Coded for Origin {
 }
 
 fn name_and_text(alloc: Global, from: &mut Reader<'_>) -> Result<(Name, Text), ReadFault>
-    ensures { ReadsBy (IsPair IsComponentName (IsText 65536)) (pair_bytes text_bytes text_bytes) from.old from.new result }
+    ensures { ReadsBy (IsPair IsComponentName (IsText 65536))
+        (pair_bytes text_bytes text_bytes) from.old from.new result }
 {
     let name = component_name(alloc, from)?;
     let text = Text::read(alloc, from)?;
@@ -137,7 +138,8 @@ fn name_and_text(alloc: Global, from: &mut Reader<'_>) -> Result<(Name, Text), R
 fn write_name_and_text(name: &Name, text: &Text, out: &mut Vec<u8>) -> Result<(), OutOfMemory>
     requires name { IsUnprimed name.now }
     requires text { IsShortText text.now }
-    ensures { WritesAs (IsPair IsComponentName (IsText 65536)) (pair_bytes text_bytes text_bytes) (name.now, text.now) out.old.items out.new.items result }
+    ensures { WritesAs (IsPair IsComponentName (IsText 65536))
+        (pair_bytes text_bytes text_bytes) (name.now, text.now) out.old.items out.new.items result }
 {
     write_component_name(name, out)?;
     text.write(out)?;
@@ -162,7 +164,8 @@ fn write_name_and_proof<V: Version>(
     out: &mut Vec<u8>,
 ) -> Result<(), OutOfMemory>
     requires { V.IsFitProof proof.now }
-    ensures { WritesAs (IsPair IsPoName V.IsGoodProof) (pair_bytes text_bytes V.proof_bytes) (name.now, proof.now) out.old.items out.new.items result }
+    ensures { WritesAs (IsPair IsPoName V.IsGoodProof)
+        (pair_bytes text_bytes V.proof_bytes) (name.now, proof.now) out.old.items out.new.items result }
 {
     name.write(out)?;
     V::write_proof(proof, out)?;
@@ -193,9 +196,12 @@ fn entry_at<V: Version>(alloc: Global, from: &mut Reader<'_>) -> Result<Entry, R
 // Reads entries to the end of the bytes.
 fn entries<V: Version>(alloc: Global, bytes: &[u8]) -> Result<Vec<Entry>, CodecFault>
     ensures read { IfOk result (λ read. AreEntriesBy V.IsGoodProof V.proof_bytes read.items bytes.now) }
-    ensures only { (es : ListOf Entry) → AreEntriesBy V.IsGoodProof V.proof_bytes es bytes.now → IfOk result (λ read. read.items ≡ es) }
-    ensures good { (es : ListOf Entry) → AreEntriesBy V.IsGoodProof V.proof_bytes es bytes.now → IfErr result (λ fault. fault ≡ CodecFault.OutOfMemory) }
-    ensures bad { (at : ℕ) → IsErrOf result (CodecFault.BadBytes at) → IsStuckBy V.IsGoodProof V.proof_bytes bytes.now at }
+    ensures only { (es : ListOf Entry) → AreEntriesBy V.IsGoodProof V.proof_bytes es bytes.now
+        → IfOk result (λ read. read.items ≡ es) }
+    ensures good { (es : ListOf Entry) → AreEntriesBy V.IsGoodProof V.proof_bytes es bytes.now
+        → IfErr result (λ fault. fault ≡ CodecFault.OutOfMemory) }
+    ensures bad { (at : ℕ) → IsErrOf result (CodecFault.BadBytes at)
+        → IsStuckBy V.IsGoodProof V.proof_bytes bytes.now at }
 {
     let mut from = Reader::new(bytes);
     let mut entries = Vec::new(alloc);

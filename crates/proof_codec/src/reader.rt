@@ -158,7 +158,8 @@ impl<'a> Reader<'a> {
 
     /// Reads a text of at most so many bytes.
     pub(crate) fn text(&mut self, most: u32) -> Result<&'a str, ReadFault>
-        ensures { MatchResult result (λ text. IsReadAs (IsText most) text_bytes self.old text.now self.new) (λ fault. Misses (IsText most) text_bytes self.old fault) }
+        ensures { MatchResult result (λ text. IsReadAs (IsText most) text_bytes self.old text.now self.new)
+            (λ fault. Misses (IsText most) text_bytes self.old fault) }
     {
         let count = self.number()?;
         if count > most {
@@ -173,7 +174,8 @@ impl<'a> Reader<'a> {
 
     /// Reads so many bytes.
     pub(crate) fn part(&mut self, count: usize) -> Result<&'a [u8], ReadFault>
-        ensures { MatchResult result (λ bytes. IsReadAs (IsOfLength count) as_it_is self.old bytes.now self.new) (λ fault. Misses (IsOfLength count) as_it_is self.old fault) }
+        ensures { MatchResult result (λ bytes. IsReadAs (IsOfLength count) as_it_is self.old bytes.now self.new)
+            (λ fault. Misses (IsOfLength count) as_it_is self.old fault) }
     {
         if self.rest.len() < count {
             return Err(ReadFault::Bad);

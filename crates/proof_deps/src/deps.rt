@@ -75,7 +75,9 @@ pub fn fits_by(deps: &Deps, sequent: &Sequent, prints: &List<u64>) -> bool
 }
 
 fn has_goal_and_names(deps: &Deps, sequent: &Sequent) -> bool
-    ensures { IsTrue result ↔ (IfSome deps.now.goal (λ g. g ≡ sequent.now.goal) × AllByRecursion (Stands sequent.now.env) deps.now.used × AllByRecursion (λ name. type_in sequent.now.env name ≡ None) deps.now.fresh) }
+    ensures { IsTrue result
+        ↔ (IfSome deps.now.goal (λ g. g ≡ sequent.now.goal) × AllByRecursion (Stands sequent.now.env) deps.now.used
+        × AllByRecursion (λ name. type_in sequent.now.env name ≡ None) deps.now.fresh) }
 {
     has_goal(&deps.goal, &sequent.goal)
         && has_used(deps.used.items(), &sequent.env)

@@ -62,7 +62,8 @@ impl Found {
         added: &[(Name, Ty)],
         way: &Way<'_>,
     ) -> Result<(), OutOfMemory>
-        ensures { OnOk result (Narrows (antecedents_of way.now) (λ s. AllByRecursion (λ x. type_in s.env x.0 ≡ None) added.now) self.old self.new) }
+        ensures { OnOk result (Narrows (antecedents_of way.now)
+            (λ s. AllByRecursion (λ x. type_in s.env x.0 ≡ None) added.now) self.old self.new) }
     {
         for identifier in added {
             self.need_new(alloc, &identifier.0, way)?;
@@ -76,7 +77,8 @@ impl Found {
         wanted: &Option<Formula>,
         way: &Way<'_>,
     ) -> Result<(), OutOfMemory>
-        ensures { OnOk result (Narrows (antecedents_of way.now) (λ s. IfSome wanted.now (λ g. g ≡ s.goal)) self.old self.new) }
+        ensures { OnOk result (Narrows (antecedents_of way.now)
+            (λ s. IfSome wanted.now (λ g. g ≡ s.goal)) self.old self.new) }
     {
         let Some(goal) = wanted else {
             return Ok(());
@@ -103,7 +105,8 @@ impl Found {
         wanted: &[Formula],
         way: &Way<'_>,
     ) -> Result<(), OutOfMemory>
-        ensures { OnOk result (Narrows (antecedents_of way.now) (λ s. AllByRecursion (Contains s.hyps) wanted.now) self.old self.new) }
+        ensures { OnOk result (Narrows (antecedents_of way.now)
+            (λ s. AllByRecursion (Contains s.hyps) wanted.now) self.old self.new) }
     {
         for formula in wanted {
             self.need_hyp(alloc, formula, way)?;
@@ -151,7 +154,8 @@ impl Found {
         wanted: &[(Name, Ty)],
         way: &Way<'_>,
     ) -> Result<(), OutOfMemory>
-        ensures { OnOk result (Narrows (antecedents_of way.now) (λ s. AllByRecursion (Stands s.env) wanted.now) self.old self.new) }
+        ensures { OnOk result (Narrows (antecedents_of way.now)
+            (λ s. AllByRecursion (Stands s.env) wanted.now) self.old self.new) }
     {
         for identifier in wanted {
             self.need_type(alloc, &identifier.0, &identifier.1, way)?;
@@ -166,7 +170,8 @@ impl Found {
         ty: &Ty,
         way: &Way<'_>,
     ) -> Result<(), OutOfMemory>
-        ensures { OnOk result (Narrows (antecedents_of way.now) (λ s. Stands s.env (name.now, ty.now)) self.old self.new) }
+        ensures { OnOk result (Narrows (antecedents_of way.now)
+            (λ s. Stands s.env (name.now, ty.now)) self.old self.new) }
     {
         if let Some(known) = way.type_of(name) {
             if !known.same(ty) {
@@ -185,7 +190,8 @@ impl Found {
     }
 
     fn need_new(&mut self, alloc: Global, name: &Name, way: &Way<'_>) -> Result<(), OutOfMemory>
-        ensures { OnOk result (Narrows (antecedents_of way.now) (λ s. type_in s.env name.now ≡ None) self.old self.new) }
+        ensures { OnOk result (Narrows (antecedents_of way.now)
+            (λ s. type_in s.env name.now ≡ None) self.old self.new) }
     {
         if way.type_of(name).is_some() {
             self.possible = false;

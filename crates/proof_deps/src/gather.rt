@@ -58,7 +58,8 @@ fn gather_each(
     way: &Way<'_>,
     found: &mut Found,
 ) -> Result<(), OutOfMemory>
-    ensures { OnOk result (Narrows (antecedents_of way.now) (EachApplies trees.now antecedents.now) found.old found.new) }
+    ensures { OnOk result (Narrows (antecedents_of way.now)
+        (EachApplies trees.now antecedents.now) found.old found.new) }
 {
     if trees.len() != antecedents.len() {
         found.possible = false;
@@ -78,7 +79,8 @@ fn gather_below(
     way: &Way<'_>,
     found: &mut Found,
 ) -> Result<(), OutOfMemory>
-    ensures { OnOk result (Narrows (antecedents_of way.now) (λ s. IsFresh s antecedent.now × Applies tree.now (extended s antecedent.now)) found.old found.new) }
+    ensures { OnOk result (Narrows (antecedents_of way.now)
+        (λ s. IsFresh s antecedent.now × Applies tree.now (extended s antecedent.now)) found.old found.new) }
 {
     found.need_fresh(alloc, antecedent.idents.items(), &*way)?;
     let below = Way::Below(&*antecedent, &*way);

@@ -17,7 +17,8 @@ use std::alloc::Global;
 
 /// The dependencies, unless no sequent has what was found: one has it exactly where the least that has it is one.
 pub fn settled(alloc: Global, found: Found) -> Result<Option<Deps>, OutOfMemory>
-    ensures settled { IfOk result (λ deps. MatchOption deps (IsPossible found → ⊥) (λ d. IsPossible found × ((s : Sequent) → Allows found s ↔ FitsIn d s))) }
+    ensures settled { IfOk result (λ deps. MatchOption deps (IsPossible found → ⊥)
+        (λ d. IsPossible found × ((s : Sequent) → Allows found s ↔ FitsIn d s))) }
     ensures distinct { HasDistinctNames found.used }
 {
     let used = copy_identifiers(alloc, found.used.entries())?;

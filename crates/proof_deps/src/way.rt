@@ -32,7 +32,8 @@ impl Way<'_> {
 
     /// Whether an antecedent on it adds the hypothesis.
     pub fn adds(&self, formula: &Formula) -> bool
-        ensures { (s : Sequent) → Contains (at_end (antecedents_of self.now) s).hyps formula.now ↔ (IsTrue result ⊎ Contains s.hyps formula.now) }
+        ensures { (s : Sequent) → Contains (at_end (antecedents_of self.now) s).hyps formula.now
+            ↔ (IsTrue result ⊎ Contains s.hyps formula.now) }
     {
         match self {
             Way::Root => false,
@@ -44,7 +45,9 @@ impl Way<'_> {
 
     /// The type with which an antecedent on it adds the name.
     pub fn type_of(&self, name: &Name) -> Option<&Ty>
-        ensures { (s : Sequent) → AreFresh (antecedents_of self.now) s → type_in (at_end (antecedents_of self.now) s).env name.now ≡ option_or (option_copied result) (type_in s.env name.now) }
+        ensures { (s : Sequent) → AreFresh (antecedents_of self.now) s
+            → type_in (at_end (antecedents_of self.now) s).env name.now
+            ≡ option_or (option_copied result) (type_in s.env name.now) }
     {
         match self {
             Way::Root => None,

@@ -21,7 +21,8 @@ pub fn applies_at(
     sequent: &Sequent,
 ) -> Result<bool, OutOfMemory>
     requires fresh { AreFresh (antecedents_of way.now) sequent.now }
-    ensures { IfOk result (λ applies. IsTrue applies ↔ AppliesTo rule.now (at_end (antecedents_of way.now) sequent.now)) }
+    ensures { IfOk result (λ applies.
+        IsTrue applies ↔ AppliesTo rule.now (at_end (antecedents_of way.now) sequent.now)) }
 {
     if !way.meets(rule, sequent) || !are_fresh(&*way, rule.antecedents.items(), sequent) {
         return Ok(false);
@@ -74,7 +75,8 @@ fn add_identifiers(
     alloc: Global,
     entries: &mut Vec<(Name, Ty)>,
 ) -> Result<(), OutOfMemory>
-    ensures { OnOk result ((s : Sequent) → entries.old.items ≡ s.env → entries.new.items ≡ (at_end (antecedents_of way.now) s).env) }
+    ensures { OnOk result ((s : Sequent) → entries.old.items ≡ s.env
+        → entries.new.items ≡ (at_end (antecedents_of way.now) s).env) }
 {
     match way {
         Way::Root => Ok(()),
@@ -89,7 +91,8 @@ fn add_identifiers(
 
 /// Adds the hypotheses that the way adds, the farthest first.
 fn add_hypotheses(way: &Way<'_>, alloc: Global, hyps: &mut Vec<Formula>) -> Result<(), OutOfMemory>
-    ensures { OnOk result ((s : Sequent) → hyps.old.items ≡ s.hyps → hyps.new.items ≡ (at_end (antecedents_of way.now) s).hyps) }
+    ensures { OnOk result ((s : Sequent) → hyps.old.items ≡ s.hyps
+        → hyps.new.items ≡ (at_end (antecedents_of way.now) s).hyps) }
 {
     match way {
         Way::Root => Ok(()),

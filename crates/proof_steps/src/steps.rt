@@ -76,7 +76,8 @@ fn leaves_at(
     ensures small { OnOk result (node_count (grown rule.now path.now tree.now) ≤ 2048) }
     ensures no_leaf { IsErrOf result StepFault.NoLeaf → leaf_at path.now tree.now sequent.now ≡ None }
     ensures leafless { leaf_at path.now tree.now sequent.now ≡ None → IsErrOf result StepFault.NoLeaf }
-    ensures no_fit { IsErrOf result StepFault.NoFit → HasLeaf path.now tree.now sequent.now (λ s. ¬ AppliesTo rule.now s) }
+    ensures no_fit { IsErrOf result StepFault.NoFit
+        → HasLeaf path.now tree.now sequent.now (λ s. ¬ AppliesTo rule.now s) }
     ensures full { IsErrOf result StepFault.TreeFull → HasLeaf path.now tree.now sequent.now (AppliesTo rule.now) }
     ensures too_many { IsErrOf result StepFault.TreeFull → 2048 < node_count (grown rule.now path.now tree.now) }
 {

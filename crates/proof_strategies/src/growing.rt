@@ -61,7 +61,8 @@ fn grow_each<S: Strategy>(
     requires apply { EachApplies trees.now antecedents.now sequent.now }
     requires distinct { AreDistinct antecedents.now }
     requires most { room.old.rules ≤ 2000 }
-    ensures { IfOk result (λ new. HaveGrown (S.gives strategy.now) times trees.now antecedents.now sequent.now room.old new room.new) }
+    ensures { IfOk result (λ new.
+        HaveGrown (S.gives strategy.now) times trees.now antecedents.now sequent.now room.old new room.new) }
 {
     let mut grown = Vec::new(alloc);
     for i in 0..trees.len() {
@@ -94,7 +95,8 @@ fn grow_below<S: Strategy>(
     requires distinct { HasDistinctNames antecedent.now.idents }
     requires applies { Applies tree.now (extended sequent.now antecedent.now) }
     requires most { room.old.rules ≤ 2000 }
-    ensures { IfOk result (λ new. HasGrown (S.gives strategy.now) times tree.now (extended sequent.now antecedent.now) room.old new room.new) }
+    ensures { IfOk result (λ new.
+        HasGrown (S.gives strategy.now) times tree.now (extended sequent.now antecedent.now) room.old new room.new) }
 {
     let below = extended(alloc, sequent, antecedent)?;
     grow(tree, alloc, &below, strategy, times, room)

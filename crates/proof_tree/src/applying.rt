@@ -97,7 +97,8 @@ fn each_applies(
     sequent: &Sequent,
 ) -> Result<bool, OutOfMemory>
     requires fresh { AreFresh (antecedents_of way.now) sequent.now }
-    ensures { IfOk result (λ each. IsTrue each ↔ EachApplies trees.now antecedents.now (at_end (antecedents_of way.now) sequent.now)) }
+    ensures { IfOk result (λ each.
+        IsTrue each ↔ EachApplies trees.now antecedents.now (at_end (antecedents_of way.now) sequent.now)) }
 {
     if trees.len() != antecedents.len() {
         return Ok(false);
@@ -120,7 +121,9 @@ fn applies_below(
     sequent: &Sequent,
 ) -> Result<bool, OutOfMemory>
     requires fresh { AreFresh (antecedents_of way.now) sequent.now }
-    ensures { IfOk result (λ applies. IsTrue applies ↔ (IsFresh (at_end (antecedents_of way.now) sequent.now) antecedent.now × Applies tree.now (extended (at_end (antecedents_of way.now) sequent.now) antecedent.now))) }
+    ensures { IfOk result (λ applies.
+        IsTrue applies ↔ (IsFresh (at_end (antecedents_of way.now) sequent.now) antecedent.now
+        × Applies tree.now (extended (at_end (antecedents_of way.now) sequent.now) antecedent.now))) }
 {
     if !way.is_fresh(antecedent, sequent) {
         return Ok(false);

@@ -42,7 +42,8 @@ impl Way<'_> {
     }
 
     fn has_hypotheses(&self, wanted: &[Formula], sequent: &Sequent) -> bool
-        ensures { IsTrue result ↔ AllByRecursion (Contains (at_end (antecedents_of self.now) sequent.now).hyps) wanted.now }
+        ensures { IsTrue result
+            ↔ AllByRecursion (Contains (at_end (antecedents_of self.now) sequent.now).hyps) wanted.now }
     {
         for formula in wanted {
             if !self.has_hypothesis(formula, sequent) {
@@ -60,7 +61,8 @@ impl Way<'_> {
 
     fn has_identifiers(&self, wanted: &[(Name, Ty)], sequent: &Sequent) -> bool
         requires fresh { AreFresh (antecedents_of self.now) sequent.now }
-        ensures { IsTrue result ↔ AllByRecursion (Stands (at_end (antecedents_of self.now) sequent.now).env) wanted.now }
+        ensures { IsTrue result
+            ↔ AllByRecursion (Stands (at_end (antecedents_of self.now) sequent.now).env) wanted.now }
     {
         for identifier in wanted {
             if !self.has_identifier(&identifier.0, &identifier.1, sequent) {
@@ -85,7 +87,8 @@ impl Way<'_> {
 
     fn lacks_names(&self, identifiers: &[(Name, Ty)], sequent: &Sequent) -> bool
         requires fresh { AreFresh (antecedents_of self.now) sequent.now }
-        ensures { IsTrue result ↔ AllByRecursion (λ x. type_in (at_end (antecedents_of self.now) sequent.now).env x.0 ≡ None) identifiers.now }
+        ensures { IsTrue result ↔ AllByRecursion (λ x. type_in (at_end (antecedents_of self.now) sequent.now).env x.0
+            ≡ None) identifiers.now }
     {
         for identifier in identifiers {
             if !self.lacks(&identifier.0, sequent) {

@@ -104,7 +104,8 @@ pub(crate) fn bad_convergence(
     has_variant: bool,
     event: &RawEvent,
 ) -> Result<Option<Fault>, OutOfMemory>
-    ensures { IfOk result (λ first. first ≡ first_by_place (bad_convergence_of component.now (map (λ x. x.now) refined.now) has_variant event.now)) }
+    ensures { IfOk result (λ first. first
+        ≡ first_by_place (bad_convergence_of component.now (map (λ x. x.now) refined.now) has_variant event.now)) }
 {
     if !converges_badly(has_variant, refined, event) {
         return Ok(None);

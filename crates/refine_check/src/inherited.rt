@@ -55,7 +55,8 @@ fn add_free_of_guards(
     guards: &[Labelled],
     found: &mut Vec<Name>,
 ) -> Result<(), OutOfMemory>
-    ensures { OnOk result (found.new.items ≡ found.old.items ++ joined (map (λ g. free_names_of g.formula) guards.entry.now)) }
+    ensures { OnOk result (found.new.items
+        ≡ found.old.items ++ joined (map (λ g. free_names_of g.formula) guards.entry.now)) }
 {
     for guard in guards {
         add_free(alloc, &guard.formula, found)?;
@@ -107,7 +108,8 @@ fn add_free_of_values(
     values: &[(Name, Formula)],
     found: &mut Vec<Name>,
 ) -> Result<(), OutOfMemory>
-    ensures { OnOk result (found.new.items ≡ found.old.items ++ joined (map (λ p. free_names_of p.1) values.entry.now)) }
+    ensures { OnOk result (found.new.items
+        ≡ found.old.items ++ joined (map (λ p. free_names_of p.1) values.entry.now)) }
 {
     for value in values {
         add_free(alloc, &value.1, found)?;
@@ -133,7 +135,8 @@ fn add_all_on_right(
     actions: &[(Label, Action)],
     found: &mut Vec<Name>,
 ) -> Result<(), OutOfMemory>
-    ensures { OnOk result (found.new.items ≡ found.old.items ++ joined (map (λ a. names_on_right a.1) actions.entry.now)) }
+    ensures { OnOk result (found.new.items
+        ≡ found.old.items ++ joined (map (λ a. names_on_right a.1) actions.entry.now)) }
 {
     for action in actions {
         add_on_right(alloc, &action.1, found)?;
@@ -178,7 +181,8 @@ pub(crate) fn first_lost_in_inherited(
     event: &RawEvent,
     typed: &CheckedEvent,
 ) -> Result<Option<Fault>, OutOfMemory>
-    ensures { IfOk result (λ first. first ≡ first_by_place (lost_in_inherited component.now lost.now (event.now, typed.now))) }
+    ensures { IfOk result (λ first.
+        first ≡ first_by_place (lost_in_inherited component.now lost.now (event.now, typed.now))) }
 {
     let names = inherited_names(alloc, typed)?;
     let inherited = texts_of(alloc, &names)?;

@@ -43,7 +43,8 @@ fn add_lost<'a>(
     entries: &'a [(Name, Ty)],
     found: &mut Vec<&'a str>,
 ) -> Result<(), OutOfMemory>
-    ensures { OnOk result (texts found.new.items ≡ texts found.old.items ++ filter (λ n. is_among old.entry.now n && not (is_among own.entry.now n)) (names entries.entry.now)) }
+    ensures { OnOk result (texts found.new.items ≡ texts found.old.items
+        ++ filter (λ n. is_among old.entry.now n && not (is_among own.entry.now n)) (names entries.entry.now)) }
 {
     for entry in entries {
         if is_lost(old, own, entry.0.as_text()) {
@@ -75,7 +76,8 @@ fn first_lost_at(
     name: &Name,
     place: u32,
 ) -> Result<Option<Fault>, OutOfMemory>
-    ensures { IfOk result (λ first. first ≡ first_by_place (lost_among component.now lost.now ((name.now, place) ∷ []))) }
+    ensures { IfOk result (λ first.
+        first ≡ first_by_place (lost_among component.now lost.now ((name.now, place) ∷ []))) }
 {
     if !lost.has(name.as_text()) {
         return Ok(None);
@@ -107,7 +109,8 @@ fn first_lost<'a>(
     tree: &'a Tree,
 ) -> Result<Option<Fault>, OutOfMemory>
     ensures bound { OnOk result (texts bound.new.items ≡ texts bound.old.items) }
-    ensures first { IfOk result (λ first. first ≡ first_by_place (lost_among component.entry.now lost.entry.now (unknowns [] [] (texts bound.old.items) (bare_of tree.entry.now)))) }
+    ensures first { IfOk result (λ first. first ≡ first_by_place (lost_among component.entry.now lost.entry.now
+        (unknowns [] [] (texts bound.old.items) (bare_of tree.entry.now)))) }
 {
     match tree {
         Tree::Number(_) => Ok(None),
@@ -146,7 +149,8 @@ fn first_lost_in_all<'a>(
     parts: &'a Trees,
 ) -> Result<Option<Fault>, OutOfMemory>
     ensures bound { OnOk result (texts bound.new.items ≡ texts bound.old.items) }
-    ensures first { IfOk result (λ first. first ≡ first_by_place (lost_among component.entry.now lost.entry.now (all_unknowns [] [] (texts bound.old.items) (bares_of parts.entry.now)))) }
+    ensures first { IfOk result (λ first. first ≡ first_by_place (lost_among component.entry.now lost.entry.now
+        (all_unknowns [] [] (texts bound.old.items) (bares_of parts.entry.now)))) }
 {
     match parts {
         Trees::End => Ok(None),
@@ -169,7 +173,8 @@ fn first_lost_in_types<'a>(
     names: &'a BoundNames,
 ) -> Result<Option<Fault>, OutOfMemory>
     ensures bound { OnOk result (texts bound.new.items ≡ texts bound.old.items) }
-    ensures first { IfOk result (λ first. first ≡ first_by_place (lost_among component.entry.now lost.entry.now (type_unknowns [] [] (texts bound.old.items) (bounds_of names.entry.now)))) }
+    ensures first { IfOk result (λ first. first ≡ first_by_place (lost_among component.entry.now lost.entry.now
+        (type_unknowns [] [] (texts bound.old.items) (bounds_of names.entry.now)))) }
 {
     match names {
         BoundNames::End => Ok(None),
@@ -217,7 +222,8 @@ fn first_lost_in_all_formulas(
     lost: &Names,
     formulas: &[Raw],
 ) -> Result<Option<Fault>, OutOfMemory>
-    ensures { IfOk result (λ first. first ≡ first_by_place (joined (map (λ f. lost_among component.now lost.now (names_in f)) formulas.now))) }
+    ensures { IfOk result (λ first.
+        first ≡ first_by_place (joined (map (λ f. lost_among component.now lost.now (names_in f)) formulas.now))) }
 {
     let mut first = None;
     for formula in formulas {
@@ -233,7 +239,8 @@ fn first_lost_target(
     lost: &Names,
     targets: &[Ref],
 ) -> Result<Option<Fault>, OutOfMemory>
-    ensures { IfOk result (λ first. first ≡ first_by_place (joined (map (λ r. lost_among component.now lost.now (used_at r ∷ [])) targets.now))) }
+    ensures { IfOk result (λ first.
+        first ≡ first_by_place (joined (map (λ r. lost_among component.now lost.now (used_at r ∷ [])) targets.now))) }
 {
     let mut first = None;
     for target in targets {
@@ -249,7 +256,8 @@ fn first_lost_in_action(
     lost: &Names,
     action: &RawAction,
 ) -> Result<Option<Fault>, OutOfMemory>
-    ensures { IfOk result (λ first. first ≡ first_by_place (lost_among component.now lost.now (unknowns_of [] (core_action action.now)))) }
+    ensures { IfOk result (λ first.
+        first ≡ first_by_place (lost_among component.now lost.now (unknowns_of [] (core_action action.now)))) }
 {
     match action {
         RawAction::Assign(targets, values) => {
@@ -282,7 +290,8 @@ fn first_lost_in_guards(
     lost: &Names,
     guards: &[RawLabelled],
 ) -> Result<Option<Fault>, OutOfMemory>
-    ensures { IfOk result (λ first. first ≡ first_by_place (joined (map (λ g. lost_among component.now lost.now (names_in g.formula)) guards.now))) }
+    ensures { IfOk result (λ first. first
+        ≡ first_by_place (joined (map (λ g. lost_among component.now lost.now (names_in g.formula)) guards.now))) }
 {
     let mut first = None;
     for guard in guards {
@@ -298,7 +307,8 @@ fn first_lost_in_actions(
     lost: &Names,
     actions: &[RawStep],
 ) -> Result<Option<Fault>, OutOfMemory>
-    ensures { IfOk result (λ first. first ≡ first_by_place (joined (map (λ s. lost_among component.now lost.now (unknowns_of [] (core_action s.action))) actions.now))) }
+    ensures { IfOk result (λ first. first ≡ first_by_place
+        (joined (map (λ s. lost_among component.now lost.now (unknowns_of [] (core_action s.action))) actions.now))) }
 {
     let mut first = None;
     for step in actions {

@@ -26,7 +26,8 @@ fn add_found<'r, 'e>(
     references: &'r [Ref],
     found: &mut Vec<Found<'r, 'e>>,
 ) -> Result<(), OutOfMemory>
-    ensures { OnOk result (found_at found.new.items ≡ found_at found.old.items ++ filter_map (with_event events.now) references.entry.now) }
+    ensures { OnOk result (found_at found.new.items
+        ≡ found_at found.old.items ++ filter_map (with_event events.now) references.entry.now) }
 {
     for reference in references {
         if let Some(event) = events.event_named(reference.name.as_text()) {
@@ -38,7 +39,8 @@ fn add_found<'r, 'e>(
 
 /// The first of the merged events.
 fn first_of<'e>(before: &[Found<'_, 'e>], event: &'e CheckedEvent) -> &'e CheckedEvent
-    ensures { (reference : Reference) → first_actions (found_at before.now) (reference, event.now) ≡ without_labels result.now.actions }
+    ensures { (reference : Reference)
+        → first_actions (found_at before.now) (reference, event.now) ≡ without_labels result.now.actions }
 {
     match before.first() {
         Some(found) => found.1,
@@ -47,7 +49,8 @@ fn first_of<'e>(before: &[Found<'_, 'e>], event: &'e CheckedEvent) -> &'e Checke
 }
 
 fn have_same_actions(before: &[Found], event: &CheckedEvent) -> bool
-    ensures { (reference : Reference) → result ≡ same_actions (first_actions (found_at before.now) (reference, event.now)) (without_labels event.now.actions) }
+    ensures { (reference : Reference) → result
+        ≡ same_actions (first_actions (found_at before.now) (reference, event.now)) (without_labels event.now.actions) }
 {
     let first = first_of(before, event);
     same_labelled_actions(first.actions.items(), event.actions.items())
@@ -87,7 +90,8 @@ fn difference_at(
     event: &CheckedEvent,
 ) -> Result<Option<Fault>, OutOfMemory>
     requires { HasTypesOf types.now (found_at before.now) }
-    ensures { IfOk result (λ here. here ≡ first_by_place (merged_differ_row component.now kept.now (found_at before.now) (reference.now, event.now))) }
+    ensures { IfOk result (λ here. here
+        ≡ first_by_place (merged_differ_row component.now kept.now (found_at before.now) (reference.now, event.now))) }
 {
     if !differs(kept, before, types, event) {
         return Ok(None);
@@ -108,7 +112,8 @@ fn first_difference_of(
     kept: &Names,
     found: &[Found],
 ) -> Result<Option<Fault>, OutOfMemory>
-    ensures { IfOk result (λ first. first ≡ first_by_place (at_each (merged_differ_row component.now kept.now) [] (found_at found.now))) }
+    ensures { IfOk result (λ first.
+        first ≡ first_by_place (at_each (merged_differ_row component.now kept.now) [] (found_at found.now))) }
 {
     let mut first = None;
     let mut types = BTreeMap::new(alloc);
@@ -130,7 +135,8 @@ pub(crate) fn first_difference(
     kept: &Names,
     event: &RawEvent,
 ) -> Result<Option<Fault>, OutOfMemory>
-    ensures { IfOk result (λ first. first ≡ first_by_place (merged_differ_of component.now events.now kept.now event.now)) }
+    ensures { IfOk result (λ first.
+        first ≡ first_by_place (merged_differ_of component.now events.now kept.now event.now)) }
 {
     let references = event.refines.items();
     if references.len() < 2 {

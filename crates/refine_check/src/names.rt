@@ -85,7 +85,8 @@ fn text_at<'a>(list: &[&'a str], place: Option<usize>) -> Option<&'a str>
 
 /// The first place of each name: they are noted from the last to the first.
 fn places_of<'a>(alloc: Global, list: &[&'a str]) -> Result<BTreeMap<&'a str, usize>, OutOfMemory>
-    ensures { IfOk result (λ places. (name : List ℕ) → place_in places name ≡ first_place (bytes_eq name) (texts list.now)) }
+    ensures { IfOk result (λ places. (name : List ℕ)
+        → place_in places name ≡ first_place (bytes_eq name) (texts list.now)) }
 {
     let mut places = BTreeMap::new(alloc);
     for place in (0..list.len()).rev() {

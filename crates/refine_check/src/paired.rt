@@ -33,7 +33,8 @@ fn no_abstract_event_at(
     event: &RawEvent,
     reference: &Ref,
 ) -> Result<Option<Fault>, OutOfMemory>
-    ensures { IfOk result (λ here. here ≡ first_by_place (no_abstract_event_row component.now events.now event.now reference.now)) }
+    ensures { IfOk result (λ here.
+        here ≡ first_by_place (no_abstract_event_row component.now events.now event.now reference.now)) }
 {
     if is_abstract_event(events, event, reference) {
         return Ok(None);

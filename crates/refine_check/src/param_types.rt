@@ -22,7 +22,8 @@ pub(crate) type Types<'a> = BTreeMap<&'a str, Known<'a>>;
 
 #[tactic(auto, using(crate::proofs::OtherTypes::known_same, crate::proofs::OtherTypes::known_apart))]
 fn with_type<'a>(known: Option<&Known<'a>>, ty: &'a Ty) -> Known<'a>
-    ensures { (t : Ty) → is_other (Some result) t ≡ (is_other (option_copied known.entry) t || not (same_type ty.entry.now t)) }
+    ensures { (t : Ty)
+        → is_other (Some result) t ≡ (is_other (option_copied known.entry) t || not (same_type ty.entry.now t)) }
 {
     match known {
         None => Known::One(ty),
@@ -38,7 +39,8 @@ fn with_type<'a>(known: Option<&Known<'a>>, ty: &'a Ty) -> Known<'a>
 }
 
 fn note_type<'a>(types: &mut Types<'a>, param: &'a (Name, Ty)) -> Result<(), OutOfMemory>
-    ensures { OnOk result ((p : List ℕ × Ty) → is_other_there types.new p ≡ (is_other_there types.old p || has_other_type (param.entry.now ∷ []) p)) }
+    ensures { OnOk result ((p : List ℕ × Ty)
+        → is_other_there types.new p ≡ (is_other_there types.old p || has_other_type (param.entry.now ∷ []) p)) }
 {
     let known = with_type(types.get(param.0.as_text()), &param.1);
     types.insert(param.0.as_text(), known)?;
@@ -50,7 +52,8 @@ pub(crate) fn note_types<'a>(
     types: &mut Types<'a>,
     params: &'a [(Name, Ty)],
 ) -> Result<(), OutOfMemory>
-    ensures { OnOk result ((p : List ℕ × Ty) → is_other_there types.new p ≡ (is_other_there types.old p || has_other_type params.entry.now p)) }
+    ensures { OnOk result ((p : List ℕ × Ty)
+        → is_other_there types.new p ≡ (is_other_there types.old p || has_other_type params.entry.now p)) }
 {
     for param in params {
         note_type(types, param)?;

@@ -47,7 +47,8 @@ fn lost_variables<'a>(
     abstraction: Option<&'a CheckedMachine>,
     variables: &[Ref],
 ) -> Result<Names<'a>, OutOfMemory>
-    ensures { IfOk result (λ lost. lost ≡ option_map_or (λ m. lost_of m (names_of variables.now)) (option_copied abstraction.entry) []) }
+    ensures { IfOk result (λ lost.
+        lost ≡ option_map_or (λ m. lost_of m (names_of variables.now)) (option_copied abstraction.entry) []) }
 {
     match abstraction {
         Some(machine) => lost_of(alloc, machine, variables),
@@ -71,7 +72,8 @@ fn first_of_event(
     event: &RawEvent,
     typed: &CheckedEvent,
 ) -> Result<Option<Fault>, OutOfMemory>
-    ensures { IfOk result (λ first. first ≡ first_by_place (row_of beside.now.component.now beside.now.events.now (map (λ x. x.now) refined.now) beside.now.lost.now beside.now.has_variant (event.now, typed.now))) }
+    ensures { IfOk result (λ first. first ≡ first_by_place (row_of beside.now.component.now beside.now.events.now
+        (map (λ x. x.now) refined.now) beside.now.lost.now beside.now.has_variant (event.now, typed.now))) }
 {
     let component = beside.component;
     let kept = param_names(alloc, refined, event)?;
@@ -94,7 +96,8 @@ fn first_at_event(
     event: &RawEvent,
     typed: &CheckedEvent,
 ) -> Result<Option<Fault>, OutOfMemory>
-    ensures { IfOk result (λ first. first ≡ first_by_place (refinement_row beside.now.component.now beside.now.events.now beside.now.lost.now beside.now.has_variant (event.now, typed.now))) }
+    ensures { IfOk result (λ first. first ≡ first_by_place (refinement_row beside.now.component.now
+        beside.now.events.now beside.now.lost.now beside.now.has_variant (event.now, typed.now))) }
 {
     let refined = refined(alloc, beside.events, event)?;
     first_of_event(alloc, beside, &refined, event, typed)
@@ -106,7 +109,8 @@ fn first_in_events(
     written: &[RawEvent],
     typed: &[CheckedEvent],
 ) -> Result<Option<Fault>, OutOfMemory>
-    ensures { IfOk result (λ first. first ≡ first_by_place (joined (map (refinement_row beside.now.component.now beside.now.events.now beside.now.lost.now beside.now.has_variant) (zip written.now typed.now)))) }
+    ensures { IfOk result (λ first. first ≡ first_by_place (joined (map (refinement_row beside.now.component.now
+        beside.now.events.now beside.now.lost.now beside.now.has_variant) (zip written.now typed.now)))) }
 {
     let mut first = None;
     for (event, one) in written.iter().zip(typed.iter()) {
@@ -125,7 +129,8 @@ fn first_in_machine(
     typed: &[CheckedEvent],
 ) -> Result<Option<Fault>, OutOfMemory>
     requires { beside.now.has_variant ≡ is_some written.now }
-    ensures { IfOk result (λ first. first ≡ first_by_place (refinement_faults beside.now.component.now beside.now.events.now beside.now.lost.now written.now variant.now (zip events.now typed.now))) }
+    ensures { IfOk result (λ first. first ≡ first_by_place (refinement_faults beside.now.component.now
+        beside.now.events.now beside.now.lost.now written.now variant.now (zip events.now typed.now))) }
 {
     let component = beside.component;
     let lost = first_lost_in_variant(alloc, component, beside.lost, written)?;

@@ -50,7 +50,8 @@ fn add_lost_params(
     params: &[(Name, Ty)],
     found: &mut Vec<Text>,
 ) -> Result<(), OutOfMemory>
-    ensures { OnOk result (found.new.items ≡ found.old.items ++ filter (λ p. not (is_among kept.entry.now p)) (names params.entry.now)) }
+    ensures { OnOk result (found.new.items
+        ≡ found.old.items ++ filter (λ p. not (is_among kept.entry.now p)) (names params.entry.now)) }
 {
     for param in params {
         if !kept.has(param.0.as_text()) {
@@ -67,7 +68,8 @@ fn add_all_lost_params(
     refined: &[&CheckedEvent],
     found: &mut Vec<Text>,
 ) -> Result<(), OutOfMemory>
-    ensures { OnOk result (found.new.items ≡ found.old.items ++ lost_param_names kept.entry.now (map (λ x. x.now) refined.entry.now)) }
+    ensures { OnOk result (found.new.items
+        ≡ found.old.items ++ lost_param_names kept.entry.now (map (λ x. x.now) refined.entry.now)) }
 {
     for event in refined {
         add_lost_params(alloc, kept, event.params.items(), found)?;
@@ -83,7 +85,8 @@ fn add_needed_params(
     event: &RawEvent,
     found: &mut Vec<Text>,
 ) -> Result<(), OutOfMemory>
-    ensures { OnOk result (found.new.items ≡ found.old.items ++ needed_params_of (map (λ x. x.now) refined.entry.now) kept.entry.now event.entry.now) }
+    ensures { OnOk result (found.new.items
+        ≡ found.old.items ++ needed_params_of (map (λ x. x.now) refined.entry.now) kept.entry.now event.entry.now) }
 {
     if event.refines.items().len() != 1 || event.extended {
         return Ok(());
@@ -109,7 +112,8 @@ fn add_all_chosen<'a>(
     actions: &'a [(Label, Action)],
     found: &mut Vec<&'a str>,
 ) -> Result<(), OutOfMemory>
-    ensures { OnOk result (texts found.new.items ≡ texts found.old.items ++ all_chosen (without_labels actions.entry.now)) }
+    ensures { OnOk result (texts found.new.items
+        ≡ texts found.old.items ++ all_chosen (without_labels actions.entry.now)) }
 {
     for action in actions {
         add_chosen(&action.1, found)?;
@@ -146,7 +150,8 @@ fn add_primed(
     chosen: &[&str],
     found: &mut Vec<Text>,
 ) -> Result<(), OutOfMemory>
-    ensures { OnOk result (found.new.items ≡ found.old.items ++ map primed (filter (is_among lost.entry.now) (texts chosen.entry.now))) }
+    ensures { OnOk result (found.new.items
+        ≡ found.old.items ++ map primed (filter (is_among lost.entry.now) (texts chosen.entry.now))) }
 {
     for name in chosen {
         if lost.has(name) {
@@ -183,7 +188,8 @@ fn missing_at(
     labels: &Names,
     name: &Text,
 ) -> Result<Option<Fault>, OutOfMemory>
-    ensures { IfOk result (λ here. here ≡ first_by_place (missing_witness_row component.now place labels.now [] name.now)) }
+    ensures { IfOk result (λ here.
+        here ≡ first_by_place (missing_witness_row component.now place labels.now [] name.now)) }
 {
     if labels.has(name.as_text()) {
         return Ok(None);
@@ -206,7 +212,8 @@ fn first_missing(
     labels: &Names,
     needed: &[Text],
 ) -> Result<Option<Fault>, OutOfMemory>
-    ensures { IfOk result (λ first. first ≡ first_by_place (joined (map (missing_witness_row component.now place labels.now []) needed.now))) }
+    ensures { IfOk result (λ first.
+        first ≡ first_by_place (joined (map (missing_witness_row component.now place labels.now []) needed.now))) }
 {
     let mut first = None;
     for name in needed {
@@ -229,7 +236,8 @@ fn unwitnessed<'a>(
     labels: &Names,
     chosen: &[&'a str],
 ) -> Result<Vec<&'a str>, OutOfMemory>
-    ensures { IfOk result (λ found. texts found.items ≡ filter (λ n. not (is_among labels.now (primed n))) (texts chosen.now)) }
+    ensures { IfOk result (λ found.
+        texts found.items ≡ filter (λ n. not (is_among labels.now (primed n))) (texts chosen.now)) }
 {
     let mut found = Vec::new(alloc);
     for name in chosen {
@@ -246,7 +254,8 @@ fn told_missing(
     place: u32,
     name: Option<&str>,
 ) -> Result<Option<Fault>, OutOfMemory>
-    ensures { IfOk result (λ here. here ≡ option_map (λ n. fault_at component.now kind.BadWitness place (primed n.now)) name.entry) }
+    ensures { IfOk result (λ here.
+        here ≡ option_map (λ n. fault_at component.now kind.BadWitness place (primed n.now)) name.entry) }
 {
     match name {
         None => Ok(None),
@@ -273,7 +282,9 @@ fn first_missing_primed(
     lost: &Names,
     chosen: &[&str],
 ) -> Result<Option<Fault>, OutOfMemory>
-    ensures { IfOk result (λ first. first ≡ first_by_place (joined (map (missing_witness_row component.now place labels.now []) (map primed (filter (is_among (texts chosen.now)) lost.now))))) }
+    ensures { IfOk result (λ first.
+        first ≡ first_by_place (joined (map (missing_witness_row component.now place labels.now [])
+        (map primed (filter (is_among (texts chosen.now)) lost.now))))) }
 {
     let without = unwitnessed(alloc, labels, chosen)?;
     let first = lost.first_among(&without);
@@ -286,7 +297,8 @@ fn superfluous_at(
     needed: &Names,
     witness: &RawLabelled,
 ) -> Result<Option<Fault>, OutOfMemory>
-    ensures { IfOk result (λ here. here ≡ first_by_place (superfluous_witness_row component.now needed.now [] witness.now)) }
+    ensures { IfOk result (λ here.
+        here ≡ first_by_place (superfluous_witness_row component.now needed.now [] witness.now)) }
 {
     if needed.has(witness.label.as_text()) {
         return Ok(None);
@@ -309,7 +321,8 @@ fn first_superfluous(
     needed: &Names,
     witnesses: &[RawLabelled],
 ) -> Result<Option<Fault>, OutOfMemory>
-    ensures { IfOk result (λ first. first ≡ first_by_place (joined (map (superfluous_witness_row component.now needed.now []) witnesses.now))) }
+    ensures { IfOk result (λ first.
+        first ≡ first_by_place (joined (map (superfluous_witness_row component.now needed.now []) witnesses.now))) }
 {
     let mut first = None;
     for witness in witnesses {
@@ -328,7 +341,8 @@ pub(crate) fn first_bad_witness(
     refined: &[&CheckedEvent],
     event: &RawEvent,
 ) -> Result<Option<Fault>, OutOfMemory>
-    ensures { IfOk result (λ first. first ≡ first_by_place (bad_witnesses_of component.now (needed_of (map (λ x. x.now) refined.now) kept.now lost.now event.now) event.now)) }
+    ensures { IfOk result (λ first. first ≡ first_by_place (bad_witnesses_of component.now
+        (needed_of (map (λ x. x.now) refined.now) kept.now lost.now event.now) event.now)) }
 {
     let place = event.name.place;
     let witnesses = event.witnesses.items();

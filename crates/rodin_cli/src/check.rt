@@ -46,7 +46,8 @@ struct Shown {
 fn ask<L: Ledger>(session: &mut Session, steps: &mut Steps<L>) -> Result<Shown, OutOfMemory>
     ensures whole { IfOk result (λ shown. (x : Exchange) × (y : Exchange)
         × (x.event ≡ Event.Ask Question.Faults) × (x.reply ≡ Reply.Faults shown.faults shown.warnings)
-        × (y.event ≡ Event.Ask Question.Statuses) × (y.reply ≡ Reply.Statuses shown.statuses) × Extends session.old (x ∷ y ∷ []) session.new) }
+        × (y.event ≡ Event.Ask Question.Statuses)
+        × (y.reply ≡ Reply.Statuses shown.statuses) × Extends session.old (x ∷ y ∷ []) session.new) }
     ensures front { OnErr result (IsUnchanged session.old session.new
         ⊎ ((x : Exchange) × (x.event ≡ Event.Ask Question.Faults) × Extends session.old (x ∷ []) session.new)) }
 {
@@ -77,7 +78,8 @@ fn play<L: Ledger, P: Prover>(
     ensures whole { IfOk result (λ played. MatchOption played
         ((exchanges : List Exchange) × IsFullScript parts.items exchanges × Extends session.old exchanges session.new)
         (λ shown. (exchanges : List Exchange)
-        × IsWholeScript (P.answers prover.now) (P.sure prover.now) parts.items shown.faults shown.warnings shown.statuses exchanges
+        × IsWholeScript
+        (P.answers prover.now) (P.sure prover.now) parts.items shown.faults shown.warnings shown.statuses exchanges
         × IsLegal exchanges × IsComplete (P.sure prover.now) session.new.core.durable exchanges
         × Extends session.old exchanges session.new)) }
     ensures front { OnErr result ((exchanges : List Exchange)
@@ -124,7 +126,8 @@ pub fn no_part(alloc: Global, status: u8) -> Part
 
 /// Writes the last line, as far as the sink takes it.
 pub fn write_last<O: Sink>(output: &mut O, line: &[u8])
-    ensures { WritesOrFails (writing (O.written output.old) (O.written output.new) (O.faults output.old) (O.faults output.new)) line.now }
+    ensures { WritesOrFails
+        (writing (O.written output.old) (O.written output.new) (O.faults output.old) (O.faults output.new)) line.now }
 {
     match write_text(output, line) {
         Ok(()) => {}
@@ -186,7 +189,8 @@ fn check_parts<L: Ledger, O: Sink, P: Prover>(
     requires name { blank.name ≡ L.name }
     requires parts { blank.parts ≡ L.parts }
     requires some { 0 < blank.parts }
-    ensures { (bytes : List ℕ) → IsInput bytes (Ok parts.items) → ComesOf (P.answers prover.now) (P.sure prover.now) bytes
+    ensures { (bytes : List ℕ) → IsInput bytes (Ok parts.items)
+        → ComesOf (P.answers prover.now) (P.sure prover.now) bytes
         (writing (O.written output.old) (O.written output.new) (O.faults output.old) (O.faults output.new)) result }
 {
     enters_all();

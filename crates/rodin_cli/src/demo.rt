@@ -111,7 +111,8 @@ fn statuses<L: Ledger>(
     session: &mut Session,
     steps: &mut Steps<L>,
 ) -> Result<List<(PoName, Status, Option<Origin>)>, OutOfMemory>
-    ensures asked { IfOk result (λ shown. (x : Exchange) × (x.event ≡ Event.Ask Question.Statuses) × (x.reply ≡ Reply.Statuses shown)
+    ensures asked { IfOk result (λ shown.
+        (x : Exchange) × (x.event ≡ Event.Ask Question.Statuses) × (x.reply ≡ Reply.Statuses shown)
         × Extends session.old (x ∷ []) session.new) }
     ensures same { OnErr result (IsUnchanged session.old session.new) }
 {
@@ -134,8 +135,10 @@ fn count<L: Ledger, P: Prover>(
     requires out { session.old.core.out ≡ [] }
     requires number { session.old.core.next ≤ 8388609 }
     ensures whole { IfOk result (λ played. MatchOption played
-        ((exchanges : List Exchange) × IsFullScript (edited_in round) exchanges × Extends session.old exchanges session.new)
-        (λ counted. (exchanges : List Exchange) × Counts (P.answers prover.now) (P.sure prover.now) round counted exchanges
+        ((exchanges : List Exchange)
+        × IsFullScript (edited_in round) exchanges × Extends session.old exchanges session.new)
+        (λ counted. (exchanges : List Exchange)
+        × Counts (P.answers prover.now) (P.sure prover.now) round counted exchanges
         × Extends session.old exchanges session.new)) }
     ensures front { OnErr result ((exchanges : List Exchange)
         × IsRoundFront (P.answers prover.now) (P.sure prover.now) (edited_in round) (Question.Statuses ∷ []) exchanges
@@ -168,9 +171,11 @@ fn print_line<O: Sink>(
     counted: Counted,
 ) -> Result<(), Stop>
     ensures whole { OnOk result (Writes
-        (writing (O.written output.old) (O.written output.new) (O.faults output.old) (O.faults output.new)) (line_after round counted)) }
+        (writing (O.written output.old) (O.written output.new) (O.faults output.old) (O.faults output.new))
+        (line_after round counted)) }
     ensures stopped { IfErr result (λ stop. LineStops
-        (writing (O.written output.old) (O.written output.new) (O.faults output.old) (O.faults output.new)) (line_after round counted) stop) }
+        (writing (O.written output.old) (O.written output.new) (O.faults output.old) (O.faults output.new))
+        (line_after round counted) stop) }
     ensures later { O.faults output.old ≤ O.faults output.new }
 {
     let line = match line_after(alloc, round, counted) {
@@ -197,7 +202,8 @@ fn show<L: Ledger, O: Sink, P: Prover>(
     requires number { session.old.core.next ≤ 8388609 }
     ensures shown { OnOk result (RoundShows (P.answers prover.now) (P.sure prover.now) round session.old session.new
         (writing (O.written output.old) (O.written output.new) (O.faults output.old) (O.faults output.new))) }
-    ensures stopped { IfErr result (λ stop. RoundStops (P.answers prover.now) (P.sure prover.now) round session.old session.new
+    ensures stopped { IfErr result (λ stop.
+        RoundStops (P.answers prover.now) (P.sure prover.now) round session.old session.new
         (writing (O.written output.old) (O.written output.new) (O.faults output.old) (O.faults output.new)) stop) }
     ensures later { O.faults output.old ≤ O.faults output.new }
 {
@@ -222,7 +228,8 @@ fn rounds<L: Ledger, O: Sink, P: Prover>(
     requires empty { session.old.core ≡ opened no_texts }
     ensures both { OnOk result (ReachesBoth (P.answers prover.now) (P.sure prover.now) seed n session.old session.new
         (writing (O.written output.old) (O.written output.new) (O.faults output.old) (O.faults output.new))) }
-    ensures stopped { IfErr result (λ stop. ReachesStop (P.answers prover.now) (P.sure prover.now) seed n session.old session.new
+    ensures stopped { IfErr result (λ stop.
+        ReachesStop (P.answers prover.now) (P.sure prover.now) seed n session.old session.new
         (writing (O.written output.old) (O.written output.new) (O.faults output.old) (O.faults output.new)) stop) }
     ensures later { O.faults output.old ≤ O.faults output.new }
 {
@@ -254,7 +261,8 @@ fn stop_status(stop: Stop) -> u8
 
 // Writes the last line where there is one.
 fn conclude<O: Sink>(output: &mut O, stop: Stop)
-    ensures { Concludes (writing (O.written output.old) (O.written output.new) (O.faults output.old) (O.faults output.new)) stop }
+    ensures { Concludes
+        (writing (O.written output.old) (O.written output.new) (O.faults output.old) (O.faults output.new)) stop }
 {
     match stop {
         Stop::Full => write_last(output, b"full: table\n"),

@@ -27,8 +27,10 @@ fn edit_all<L: Ledger>(
     parts: Vec<(Name, Text)>,
     steps: &mut Steps<L>,
 ) -> Result<(), OutOfMemory>
-    ensures done { OnOk result ((edits : List Exchange) × AreEdits parts.items edits × Extends session.old edits session.new) }
-    ensures front { OnErr result ((edits : List Exchange) × AreFirstEdits parts.items edits × Extends session.old edits session.new) }
+    ensures done { OnOk result ((edits : List Exchange)
+        × AreEdits parts.items edits × Extends session.old edits session.new) }
+    ensures front { OnErr result ((edits : List Exchange)
+        × AreFirstEdits parts.items edits × Extends session.old edits session.new) }
 {
     for (name, text) in parts {
         perform(session, Event::Edit(name, text), steps)?;
@@ -63,7 +65,8 @@ fn begin<L: Ledger>(
         (λ n. (edits : List Exchange) × (build : Exchange) × AreEdits parts.items edits
         × (build.event ≡ Event.Build) × (build.reply ≡ Reply.Built n.components n.faulted n.obligations)
         × Extends session.old (edits ++ build ∷ []) session.new)) }
-    ensures front { OnErr result ((edits : List Exchange) × AreFirstEdits parts.items edits × Extends session.old edits session.new) }
+    ensures front { OnErr result ((edits : List Exchange)
+        × AreFirstEdits parts.items edits × Extends session.old edits session.new) }
 {
     match edit_all(session, parts, steps) {
         Ok(()) => {}
@@ -84,8 +87,10 @@ fn turn<L: Ledger, P: Prover>(
 ) -> Result<bool, OutOfMemory>
     requires { session.old.core.next + 1 < 2 ^ 64 }
     ensures turned { IfOk result (λ more. MatchBool more
-        ((x : Exchange) × (y : Exchange) × IsTurn (P.answers prover.now) (P.sure prover.now) x y × Extends session.old (x ∷ y ∷ []) session.new)
-        ((x : Exchange) × (x.event ≡ Event.Take None) × (x.reply ≡ Reply.Nothing) × Extends session.old (x ∷ []) session.new)) }
+        ((x : Exchange) × (y : Exchange)
+        × IsTurn (P.answers prover.now) (P.sure prover.now) x y × Extends session.old (x ∷ y ∷ []) session.new)
+        ((x : Exchange)
+        × (x.event ≡ Event.Take None) × (x.reply ≡ Reply.Nothing) × Extends session.old (x ∷ []) session.new)) }
     ensures front { OnErr result ((end : List Exchange) × IsEndFront [] end × Extends session.old end session.new) }
 {
     match take(session, steps)? {
@@ -107,9 +112,11 @@ fn turns<L: Ledger, P: Prover>(
 ) -> Result<(), OutOfMemory>
     requires out { session.old.core.out ≡ [] }
     requires number { session.old.core.next ≤ 8388609 }
-    ensures whole { OnOk result ((turns : List Exchange) × (x : Exchange) × AreTurns (P.answers prover.now) (P.sure prover.now) turns
+    ensures whole { OnOk result ((turns : List Exchange)
+        × (x : Exchange) × AreTurns (P.answers prover.now) (P.sure prover.now) turns
         × (x.event ≡ Event.Take None) × (x.reply ≡ Reply.Nothing) × Extends session.old (turns ++ x ∷ []) session.new) }
-    ensures front { OnErr result ((turns : List Exchange) × (end : List Exchange) × AreTurns (P.answers prover.now) (P.sure prover.now) turns
+    ensures front { OnErr result ((turns : List Exchange)
+        × (end : List Exchange) × AreTurns (P.answers prover.now) (P.sure prover.now) turns
         × IsEndFront [] end × Extends session.old (turns ++ end) session.new) }
 {
     let obligations = session.core.builder().table().len();
@@ -133,10 +140,12 @@ pub fn work<L: Ledger, P: Prover>(
     requires number { session.old.core.next ≤ 8388609 }
     ensures whole { IfOk result (λ worked. MatchOption worked
         ((exchanges : List Exchange) × IsFullScript parts.items exchanges × Extends session.old exchanges session.new)
-        (λ n. (exchanges : List Exchange) × IsRound (P.answers prover.now) (P.sure prover.now) parts.items n [] exchanges
+        (λ n. (exchanges : List Exchange)
+        × IsRound (P.answers prover.now) (P.sure prover.now) parts.items n [] exchanges
         × Extends session.old exchanges session.new)) }
     ensures front { OnErr result ((exchanges : List Exchange)
-        × IsRoundFront (P.answers prover.now) (P.sure prover.now) parts.items [] exchanges × Extends session.old exchanges session.new) }
+        × IsRoundFront (P.answers prover.now) (P.sure prover.now) parts.items [] exchanges
+        × Extends session.old exchanges session.new) }
 {
     let numbers = match begin(session, parts, steps) {
         Ok(Some(numbers)) => numbers,

@@ -67,7 +67,8 @@ pub fn perform<L: Ledger>(
 
 // The ticket of a reply that gives one.
 fn ticket_of(reply: Reply) -> Option<Ticket>
-    ensures { MatchOption result ((ticket : Ticket) → reply ≡ Reply.Taken ticket → ⊥) (λ ticket. reply ≡ Reply.Taken ticket) }
+    ensures { MatchOption result
+        ((ticket : Ticket) → reply ≡ Reply.Taken ticket → ⊥) (λ ticket. reply ≡ Reply.Taken ticket) }
 {
     match reply {
         Reply::Taken(ticket) => Some(ticket),
@@ -100,7 +101,8 @@ pub fn finish<L: Ledger>(
     attempt: Attempt,
     steps: &mut Steps<L>,
 ) -> Result<(), OutOfMemory>
-    ensures done { OnOk result ((reply : Reply) × Performs session.old (Event.Finish number attempt) reply session.new) }
+    ensures done { OnOk result ((reply : Reply)
+        × Performs session.old (Event.Finish number attempt) reply session.new) }
     ensures err { OnErr result (IsUnchanged session.old session.new) }
 {
     match perform(session, Event::Finish(number, attempt), steps) {

@@ -71,7 +71,8 @@ fn add_names_of_antecedents(
     antecedents: &[Antecedent],
     names: &mut Vec<(Name, Ty)>,
 ) -> Result<(), OutOfMemory>
-    ensures { OnOk result (names.new.items ≡ names.old.items ++ names_in (joined (map antecedent_formulas antecedents.now))) }
+    ensures { OnOk result (names.new.items
+        ≡ names.old.items ++ names_in (joined (map antecedent_formulas antecedents.now))) }
 {
     for antecedent in antecedents {
         add_names_of_antecedent(alloc, antecedent, names)?;
@@ -179,7 +180,8 @@ pub(crate) fn used_among(
     names: &[(Name, Ty)],
     rule: &Rule,
 ) -> Result<List<(Name, Ty)>, OutOfMemory>
-    ensures { IfOk result (λ used. used ≡ in_order (filter (λ x. not (is_named (added_by (body_of rule.now)) x.0)) names.now)) }
+    ensures { IfOk result (λ used.
+        used ≡ in_order (filter (λ x. not (is_named (added_by (body_of rule.now)) x.0)) names.now)) }
 {
     let added = added_in_order(alloc, rule.antecedents.items())?;
     let sorted = in_order_without(alloc, names, &added)?;

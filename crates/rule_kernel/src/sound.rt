@@ -137,7 +137,8 @@ fn has_small_type(identifier: &(Name, Ty)) -> bool
 
 /// Whether no antecedent adds a name twice.
 fn add_distinct_names(alloc: Global, antecedents: &[Antecedent]) -> Result<bool, OutOfMemory>
-    ensures { IfOk result (λ distinct. IsTrue distinct ↔ AllByRecursion (λ a. HasDistinctNames a.idents) antecedents.now) }
+    ensures { IfOk result (λ distinct.
+        IsTrue distinct ↔ AllByRecursion (λ a. HasDistinctNames a.idents) antecedents.now) }
 {
     for antecedent in antecedents {
         if !has_distinct_names(alloc, antecedent.idents.items())? {

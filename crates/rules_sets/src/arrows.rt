@@ -249,7 +249,8 @@ fn is_total_relation(
     from: &Ty,
     to: &Ty,
 ) -> Result<Formula, OutOfMemory>
-    ensures { IfOk result (λ f. f ≡ conjunction (is_in Op.Relations r.now s.now t.now from.now to.now) (is_total r.now s.now from.now)) }
+    ensures { IfOk result (λ f.
+        f ≡ conjunction (is_in Op.Relations r.now s.now t.now from.now to.now) (is_total r.now s.now from.now)) }
 {
     let left = is_in(alloc, Op::Relations, r, s, t, from, to)?;
     let Ok(right) = is_total(alloc, r, s, from) else {
@@ -322,7 +323,8 @@ fn pair_at_in(
     at: u32,
     r: &Formula,
 ) -> Result<Formula, OutOfMemory>
-    ensures { IfOk result (λ f. f ≡ member (maplet (Formula.Bound 2 from.now) (Formula.Bound at to.now)) (shifted 3 0 r.now)) }
+    ensures { IfOk result (λ f.
+        f ≡ member (maplet (Formula.Bound 2 from.now) (Formula.Bound at to.now)) (shifted 3 0 r.now)) }
 {
     let pair = pair_at(alloc, from, to, at)?;
     let Ok(r) = r.shift(alloc, 3, 0) else {
@@ -333,7 +335,9 @@ fn pair_at_in(
 
 /// `x ↦ y ∈ r ∧ x ↦ z ∈ r` below them.
 fn lead_to_both(alloc: Global, r: &Formula, from: &Ty, to: &Ty) -> Result<Formula, OutOfMemory>
-    ensures { IfOk result (λ f. f ≡ conjunction (member (maplet (Formula.Bound 2 from.now) (Formula.Bound 1 to.now)) (shifted 3 0 r.now)) (member (maplet (Formula.Bound 2 from.now) (Formula.Bound 0 to.now)) (shifted 3 0 r.now))) }
+    ensures { IfOk result (λ f.
+        f ≡ conjunction (member (maplet (Formula.Bound 2 from.now) (Formula.Bound 1 to.now)) (shifted 3 0 r.now))
+        (member (maplet (Formula.Bound 2 from.now) (Formula.Bound 0 to.now)) (shifted 3 0 r.now))) }
 {
     let first = pair_at_in(alloc, from, to, 1, r)?;
     let Ok(second) = pair_at_in(alloc, from, to, 0, r) else {

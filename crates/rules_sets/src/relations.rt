@@ -196,7 +196,8 @@ fn kept(
     e: &Formula,
     s: &Formula,
 ) -> Result<Formula, OutOfMemory>
-    ensures { IfOk result (λ f. f ≡ conjunction (member p.now r.now) (negation (member e.now (domain s.now (type_of e.now))))) }
+    ensures { IfOk result (λ f.
+        f ≡ conjunction (member p.now r.now) (negation (member e.now (domain s.now (type_of e.now))))) }
 {
     let integer = Ty::Int;
     let inside = predicate(alloc, Op::Member, p, r)?;

@@ -46,7 +46,8 @@ fn have_value_types(entries: &[(Name, Ty)]) -> bool
 
 /// Whether each carrier set of the types stands in the environment.
 fn all_have_carriers(alloc: Global, env: &Env, entries: &[(Name, Ty)]) -> Result<bool, OutOfMemory>
-    ensures { IfOk result (λ b. IsTrue b ↔ AllByRecursion (λ x. AllByRecursion (Stands env.now) (carriers x.1)) entries.now) }
+    ensures { IfOk result (λ b.
+        IsTrue b ↔ AllByRecursion (λ x. AllByRecursion (Stands env.now) (carriers x.1)) entries.now) }
 {
     for entry in entries {
         if !has_carriers(alloc, env, &entry.1)? {

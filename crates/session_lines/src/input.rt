@@ -84,7 +84,8 @@ impl Input {
     /// Reads the first line: the command that it ends, if it ends one.
     fn read(&mut self, alloc: Global, found: Found) -> Result<Option<Command>, OutOfMemory>
         requires { IsFirstLine (unread self.old) found }
-        ensures given { IfOk result (λ read. MatchOption read (IsSameReading self.old self.new) (λ command. GivesCommand self.old command self.new)) }
+        ensures given { IfOk result (λ read.
+            MatchOption read (IsSameReading self.old self.new) (λ command. GivesCommand self.old command self.new)) }
         ensures less { OnOk result (length self.new.left < length self.old.left) }
         ensures unchanged { OnErr result (self.new ≡ self.old) }
     {
@@ -114,7 +115,8 @@ fn given(
     edit: &mut Option<OpenEdit>,
     line: &[u8],
 ) -> Result<Option<Command>, OutOfMemory>
-    ensures given { IfOk result (λ command. record { command = command; edit = seen edit.new } ≡ given line.now (seen edit.old)) }
+    ensures given { IfOk result (λ command.
+        record { command = command; edit = seen edit.new } ≡ given line.now (seen edit.old)) }
     ensures unchanged { OnErr result (seen edit.new ≡ seen edit.old) }
 {
     match edit {
@@ -134,7 +136,8 @@ fn given_outside(
     line: &[u8],
 ) -> Result<Option<Command>, OutOfMemory>
     requires { seen edit.old ≡ None }
-    ensures given { IfOk result (λ command. record { command = command; edit = seen edit.new } ≡ given_outside line.now) }
+    ensures given { IfOk result (λ command.
+        record { command = command; edit = seen edit.new } ≡ given_outside line.now) }
     ensures unchanged { OnErr result (seen edit.new ≡ seen edit.old) }
 {
     if is_skipped(line) {

@@ -85,7 +85,8 @@ pub fn take_next<R: Wait, V: EventStore>(
 
 // The ticket of a reply that gives one, or the reply.
 fn ticket_of(reply: Reply) -> Result<Ticket, Reply>
-    ensures { MatchResult result (λ ticket. reply ≡ Reply.Taken ticket) (λ other. (other ≡ reply) × ((ticket : Given) → reply ≢ Reply.Taken ticket)) }
+    ensures { MatchResult result (λ ticket. reply ≡ Reply.Taken ticket)
+        (λ other. (other ≡ reply) × ((ticket : Given) → reply ≢ Reply.Taken ticket)) }
 {
     match reply {
         Reply::Taken(ticket) => Ok(ticket),

@@ -92,7 +92,8 @@ fn answer_one<R: Wait, V: EventStore, P: Prover>(
 ) -> Result<String, Stop>
     requires { IsOf desk.now chair.old × (chair.old.number ≡ 0) }
     ensures chair { IsSameChair chair.old chair.new }
-    ensures answered { ComesOfLine (fair (P.answers _prover.now) (P.sure _prover.now)) desk.now.base (Line.One event) chair.old.seen result chair.new.seen }
+    ensures answered { ComesOfLine (fair (P.answers _prover.now) (P.sure _prover.now)) desk.now.base
+        (Line.One event) chair.old.seen result chair.new.seen }
 {
     one_answer();
     stays_orderly();
@@ -119,8 +120,10 @@ fn finish_told<R: Wait, V: EventStore, P: Prover, G: Gate>(
     requires chair { IsOf desk.now chair.old × (chair.old.number ≡ 0) }
     requires sequent { IsSequent ticket.sequent }
     ensures chair { IsSameChair chair.old chair.new }
-    ensures finished { (name : List ℕ) (old : List Logged) → AnswersUpTo (fair (P.answers prover.now) (P.sure prover.now)) desk.now.base (Line.Auto name) old (owes ticket) chair.old.seen →
-        ComesOfLine (fair (P.answers prover.now) (P.sure prover.now)) desk.now.base (Line.Auto name) old result chair.new.seen }
+    ensures finished { (name : List ℕ) (old : List Logged) → AnswersUpTo (fair
+        (P.answers prover.now) (P.sure prover.now)) desk.now.base (Line.Auto name) old (owes ticket) chair.old.seen →
+        ComesOfLine
+        (fair (P.answers prover.now) (P.sure prover.now)) desk.now.base (Line.Auto name) old result chair.new.seen }
 {
     one_answer();
     stays_orderly();
@@ -143,7 +146,8 @@ fn auto<R: Wait, V: EventStore, P: Prover, G: Gate>(
 ) -> Result<String, Stop>
     requires { IsOf desk.now chair.old × (chair.old.number ≡ 0) }
     ensures chair { IsSameChair chair.old chair.new }
-    ensures answered { ComesOfLine (fair (P.answers prover.now) (P.sure prover.now)) desk.now.base (Line.Auto name) chair.old.seen result chair.new.seen }
+    ensures answered { ComesOfLine (fair (P.answers prover.now) (P.sure prover.now)) desk.now.base
+        (Line.Auto name) chair.old.seen result chair.new.seen }
 {
     one_answer();
     stays_orderly();
@@ -169,9 +173,12 @@ fn wait_turn<R: Wait, V: EventStore, P: Prover, G: Gate>(
     requires { IsOf desk.now chair.old × (chair.old.number ≡ 0) }
     ensures chair { IsSameChair chair.old chair.new }
     ensures turned { IfOk result (λ idle. MatchBool idle
-        (GoesOn (fair (P.answers prover.now) (P.sure prover.now)) desk.now.base Line.Wait (asks (Event.Take None)) chair.old.seen (tells (reply_text (Reply.Idle true))) chair.new.seen)
-        (GoesOn (fair (P.answers prover.now) (P.sure prover.now)) desk.now.base Line.Wait (asks (Event.Take None)) chair.old.seen (asks (Event.Take None)) chair.new.seen)) }
-    ensures stopped { OnErr result (StoppedWithin (fair (P.answers prover.now) (P.sure prover.now)) desk.now.base Line.Wait (asks (Event.Take None)) chair.old.seen chair.new.seen) }
+        (GoesOn (fair (P.answers prover.now) (P.sure prover.now)) desk.now.base Line.Wait
+        (asks (Event.Take None)) chair.old.seen (tells (reply_text (Reply.Idle true))) chair.new.seen)
+        (GoesOn (fair (P.answers prover.now) (P.sure prover.now)) desk.now.base Line.Wait
+        (asks (Event.Take None)) chair.old.seen (asks (Event.Take None)) chair.new.seen)) }
+    ensures stopped { OnErr result (StoppedWithin (fair (P.answers prover.now)
+        (P.sure prover.now)) desk.now.base Line.Wait (asks (Event.Take None)) chair.old.seen chair.new.seen) }
 {
     one_answer();
     stays_orderly();
@@ -208,8 +215,10 @@ fn wait<R: Wait, V: EventStore, P: Prover, G: Gate>(
 ) -> Result<(), StoreFault>
     requires { IsOf desk.now chair.old × (chair.old.number ≡ 0) }
     ensures chair { IsSameChair chair.old chair.new }
-    ensures answered { OnOk result (AnswersUpTo (fair (P.answers prover.now) (P.sure prover.now)) desk.now.base Line.Wait chair.old.seen (tells (reply_text (Reply.Idle true))) chair.new.seen) }
-    ensures stopped { OnErr result (StoppedIn (fair (P.answers prover.now) (P.sure prover.now)) desk.now.base Line.Wait chair.old.seen chair.new.seen) }
+    ensures answered { OnOk result (AnswersUpTo (fair (P.answers prover.now) (P.sure prover.now))
+        desk.now.base Line.Wait chair.old.seen (tells (reply_text (Reply.Idle true))) chair.new.seen) }
+    ensures stopped { OnErr result (StoppedIn
+        (fair (P.answers prover.now) (P.sure prover.now)) desk.now.base Line.Wait chair.old.seen chair.new.seen) }
 {
     one_answer();
     stays_orderly();
@@ -246,7 +255,8 @@ fn answer_wait<R: Wait, V: EventStore, P: Prover, G: Gate>(
 ) -> Result<String, Stop>
     requires { IsOf desk.now chair.old × (chair.old.number ≡ 0) }
     ensures chair { IsSameChair chair.old chair.new }
-    ensures answered { ComesOfLine (fair (P.answers prover.now) (P.sure prover.now)) desk.now.base Line.Wait chair.old.seen result chair.new.seen }
+    ensures answered { ComesOfLine
+        (fair (P.answers prover.now) (P.sure prover.now)) desk.now.base Line.Wait chair.old.seen result chair.new.seen }
 {
     one_answer();
     stays_orderly();
@@ -264,7 +274,8 @@ fn answer_refused<V: EventStore, P: Prover>(
     _prover: &P,
     fault: LineFault,
 ) -> Result<String, Stop>
-    ensures { ComesOfLine (fair (P.answers _prover.now) (P.sure _prover.now)) _desk.now.base (Line.Refused fault) _chair.now.seen result _chair.now.seen }
+    ensures { ComesOfLine (fair (P.answers _prover.now) (P.sure _prover.now)) _desk.now.base
+        (Line.Refused fault) _chair.now.seen result _chair.now.seen }
 {
     one_answer();
     stays_orderly();

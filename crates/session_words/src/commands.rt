@@ -57,7 +57,8 @@ impl Commands {
 
     /// Holds the next command, where one is whole.
     fn hold(&mut self) -> Result<(), OutOfMemory>
-        ensures held { OnOk result (MatchOption self.new.held (GivesNoLine self.old self.new) (λ command. KeepsLines self.old self.new)) }
+        ensures held { OnOk result (MatchOption self.new.held (GivesNoLine self.old self.new)
+            (λ command. KeepsLines self.old self.new)) }
         ensures kept { KeepsLines self.old self.new }
     {
         if self.held.is_some() {

@@ -53,7 +53,8 @@ fn alone(line: Line, words: &[u8]) -> Line
 
 /// The text that the bytes are.
 pub fn text_of(bytes: &[u8]) -> Option<&str>
-    ensures { MatchOption result (is_utf8 bytes.now ≡ false) (λ text. (text.now ≡ bytes.now) × (is_utf8 bytes.now ≡ true)) }
+    ensures { MatchOption result
+        (is_utf8 bytes.now ≡ false) (λ text. (text.now ≡ bytes.now) × (is_utf8 bytes.now ≡ true)) }
 {
     match std::str::from_utf8(bytes) {
         Ok(text) => Some(text),
@@ -153,7 +154,8 @@ fn shown(alloc: Global, words: &[u8]) -> Result<Line, OutOfMemory>
 
 /// `tree PO`
 fn tree(alloc: Global, words: &[u8]) -> Result<Line, OutOfMemory>
-    ensures { IfOk result (λ line. line ≡ or_bad (option_map (λ name. One (event.Ask (ask.TreeOf name))) (only_po words.now))) }
+    ensures { IfOk result (λ line.
+        line ≡ or_bad (option_map (λ name. One (event.Ask (ask.TreeOf name))) (only_po words.now))) }
 {
     match only_po(alloc, words)? {
         Some(name) => Ok(Line::One(Event::Ask(Question::TreeOf(name)))),
@@ -173,7 +175,8 @@ fn auto(alloc: Global, words: &[u8]) -> Result<Line, OutOfMemory>
 
 /// `prune PO PATH`
 fn prune(alloc: Global, words: &[u8]) -> Result<Line, OutOfMemory>
-    ensures { IfOk result (λ line. line ≡ or_bad (option_map (λ node. One (event.Prune node.0 node.1)) (node_words words.now))) }
+    ensures { IfOk result (λ line.
+        line ≡ or_bad (option_map (λ node. One (event.Prune node.0 node.1)) (node_words words.now))) }
 {
     match node_of(alloc, words)? {
         Some((name, path)) => Ok(Line::One(Event::Prune(name, path))),
@@ -196,7 +199,8 @@ fn no_hint(alloc: Global) -> Hint
 
 /// `review PO PATH`
 fn review(alloc: Global, words: &[u8]) -> Result<Line, OutOfMemory>
-    ensures { IfOk result (λ line. line ≡ or_bad (option_map (λ node. One (event.Step node.0 node.1 23 no_hint)) (node_words words.now))) }
+    ensures { IfOk result (λ line.
+        line ≡ or_bad (option_map (λ node. One (event.Step node.0 node.1 23 no_hint)) (node_words words.now))) }
 {
     match node_of(alloc, words)? {
         Some((name, path)) => Ok(Line::One(Event::Step(name, path, 23, no_hint(alloc)))),

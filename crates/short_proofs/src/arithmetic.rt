@@ -52,7 +52,8 @@ fn from_nothing(alloc: Global, sequent: &Sequent) -> Result<Option<Tree>, OutOfM
 fn from_any(alloc: Global, sequent: &Sequent) -> Result<Option<Tree>, OutOfMemory>
     requires sequent { IsSequent sequent.now }
     requires small { IsSmall sequent.now }
-    ensures sure { IfOk result (λ o. IsSome o ↔ IsTrue (list_any (λ h. follows_from (as_comparison sequent.now.goal) (as_comparison h)) sequent.now.hyps)) }
+    ensures sure { IfOk result (λ o. IsSome o
+        ↔ IsTrue (list_any (λ h. follows_from (as_comparison sequent.now.goal) (as_comparison h)) sequent.now.hyps)) }
     ensures short { IfOk result (λ o. IfSome o (λ tree. IsShortProof tree sequent.now)) }
 {
     let hyps = sequent.hyps.items();
@@ -72,7 +73,8 @@ fn from_hypothesis(
     requires sequent { IsSequent sequent.now }
     requires small { IsSmall sequent.now }
     requires among { Contains sequent.now.hyps hyp.now }
-    ensures sure { IfOk result (λ o. IsSome o ↔ IsTrue (follows_from (as_comparison sequent.now.goal) (as_comparison hyp.now))) }
+    ensures sure { IfOk result (λ o.
+        IsSome o ↔ IsTrue (follows_from (as_comparison sequent.now.goal) (as_comparison hyp.now))) }
     ensures short { IfOk result (λ o. IfSome o (λ tree. IsShortProof tree sequent.now)) }
 {
     if let Some(tree) = from_multiple(alloc, sequent, hyp, 1)? {
@@ -91,7 +93,8 @@ fn from_multiple(
     requires sequent { IsSequent sequent.now }
     requires small { IsSmall sequent.now }
     requires among { Contains sequent.now.hyps hyp.now }
-    ensures sure { IfOk result (λ o. IsSome o ↔ IsTrue (is_linear_step (multiplier ∷ []) (as_comparison hyp.now ∷ []) (as_comparison sequent.now.goal))) }
+    ensures sure { IfOk result (λ o. IsSome o
+        ↔ IsTrue (is_linear_step (multiplier ∷ []) (as_comparison hyp.now ∷ []) (as_comparison sequent.now.goal))) }
     ensures short { IfOk result (λ o. IfSome o (λ tree. IsShortProof tree sequent.now)) }
 {
     let goal = read(alloc, &sequent.goal)?;
@@ -109,8 +112,11 @@ fn multiple_tree(
     goal: &Formula,
 ) -> Result<Option<Tree>, OutOfMemory>
     requires step { IsSound (kind.Linear (multiplier ∷ [])) (both goal.now (as_comparison hyp.now ∷ []) []) }
-    requires law { law_of_reading hyp.now ≢ 0 → IsSound (kind.RwHyp (law_of_reading hyp.now) []) (forward (hyp.now ∷ []) (adds (as_comparison hyp.now ∷ []) ∷ [])) }
-    ensures tree { IfOk result (λ o. o ≡ option_map (below_hyp (law_of_reading hyp.now) hyp.now (as_comparison hyp.now)) (linear_tree_if (multiplier ∷ []) (as_comparison hyp.now ∷ []) goal.now)) }
+    requires law { law_of_reading hyp.now ≢ 0
+        → IsSound (kind.RwHyp (law_of_reading hyp.now) [])
+        (forward (hyp.now ∷ []) (adds (as_comparison hyp.now ∷ []) ∷ [])) }
+    ensures tree { IfOk result (λ o. o ≡ option_map (below_hyp (law_of_reading hyp.now) hyp.now (as_comparison hyp.now))
+        (linear_tree_if (multiplier ∷ []) (as_comparison hyp.now ∷ []) goal.now)) }
 {
     let reading = read(alloc, hyp)?;
     let Some(tree) = step_from(alloc, &reading.formula, multiplier, goal)? else {
@@ -167,7 +173,8 @@ fn below_goal(
     reading: Reading,
     tree: Tree,
 ) -> Result<Tree, OutOfMemory>
-    requires sound { reading.law ≢ 0 → IsSound (kind.RwGoal reading.law []) (backward goal.now (proves reading.formula ∷ [])) }
+    requires sound { reading.law ≢ 0
+        → IsSound (kind.RwGoal reading.law []) (backward goal.now (proves reading.formula ∷ [])) }
     ensures tree { IfOk result (λ t. t ≡ below_goal reading.law goal.now reading.formula tree) }
 {
     let Reading { formula, law } = reading;
@@ -185,7 +192,8 @@ fn below_hyp(
     reading: Reading,
     tree: Tree,
 ) -> Result<Tree, OutOfMemory>
-    requires sound { reading.law ≢ 0 → IsSound (kind.RwHyp reading.law []) (forward (hyp.now ∷ []) (adds (reading.formula ∷ []) ∷ [])) }
+    requires sound { reading.law ≢ 0
+        → IsSound (kind.RwHyp reading.law []) (forward (hyp.now ∷ []) (adds (reading.formula ∷ []) ∷ [])) }
     ensures tree { IfOk result (λ t. t ≡ below_hyp reading.law hyp.now reading.formula tree) }
 {
     let Reading { formula, law } = reading;

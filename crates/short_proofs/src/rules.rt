@@ -60,7 +60,8 @@ pub(crate) fn hyp_by_law(
     new: Formula,
 ) -> Result<Rule, OutOfMemory>
     requires sound { IsSound (RuleKind.RwHyp law []) (forward (hyp.now ∷ []) (adds (new ∷ []) ∷ [])) }
-    ensures rule { IfOk result (λ r. r ≡ rule_of (RuleKind.RwHyp law []) (forward (hyp.now ∷ []) (adds (new ∷ []) ∷ []))) }
+    ensures rule { IfOk result (λ r.
+        r ≡ rule_of (RuleKind.RwHyp law []) (forward (hyp.now ∷ []) (adds (new ∷ []) ∷ []))) }
 {
     let left = one_left(alloc, adds_one(alloc, new)?)?;
     let body = forward_one(alloc, hyp, left)?;

@@ -64,7 +64,8 @@ impl Core {
     fn put_text(&self, name: &Name, text: &Text) -> Result<Prepared, OutOfMemory>
         requires short { length text.now ≤ 65536 }
         requires room { IsFullFor self.now.durable.texts name.now → ⊥ }
-        ensures { IfOk result (λ p. ComesAs self.now (λ x. x ≡ entering self.now (Reply.Edited name.now) (Entry.Put name.now text.now)) p) }
+        ensures { IfOk result (λ p.
+            ComesAs self.now (λ x. x ≡ entering self.now (Reply.Edited name.now) (Entry.Put name.now text.now)) p) }
     {
         let room = self.durable.texts.room_for(self.alloc, name)?;
         let edited = name.copy(self.alloc)?;
@@ -88,7 +89,8 @@ impl Core {
 
     // The component is dropped.
     fn drop_text(&self, told: Name, name: &Name) -> Result<Prepared, OutOfMemory>
-        ensures { IfOk result (λ p. ComesAs self.now (λ x. x ≡ entering self.now (Reply.Deleted told) (Entry.Drop name.now)) p) }
+        ensures { IfOk result (λ p.
+            ComesAs self.now (λ x. x ≡ entering self.now (Reply.Deleted told) (Entry.Drop name.now)) p) }
     {
         let name = name.copy(self.alloc)?;
         Ok(Prepared::dropping(self.alloc, Reply::Deleted(told), name))
@@ -145,7 +147,8 @@ fn names_lacking(
     proofs: &PoMap<StoredProof>,
     builder: &Builder,
 ) -> Result<Vec<PoName>, OutOfMemory>
-    ensures names { IfOk result (λ names. (table : List Obligation) → IsTableOf builder.now table → names.items ≡ lacking proofs.now table) }
+    ensures names { IfOk result (λ names. (table : List Obligation) → IsTableOf builder.now table
+        → names.items ≡ lacking proofs.now table) }
     ensures few { IfOk result (λ names. length names.items ≤ map.len proofs.now) }
 {
     let mut names = Vec::new(alloc);

@@ -72,9 +72,11 @@ impl Core {
         requires within { at < length self.now.out }
         requires name { HoldsAt (λ t. t.name ≡ name) self.now.out at }
         requires sequent { IfSome (option_copied obligation) (λ o. IsSequent o.sequent) }
-        requires status { IsPresentStatus self.now.durable.proofs name (option_map (λ o. o.sequent) (option_copied obligation)) status }
+        requires status { IsPresentStatus self.now.durable.proofs name
+            (option_map (λ o. o.sequent) (option_copied obligation)) status }
         ensures { (ticket : Ticket) → slice_get self.now.out at ≡ Some ticket →
-            IfOk result (λ p. ComesAs self.now (EndsTicket (without_at self.now at) ticket (option_map (λ o. o.sequent) (option_copied obligation.entry)) (Attempt.Found tree.now)) p) }
+            IfOk result (λ p. ComesAs self.now (EndsTicket (without_at self.now at) ticket
+            (option_map (λ o. o.sequent) (option_copied obligation.entry)) (Attempt.Found tree.now)) p) }
     {
         if let Some(facts) = facts_to_store(self.alloc, status, obligation, tree)? {
             return self.store(at, name, facts, tree);
@@ -95,7 +97,8 @@ impl Core {
     ) -> Result<Prepared, OutOfMemory>
         requires within { at < length self.now.out }
         requires facts { AreFactsOf tree.now facts }
-        ensures { IfOk result (λ p. ComesAs self.now (λ x. x ≡ entering (without_at self.now at) (Reply.Stored name (Some Status.Discharged))
+        ensures { IfOk result (λ p.
+            ComesAs self.now (λ x. x ≡ entering (without_at self.now at) (Reply.Stored name (Some Status.Discharged))
             (Entry.SetProof name (by_prover tree.now))) p) }
     {
         let held = self.hold_with(&name, facts)?;
@@ -110,7 +113,8 @@ impl Core {
     fn store_held(&self, at: usize, held: Held, tree: Tree) -> Prepared
         requires within { at < length self.now.out }
         requires held { IsHeld self.now.durable.proofs held.name tree held }
-        ensures { ComesAs self.now (λ x. x ≡ entering (without_at self.now at) (Reply.Stored held.name (Some Status.Discharged))
+        ensures { ComesAs self.now (λ x.
+            x ≡ entering (without_at self.now at) (Reply.Stored held.name (Some Status.Discharged))
             (Entry.SetProof held.name (by_prover tree))) result }
     {
         let Held {

@@ -109,7 +109,8 @@ fn add_children(
     goal: Option<&Formula>,
     lines: &mut Vec<NodeLine>,
 ) -> Result<(), OutOfMemory>
-    ensures { OnOk result (lines.new.items ≡ lines.old.items ++ lines_below 0 (map node_lines children.now) antecedents.now path.now (option_copied goal.entry)) }
+    ensures { OnOk result (lines.new.items ≡ lines.old.items
+        ++ lines_below 0 (map node_lines children.now) antecedents.now path.now (option_copied goal.entry)) }
 {
     for at in 0..children.len() {
         let child = child_path(alloc, path, at)?;

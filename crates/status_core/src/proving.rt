@@ -104,7 +104,8 @@ impl Core {
     ) -> Result<Prepared, OutOfMemory>
         requires sequent { IsSequent sequent.now }
         requires applies { Applies tree.now sequent.now }
-        ensures { IfOk result (λ p. ComesAs self.now (StepsIn self.now name.now path.now kind hint.now sequent.now tree.now) p) }
+        ensures { IfOk result (λ p.
+            ComesAs self.now (StepsIn self.now name.now path.now kind hint.now sequent.now tree.now) p) }
     {
         match leaf(tree, self.alloc, sequent, path)? {
             None => Ok(self.tell(Reply::NoLeaf)),
@@ -163,7 +164,8 @@ impl Core {
         requires sequent { IsSequent sequent.now }
         requires applies { Applies tree.now sequent.now }
         requires fits { HasLeaf path.now tree.now sequent.now (FitsAt rule) }
-        ensures { IfOk result (λ p. ComesAs self.now (Puts self.now name.now sequent.now tree.now path.now (Ok rule)) p) }
+        ensures { IfOk result (λ p.
+            ComesAs self.now (Puts self.now name.now sequent.now tree.now path.now (Ok rule)) p) }
     {
         let Ok(mut tree) = tree.copy(self.alloc) else {
             drop(rule);
@@ -211,7 +213,8 @@ impl Core {
 
     /// What is wanted for a tree with these facts to be stored under the name.
     pub(crate) fn hold_with(&self, name: &PoName, facts: Facts) -> Result<Held, OutOfMemory>
-        ensures { (tree : Tree) → AreFactsOf tree facts → IfOk result (λ held. IsHeld self.now.durable.proofs name.now tree held) }
+        ensures { (tree : Tree) → AreFactsOf tree facts
+            → IfOk result (λ held. IsHeld self.now.durable.proofs name.now tree held) }
     {
         let room = self.durable.proofs.room_for(self.alloc, name)?;
         let told = name.copy(self.alloc)?;
@@ -295,7 +298,8 @@ impl Core {
         name: &PoName,
         path: Option<&Path>,
     ) -> Result<Prepared, OutOfMemory>
-        ensures { IfOk result (λ p. Prepares self.now (Event.Ask (Question.Show name.now (option_copied path.entry))) p) }
+        ensures { IfOk result (λ p.
+            Prepares self.now (Event.Ask (Question.Show name.now (option_copied path.entry))) p) }
     {
         match self.find(name) {
             None => self.tell_none(name),
@@ -311,7 +315,8 @@ impl Core {
         path: Option<&Path>,
     ) -> Result<Prepared, OutOfMemory>
         requires { IsSequent sequent.now }
-        ensures { IfOk result (λ p. ComesAs self.now (ShowsAt self.now name.now (option_copied path.entry) sequent.now) p) }
+        ensures { IfOk result (λ p.
+            ComesAs self.now (ShowsAt self.now name.now (option_copied path.entry) sequent.now) p) }
     {
         let status = status_of(&self.durable.proofs, name, sequent);
         match self.shown_sequent(name, sequent, path)? {
@@ -330,7 +335,8 @@ impl Core {
         sequent: &Sequent,
         path: Option<&Path>,
     ) -> Result<Option<Sequent>, OutOfMemory>
-        ensures { IfOk result (λ shown. IsShownAt (stored_tree self.now.durable.proofs name.now) sequent.now (option_copied path.entry) shown) }
+        ensures { IfOk result (λ shown.
+            IsShownAt (stored_tree self.now.durable.proofs name.now) sequent.now (option_copied path.entry) shown) }
     {
         match path {
             None => Ok(Some(sequent.copy(self.alloc)?)),

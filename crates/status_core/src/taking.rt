@@ -46,7 +46,8 @@ impl Core {
 
     /// The place of the first open obligation. The next search begins there.
     pub(crate) fn find_open(&mut self) -> Option<usize>
-        ensures first { (table : List Obligation) → IsTable self.old.durable.built table → IsFirstOpen self.old table result }
+        ensures first { (table : List Obligation) → IsTable self.old.durable.built table
+            → IsFirstOpen self.old table result }
         ensures same { self.new ≡ self.old }
     {
         one_table();
@@ -78,7 +79,8 @@ impl Core {
     // A ticket for the obligation at this place goes out, if there is one.
     fn take_at(&self, found: Option<usize>) -> Result<Prepared, OutOfMemory>
         requires next { self.now.next + 1 < 2 ^ 64 }
-        requires first { (table : List Obligation) → IsTable self.now.durable.built table → IsFirstOpen self.now table found }
+        requires first { (table : List Obligation) → IsTable self.now.durable.built table
+            → IsFirstOpen self.now table found }
         ensures { IfOk result (λ p. Prepares self.now (Event.Take None) p) }
     {
         let table = self.builder.table();
@@ -103,7 +105,8 @@ impl Core {
     fn take_this(&self, obligation: &Obligation) -> Result<Prepared, OutOfMemory>
         requires next { self.now.next + 1 < 2 ^ 64 }
         requires sequent { IsSequent obligation.now.sequent }
-        ensures { IfOk result (λ p. ComesAs self.now (λ x. Where (CanTakeNamed self.now obligation.now) (x ≡ taking self.now obligation.now)
+        ensures { IfOk result (λ p.
+            ComesAs self.now (λ x. Where (CanTakeNamed self.now obligation.now) (x ≡ taking self.now obligation.now)
             (TellsNotOpen self.now obligation.now.name obligation.now.sequent x)) p) }
     {
         if is_free(&self.durable.proofs, &self.out, obligation) {

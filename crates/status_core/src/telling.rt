@@ -34,8 +34,10 @@ impl Core {
     /// The proof is stored under its name.
     pub(crate) fn keep(&self, reply: Reply, storing: Storing) -> Prepared
         requires facts { AreFactsOf storing.proof.tree storing.facts }
-        requires room { map.contains_key self.now.durable.proofs storing.name ≡ false → map.len self.now.durable.proofs < storing.room }
-        ensures { ComesAs self.now (λ x. x ≡ entering self.now reply (Entry.SetProof storing.name storing.proof)) result }
+        requires room { map.contains_key self.now.durable.proofs storing.name ≡ false
+            → map.len self.now.durable.proofs < storing.room }
+        ensures { ComesAs self.now
+            (λ x. x ≡ entering self.now reply (Entry.SetProof storing.name storing.proof)) result }
     {
         Prepared::keeping(self.alloc, reply, storing)
     }
@@ -51,7 +53,8 @@ impl Core {
     /// The ticket at the place comes in, and the proof is stored under its name.
     pub(crate) fn keep_in(&self, reply: Reply, storing: Storing, at: usize) -> Prepared
         requires facts { AreFactsOf storing.proof.tree storing.facts }
-        requires room { map.contains_key self.now.durable.proofs storing.name ≡ false → map.len self.now.durable.proofs < storing.room }
+        requires room { map.contains_key self.now.durable.proofs storing.name ≡ false
+            → map.len self.now.durable.proofs < storing.room }
         requires within { at < length self.now.out }
         ensures { ComesAs self.now
             (λ x. x ≡ entering (without_at self.now at) reply (Entry.SetProof storing.name storing.proof)) result }

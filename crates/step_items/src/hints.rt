@@ -100,7 +100,8 @@ fn only_law(alloc: Global, laws: Vec<(u8, Path)>) -> Option<(u8, Path)>
 /// The hint of these parts, unless they have two laws.
 fn hint_from(alloc: Global, parts: Parts) -> Option<Hint>
     ensures { MatchOption result (only_law parts.laws.items ≡ None)
-        (λ hint. (hint.hyps ≡ parts.hyps.items) × (hint.multipliers ≡ parts.multipliers.items) × (hint.names ≡ parts.names.items)
+        (λ hint. (hint.hyps ≡ parts.hyps.items)
+        × (hint.multipliers ≡ parts.multipliers.items) × (hint.names ≡ parts.names.items)
         × (hint.terms ≡ parts.terms.items) × (only_law parts.laws.items ≡ Some (hint.law, hint.place))) }
 {
     let Parts {

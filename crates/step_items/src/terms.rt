@@ -45,7 +45,8 @@ fn tokens_of(alloc: Global, text: &str) -> Result<Option<Vec<Token>>, OutOfMemor
 }
 
 fn expression_of(alloc: Global, text: &str, cut: &[Token]) -> Result<Option<Raw>, OutOfMemory>
-    ensures { IfOk result (λ read. MatchOption read ((t : Raw) → IsSentence hole.Expression (items_of text.now cut.now) t → ⊥)
+    ensures { IfOk result (λ read.
+        MatchOption read ((t : Raw) → IsSentence hole.Expression (items_of text.now cut.now) t → ⊥)
         (IsSentence hole.Expression (items_of text.now cut.now))) }
 {
     match expression(alloc, text, cut) {
@@ -57,7 +58,8 @@ fn expression_of(alloc: Global, text: &str, cut: &[Token]) -> Result<Option<Raw>
 }
 
 fn predicate_of(alloc: Global, text: &str, cut: &[Token]) -> Result<Option<Raw>, OutOfMemory>
-    ensures { IfOk result (λ read. MatchOption read ((t : Raw) → IsSentence hole.Predicate (items_of text.now cut.now) t → ⊥)
+    ensures { IfOk result (λ read.
+        MatchOption read ((t : Raw) → IsSentence hole.Predicate (items_of text.now cut.now) t → ⊥)
         (IsSentence hole.Predicate (items_of text.now cut.now))) }
 {
     match predicate(alloc, text, cut) {
@@ -70,7 +72,8 @@ fn predicate_of(alloc: Global, text: &str, cut: &[Token]) -> Result<Option<Raw>,
 
 /// The expression that the bytes spell.
 pub fn read_expression(alloc: Global, bytes: &[u8]) -> Result<Option<Raw>, OutOfMemory>
-    ensures { IfOk result (λ read. MatchOption read ((t : Raw) → IsTermText hole.Expression bytes.now t → ⊥) (IsTermText hole.Expression bytes.now)) }
+    ensures { IfOk result (λ read. MatchOption read ((t : Raw) → IsTermText hole.Expression bytes.now t
+        → ⊥) (IsTermText hole.Expression bytes.now)) }
 {
     let Some(text) = text_of(bytes) else {
         return Ok(None);
@@ -84,7 +87,8 @@ pub fn read_expression(alloc: Global, bytes: &[u8]) -> Result<Option<Raw>, OutOf
 
 /// The predicate that the bytes spell.
 pub fn read_predicate(alloc: Global, bytes: &[u8]) -> Result<Option<Raw>, OutOfMemory>
-    ensures { IfOk result (λ read. MatchOption read ((t : Raw) → IsTermText hole.Predicate bytes.now t → ⊥) (IsTermText hole.Predicate bytes.now)) }
+    ensures { IfOk result (λ read. MatchOption read ((t : Raw) → IsTermText hole.Predicate bytes.now t
+        → ⊥) (IsTermText hole.Predicate bytes.now)) }
 {
     let Some(text) = text_of(bytes) else {
         return Ok(None);

@@ -111,7 +111,8 @@ impl<V: Kept> Desk<V> {
     fn take_turn<R: Wait>(&self, rt: &R, seat: &mut Place<V>) -> V
         requires seat { seat.old.table_id ≡ self.now.table }
         requires rests { (seat.old.me.0.seated ≡ true) × (seat.old.me.1 ≡ []) }
-        ensures seat { IsSameSeat seat.old seat.new × (seat.new.me ≡ (at_turn seat.old.me.0 (V.log result), (0, None) ∷ [])) }
+        ensures seat { IsSameSeat seat.old seat.new
+            × (seat.new.me ≡ (at_turn seat.old.me.0 (V.log result), (0, None) ∷ [])) }
         ensures log { HasSeen V.chair_of seat.old.me.0.number seat.old.me.0.seen (V.log result) }
         ensures base { seat.old.me.0.base ≡ Some (V.base result) }
     {
@@ -158,7 +159,8 @@ impl<V: Kept> Desk<V> {
     // Gives the value back, and the turn.
     fn give_turn(&self, seat: &mut Place<V>, value: V)
         requires seat { seat.old.table_id ≡ self.now.table }
-        requires acts { (seat.old.me.0.seated ≡ true) × (seat.old.me.0.acting ≡ true) × (seat.old.me.1 ≡ (0, None) ∷ []) }
+        requires acts { (seat.old.me.0.seated ≡ true)
+            × (seat.old.me.0.acting ≡ true) × (seat.old.me.1 ≡ (0, None) ∷ []) }
         requires log { Grows V.chair_of seat.old.me.0.number seat.old.me.0.seen (V.log value) }
         requires base { seat.old.me.0.base ≡ Some (V.base value) }
         ensures seat { IsSameSeat seat.old seat.new × (seat.new.me ≡ (after_turn seat.old.me.0 (V.log value), [])) }

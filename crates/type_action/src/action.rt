@@ -73,7 +73,8 @@ fn type_value_at(
     x: &Raw,
     value: &Raw,
 ) -> Result<Action, TypeFault>
-    ensures { Tells env.now (Assign (target.now ∷ []) (overridden target.now (core_form x.now) (core_form value.now) ∷ [])) result }
+    ensures { Tells env.now
+        (Assign (target.now ∷ []) (overridden target.now (core_form x.now) (core_form value.now) ∷ [])) result }
 {
     let tree = override_at(alloc, target, x, value)?;
     assign(alloc, env, slice::from_ref(target), slice::from_ref(&tree))
@@ -94,7 +95,8 @@ fn first_unknown_in_values(
     targets: &[Ref],
     trees: &[Tree],
 ) -> Result<Option<(Name, u32)>, OutOfMemory>
-    ensures { IfOk result (λ found. found ≡ first_by_place (unknowns_of env.now (Assign targets.now (map bare_of trees.now)))) }
+    ensures { IfOk result (λ found.
+        found ≡ first_by_place (unknowns_of env.now (Assign targets.now (map bare_of trees.now)))) }
 {
     let mut found = None;
     keep_unknown_targets(alloc, env, targets, &mut found)?;
@@ -140,7 +142,8 @@ fn first_unknown(
     tree_env: &Env,
     tree: &Tree,
 ) -> Result<Option<(Name, u32)>, OutOfMemory>
-    ensures { IfOk result (λ found. found ≡ first_by_place (unknown_targets env.now targets.now ++ unknowns tree_env.now [] [] (bare_of tree.now))) }
+    ensures { IfOk result (λ found. found
+        ≡ first_by_place (unknown_targets env.now targets.now ++ unknowns tree_env.now [] [] (bare_of tree.now))) }
 {
     let mut found = None;
     keep_unknown_targets(alloc, env, targets, &mut found)?;

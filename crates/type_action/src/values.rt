@@ -48,7 +48,8 @@ pub(crate) fn keep_unknowns(
     trees: &[Tree],
     found: &mut Option<(Name, u32)>,
 ) -> Result<(), OutOfMemory>
-    ensures { OnOk result (found.new ≡ fold earlier found.old (joined (map (unknowns env.now [] []) (map bare_of trees.now)))) }
+    ensures { OnOk result (found.new
+        ≡ fold earlier found.old (joined (map (unknowns env.now [] []) (map bare_of trees.now)))) }
 {
     for tree in trees {
         keep_unknown(alloc, env, tree, found)?;
@@ -99,7 +100,8 @@ pub(crate) fn add_values(
     trees: &[Tree],
     pairs: &mut Vec<(Name, Formula)>,
 ) -> Result<(), TypeFault>
-    ensures typed { OnOk result (IsAdded (AreNewValues env.now targets.now (map bare_of trees.now)) pairs.old.items pairs.new.items) }
+    ensures typed { OnOk result (IsAdded
+        (AreNewValues env.now targets.now (map bare_of trees.now)) pairs.old.items pairs.new.items) }
     ensures fault { IfErr result (λ e. TellsFault (AreNewValues env.now targets.now (map bare_of trees.now)) e) }
 {
     match targets.split_first() {

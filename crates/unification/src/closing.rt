@@ -115,7 +115,8 @@ fn write_one(
     at: usize,
     node: &Node,
 ) -> Result<(), OutOfMemory>
-    ensures { OnOk result ((j : ℕ) → type_at types.new.items j ≡ (if j == at then closed_form types.old.items node.now else type_at types.old.items j)) }
+    ensures { OnOk result ((j : ℕ) → type_at types.new.items j
+        ≡ (if j == at then closed_form types.old.items node.now else type_at types.old.items j)) }
 {
     let ty = close_node(alloc, types, node)?;
     put(types, at, ty)

@@ -114,7 +114,8 @@ pub(crate) fn merge(
     requires graph { IsGraph nodes.old.items }
     requires inside { AreInside (vec_len nodes.old) pairs.old.items }
     ensures merged { OnOk result (Merges nodes.old.items pairs.old.items nodes.new.items) }
-    ensures refused { IsErrOf result SolveFault.NoSolution → (u : ℕ → Ty) → Holds u nodes.old.items → AllSame u pairs.old.items → ⊥ }
+    ensures refused { IsErrOf result SolveFault.NoSolution → (u : ℕ → Ty) → Holds u nodes.old.items
+        → AllSame u pairs.old.items → ⊥ }
 {
     while let Some(pair) = pairs.pop() {
         let left = root(nodes, pair.0);

@@ -92,7 +92,8 @@ fn add_node_condition(
     out: &mut Vec<Formula>,
 ) -> Result<(), OutOfMemory>
     requires { length conditions.items ≡ length parts.now }
-    ensures { OnOk result (out.new.items ≡ out.old.items ++ conjoined (operands_condition op parts.now conditions.items) (own_condition op parts.now) ∷ []) }
+    ensures { OnOk result (out.new.items ≡ out.old.items
+        ++ conjoined (operands_condition op parts.now conditions.items) (own_condition op parts.now) ∷ []) }
 {
     let operands = operands_condition(alloc, op, parts, conditions)?;
     let own = own_condition(alloc, op, parts)?;
@@ -110,7 +111,8 @@ fn add_binder_condition(
     out: &mut Vec<Formula>,
 ) -> Result<(), OutOfMemory>
     requires { length conditions.items ≡ length parts.now }
-    ensures { OnOk result (out.new.items ≡ out.old.items ++ binder_condition binder types.now parts.now conditions.items ∷ []) }
+    ensures { OnOk result (out.new.items
+        ≡ out.old.items ++ binder_condition binder types.now parts.now conditions.items ∷ []) }
 {
     out.push(binder_condition(alloc, binder, types, parts, conditions)?)?;
     Ok(())
@@ -207,7 +209,8 @@ fn guarded_below(
     l: Formula,
     m: Formula,
 ) -> Result<Formula, OutOfMemory>
-    ensures { IfOk result (λ f. f ≡ conjoined (for_every types.now (conjoined l (implied p.now m))) (quantified_condition binder types.now p.now)) }
+    ensures { IfOk result (λ f. f ≡ conjoined
+        (for_every types.now (conjoined l (implied p.now m))) (quantified_condition binder types.now p.now)) }
 {
     let second = implied(alloc, p, m)?;
     let both = conjoined(alloc, l, second)?;

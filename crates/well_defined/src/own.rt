@@ -83,7 +83,8 @@ fn not_empty(alloc: Global, s: &Formula) -> Result<Formula, OutOfMemory>
 
 /// `S ≠ ∅ ∧ (∃b·∀x·x ∈ S ⇒ low ≤ high)`, where b has the index 1 and x the index 0.
 fn has_extremum(alloc: Global, s: &Formula, low: u32, high: u32) -> Result<Formula, OutOfMemory>
-    ensures { IfOk result (λ f. f ≡ conjunction (not_empty s.now) (bounded s.now (at_most (Formula.Bound low Ty.Int) (Formula.Bound high Ty.Int)))) }
+    ensures { IfOk result (λ f. f ≡ conjunction
+        (not_empty s.now) (bounded s.now (at_most (Formula.Bound low Ty.Int) (Formula.Bound high Ty.Int)))) }
 {
     let members = not_empty(alloc, s)?;
     let compared = of_two(
