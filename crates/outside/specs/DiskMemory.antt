@@ -1,9 +1,9 @@
 -- What contracts see of a disk in memory, and when its calls fail.
-use Rattle.std.specs.Prelude.{◌⊎◌, ℕ, ◌+◌, ◌<◌, ◌≤◌, List}
+use Rattle.std.specs.Prelude.{◌⊎◌, ℕ, ◌+◌, ◌<◌, ◌≤◌, List, length}
 use Rattle.outside.specs.Cause.{counted}
 use Rattle.outside.specs.Memory.{IsListed}
-use Rattle.outside.specs.Disk.{Sides}
-use Rattle.outside.specs.DiskCalls.{Call, by_side, bytes_in, noted}
+use Rattle.outside.specs.Disk.{Sides, Elapses}
+use Rattle.outside.specs.DiskCalls.{Call, by_side, bytes_in, contents, noted, Images, Since}
 
 -- a disk in memory: the bytes of each side at first, the calls that it kept with the last of them first, how many bytes all its writes
 -- together may have, how many calls it serves, the numbers of the calls that fail, how many calls were made, and how many
@@ -21,6 +21,23 @@ pub record DiskInMemory : Type 0 where
 -- what reads gave at first
 abbrev pub first_of : DiskInMemory → Sides
 first_of disk = by_side disk.left disk.right
+
+-- what reads give
+abbrev pub bytes_now : DiskInMemory → Sides
+bytes_now disk = contents (first_of disk) disk.kept
+
+-- what a stop now may leave
+abbrev pub StopMayLeave : DiskInMemory → Sides → Type 0
+StopMayLeave disk = Images (first_of disk) disk.kept
+
+-- what a stop at some moment from this one on might have left
+abbrev pub StopMightHaveLeft : DiskInMemory → ℕ → Sides → Type 0
+StopMightHaveLeft disk = Since (first_of disk) disk.kept
+
+-- time goes on from the first of these states to the second
+abbrev pub TimePasses : DiskInMemory → DiskInMemory → Type 0
+TimePasses old new =
+    Elapses (length old.kept) (length new.kept) (StopMightHaveLeft old) (StopMightHaveLeft new) (StopMayLeave new)
 
 -- the next call has a number that is listed, or it comes past those that are served
 abbrev pub IsRefused : DiskInMemory → Type 0

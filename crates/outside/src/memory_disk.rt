@@ -2,8 +2,8 @@
 ghost use Rattle.std.specs.Prelude.{◌≡◌, ◌+◌, ◌≤◌, ◌<◌, ◌⊎◌, ◌↔◌, ◌∷◌, ◌^◌, ⊤, length, take, IfOk, IsErr, OnErr, OnOk, []};
 ghost use Rattle.std.specs.Io.{ReadsAtMost};
 ghost use Rattle.outside.specs.Cause.{HasCause};
-ghost use Rattle.outside.specs.Disk.{Sides, overwritten, Torn, TornCut, OnSide, Reads, Leaves, SameImages, Syncs, Elapses, ReadsAt};
-ghost use Rattle.outside.specs.DiskCalls.{contents, Images, Since, nothing, wrote, tore, was_cut, tore_cut, synced};
+ghost use Rattle.outside.specs.Disk.{Sides, overwritten, Torn, TornCut, OnSide, Reads, Leaves, SameImages, Syncs, ReadsAt};
+ghost use Rattle.outside.specs.DiskCalls.{Images, nothing, wrote, tore, was_cut, tore_cut, synced};
 
 use crate::calls::Calls;
 use crate::entry::Entry;
@@ -48,7 +48,7 @@ impl Model for MemoryDisk {
 impl MemoryDisk {
     ghost use Rattle.std.specs.Prelude.{ℕ};
     ghost use Rattle.outside.specs.DiskCalls.{by_side};
-    ghost use Rattle.outside.specs.DiskMemory.{DiskInMemory, first_of};
+    ghost use Rattle.outside.specs.DiskMemory.{DiskInMemory, first_of, StopMightHaveLeft};
     ghost use Rattle.outside.specs.DiskStop.{begun, left_after, IsExtreme, IsFilled};
     ghost use Rattle.outside.specs.declared.side.Side.TheVariants.{Left, Right};
 
@@ -114,8 +114,8 @@ impl MemoryDisk {
             (Images (first_of self.now) (begun call self.now.kept)) (by_side sides.0.items sides.1.items)) }
 
         // So it is one of the images of all moments since any earlier call.
-        ensures moment { (t : ℕ) → t < call
-            → IfOk result (λ sides. Since (first_of self.now) self.now.kept t (by_side sides.0.items sides.1.items)) }
+        ensures moment { (t : ℕ) → t < call → IfOk result (λ sides.
+            StopMightHaveLeft self.now t (by_side sides.0.items sides.1.items)) }
     {
         let count = self.disk.log.begun(call);
         let left = self.disk.left_on(alloc, Side::Left, count, fill, long)?;
@@ -126,17 +126,17 @@ impl MemoryDisk {
 
 impl Disk for MemoryDisk {
     ghost use Rattle.outside.specs.DiskLaws.{counts_now, only_now};
-    ghost use Rattle.outside.specs.DiskMemory.{first_of, IsRefused, LacksRoom, served, failed};
+    ghost use Rattle.outside.specs.DiskMemory.{first_of, bytes_now, StopMayLeave, StopMightHaveLeft, TimePasses, IsRefused, LacksRoom, served, failed};
 
     ghost told = { ⊤ };
 
-    ghost bytes_of = { λ d. contents (first_of d) d.kept };
+    ghost bytes_of = { bytes_now };
 
-    ghost images = { λ d. Images (first_of d) d.kept };
+    ghost images = { StopMayLeave };
 
     ghost clock = { λ d. length d.kept };
 
-    ghost moments = { λ d t. Since (first_of d) d.kept t };
+    ghost moments = { StopMightHaveLeft };
 
     ghost faults = { λ d. d.faults };
 
@@ -149,13 +149,11 @@ impl Disk for MemoryDisk {
     }
 
     fn len(&mut self, side: Side) -> Result<u64, Failed>
-        ensures len { ⊤ → IfOk result (λ n. n ≡ length (contents (first_of self.old) self.old.kept side)) }
-        ensures bytes { ⊤ → contents (first_of self.new) self.new.kept ≡ contents (first_of self.old) self.old.kept }
-        ensures images { ⊤
-            → SameImages (Images (first_of self.old) self.old.kept) (Images (first_of self.new) self.new.kept) }
-        ensures image { ⊤ → Images (first_of self.new) self.new.kept (contents (first_of self.new) self.new.kept) }
-        ensures time { ⊤ → Elapses (length self.old.kept) (length self.new.kept) (Since (first_of self.old)
-            self.old.kept) (Since (first_of self.new) self.new.kept) (Images (first_of self.new) self.new.kept) }
+        ensures len { ⊤ → IfOk result (λ n. n ≡ length (bytes_now self.old side)) }
+        ensures bytes { ⊤ → bytes_now self.new ≡ bytes_now self.old }
+        ensures images { ⊤ → SameImages (StopMayLeave self.old) (StopMayLeave self.new) }
+        ensures image { ⊤ → StopMayLeave self.new (bytes_now self.new) }
+        ensures time { ⊤ → TimePasses self.old self.new }
         ensures cause { HasCause self.old.faults self.new.faults result }
 
         // Exactly which calls fail, and what each leaves.
@@ -175,14 +173,11 @@ impl Disk for MemoryDisk {
 
     fn read_at(&mut self, side: Side, at: u64, into: &mut [u8]) -> Result<usize, Failed>
         ensures bound { ReadsAtMost result into.new }
-        ensures read { ⊤
-            → IfOk result (λ n. ReadsAt (contents (first_of self.old) self.old.kept side) at n into.old into.new) }
-        ensures bytes { ⊤ → contents (first_of self.new) self.new.kept ≡ contents (first_of self.old) self.old.kept }
-        ensures images { ⊤
-            → SameImages (Images (first_of self.old) self.old.kept) (Images (first_of self.new) self.new.kept) }
-        ensures image { ⊤ → Images (first_of self.new) self.new.kept (contents (first_of self.new) self.new.kept) }
-        ensures time { ⊤ → Elapses (length self.old.kept) (length self.new.kept) (Since (first_of self.old)
-            self.old.kept) (Since (first_of self.new) self.new.kept) (Images (first_of self.new) self.new.kept) }
+        ensures read { ⊤ → IfOk result (λ n. ReadsAt (bytes_now self.old side) at n into.old into.new) }
+        ensures bytes { ⊤ → bytes_now self.new ≡ bytes_now self.old }
+        ensures images { ⊤ → SameImages (StopMayLeave self.old) (StopMayLeave self.new) }
+        ensures image { ⊤ → StopMayLeave self.new (bytes_now self.new) }
+        ensures time { ⊤ → TimePasses self.old self.new }
         ensures cause { HasCause self.old.faults self.new.faults result }
 
         // Exactly which calls fail, and what each leaves.
@@ -202,15 +197,14 @@ impl Disk for MemoryDisk {
     }
 
     fn write_at(&mut self, side: Side, at: u64, bytes: &[u8]) -> Result<(), Failed>
-        requires within { ⊤ → at ≤ length (contents (first_of self.old) self.old.kept side) }
+        requires within { ⊤ → at ≤ length (bytes_now self.old side) }
         requires fits { at + length bytes.now < 2 ^ 64 }
-        ensures bytes { ⊤ → Reads side (overwritten at bytes.now (contents (first_of self.old) self.old.kept side))
-            result (contents (first_of self.old) self.old.kept) (contents (first_of self.new) self.new.kept) }
+        ensures bytes { ⊤ → Reads side (overwritten at bytes.now (bytes_now self.old side)) result
+            (bytes_now self.old) (bytes_now self.new) }
         ensures images { ⊤ → Leaves (OnSide side (Torn at (length bytes.now))) result
-            (Images (first_of self.old) self.old.kept) (Images (first_of self.new) self.new.kept) }
-        ensures image { ⊤ → Images (first_of self.new) self.new.kept (contents (first_of self.new) self.new.kept) }
-        ensures time { ⊤ → Elapses (length self.old.kept) (length self.new.kept) (Since (first_of self.old)
-            self.old.kept) (Since (first_of self.new) self.new.kept) (Images (first_of self.new) self.new.kept) }
+            (StopMayLeave self.old) (StopMayLeave self.new) }
+        ensures image { ⊤ → StopMayLeave self.new (bytes_now self.new) }
+        ensures time { ⊤ → TimePasses self.old self.new }
         ensures cause { HasCause self.old.faults self.new.faults result }
 
         // Exactly which calls fail, and what each leaves.
@@ -233,14 +227,13 @@ impl Disk for MemoryDisk {
     }
 
     fn cut(&mut self, side: Side, len: u64) -> Result<(), Failed>
-        requires within { ⊤ → «len» ≤ length (contents (first_of self.old) self.old.kept side) }
-        ensures bytes { ⊤ → Reads side (take «len» (contents (first_of self.old) self.old.kept side)) result
-            (contents (first_of self.old) self.old.kept) (contents (first_of self.new) self.new.kept) }
+        requires within { ⊤ → «len» ≤ length (bytes_now self.old side) }
+        ensures bytes { ⊤ → Reads side (take «len» (bytes_now self.old side)) result
+            (bytes_now self.old) (bytes_now self.new) }
         ensures images { ⊤ → Leaves (OnSide side (TornCut «len»)) result
-            (Images (first_of self.old) self.old.kept) (Images (first_of self.new) self.new.kept) }
-        ensures image { ⊤ → Images (first_of self.new) self.new.kept (contents (first_of self.new) self.new.kept) }
-        ensures time { ⊤ → Elapses (length self.old.kept) (length self.new.kept) (Since (first_of self.old)
-            self.old.kept) (Since (first_of self.new) self.new.kept) (Images (first_of self.new) self.new.kept) }
+            (StopMayLeave self.old) (StopMayLeave self.new) }
+        ensures image { ⊤ → StopMayLeave self.new (bytes_now self.new) }
+        ensures time { ⊤ → TimePasses self.old self.new }
         ensures cause { HasCause self.old.faults self.new.faults result }
 
         // Exactly which calls fail, and what each leaves.
@@ -259,12 +252,11 @@ impl Disk for MemoryDisk {
     }
 
     fn sync(&mut self, side: Side) -> Result<(), Failed>
-        ensures bytes { ⊤ → contents (first_of self.new) self.new.kept ≡ contents (first_of self.old) self.old.kept }
-        ensures images { ⊤ → Syncs side (contents (first_of self.old) self.old.kept side) result
-            (Images (first_of self.old) self.old.kept) (Images (first_of self.new) self.new.kept) }
-        ensures image { ⊤ → Images (first_of self.new) self.new.kept (contents (first_of self.new) self.new.kept) }
-        ensures time { ⊤ → Elapses (length self.old.kept) (length self.new.kept) (Since (first_of self.old)
-            self.old.kept) (Since (first_of self.new) self.new.kept) (Images (first_of self.new) self.new.kept) }
+        ensures bytes { ⊤ → bytes_now self.new ≡ bytes_now self.old }
+        ensures images { ⊤ → Syncs side (bytes_now self.old side) result
+            (StopMayLeave self.old) (StopMayLeave self.new) }
+        ensures image { ⊤ → StopMayLeave self.new (bytes_now self.new) }
+        ensures time { ⊤ → TimePasses self.old self.new }
         ensures cause { HasCause self.old.faults self.new.faults result }
 
         // Exactly which calls fail, and what each leaves.
