@@ -4,8 +4,9 @@ use Rattle.std.specs.Prelude.{Option}
 use Rattle.component_tokens.specs.declared.piece.CutFault.{CutFault}
 use Rattle.component_tokens.specs.declared.piece.CutFault.TheVariants as wrong
 use Rattle.component_tokens.proofs.OneWay.{one_cut}
+use Rattle.math_parse.proofs.Readers.{one_value}
 use Rattle.math_parse.proofs.Place.{one_tree}
-use Rattle.math_action.proofs.Place as action
+use Rattle.math_action.proofs.Place.{reads_actions}
 use Rattle.model_core.specs.declared.component.RawComponent.{RawComponent}
 use Rattle.model_core.specs.declared.fault.Fault.{Fault}
 use Rattle.model_core.specs.declared.fault.FaultKind.{FaultKind}
@@ -209,7 +210,7 @@ read_or_fault name text c f h k =
 pub one_reading : HasOneReading
 one_reading name text (Ok c) (Ok d) h k =
     let same = one_cut text 0 h.tokens k.tokens None None h.cut k.cut in
-    ap Ok (component_unique one_tree action.one_tree limits (marks_of text k.tokens) c d (subst (λ ts. IsComponent limits (marks_of text ts) c) same.0 h.sentence) k.sentence)
+    ap Ok (component_unique one_tree (one_value reads_actions) limits (marks_of text k.tokens) c d (subst (λ ts. IsComponent limits (marks_of text ts) c) same.0 h.sentence) k.sentence)
 one_reading name text (Ok c) (Err g) h k = absurd (read_or_fault name text c g h k)
 one_reading name text (Err f) (Ok d) h k = absurd (read_or_fault name text d f k h)
 one_reading name text (Err f) (Err g) h k =

@@ -1,5 +1,5 @@
 -- Each action is read.
-use Rattle.std.proofs.Common.{◌≡◌, ℕ, ◌+◌, ◌<◌, List, [], ◌∷◌, ◌++◌, Bool, true, false, cond, Option, Some, None, refl, ap, ◌∙◌, arith, length, length-append, nat_lt}
+use Rattle.std.proofs.Common.{◌≡◌, ℕ, ◌<◌, List, [], ◌∷◌, ◌++◌, Bool, true, false, cond, Option, Some, None, refl, ap, ◌∙◌, arith, length, length-append, nat_lt}
 use Rattle.std.specs.Prelude.{option_and_then, nat_eq}
 use Rattle.std.specs.Option.{option_map_or}
 use Rattle.std.proofs.lemmas.Bool.Decides.{nat_tests}
@@ -15,10 +15,11 @@ use Rattle.math_grammar.specs.Tokens.{Item}
 use Rattle.math_grammar.specs.Grammar.{Spells}
 use Rattle.math_grammar.specs.Actions.{ref, Targets, last_target, next_target, Values, last_value, next_value, SpellsAction, assigns, applies, chooses_in, chooses_such}
 use Rattle.math_parse.specs.Machine.{State, want, step, ended, is_ready}
+use Rattle.math_parse.specs.PrivateReaders.{ReadOutcome, found, refused}
 use Rattle.math_parse.proofs.Reach.{Stop, stop, reach}
 use Rattle.math_action.specs.declared.stages.Head.{Head}
 use Rattle.math_action.specs.declared.stages.Head.TheVariants as head
-use Rattle.math_action.specs.PrivateMachine.{target, named, formula, goal_of, ends_at, after_formula, whole, ActionOutcome, found, refused, action_run}
+use Rattle.math_action.specs.PrivateMachine.{target, named, formula, goal_of, ends_at, after_formula, whole, action_run}
 use Rattle.math_action.proofs.Formulas.{Separates, ready_stops, signed_ended, reads_reach, spelled_reach}
 
 pub ends_separates : (h : Head) (x : Symbol) → ends_at h x ≡ true → Separates x
@@ -28,7 +29,7 @@ ends_separates _ _ e = cc
 
 module _ (limit : Option ℕ) where
   -- what is made of a formula where it stops
-  abbrev pub after_stop : Head → Stop → ActionOutcome
+  abbrev pub after_stop : Head → Stop → ReadOutcome RawAction
   after_stop h (stop o []) = option_map_or found (option_and_then (whole h) o) (refused [])
   after_stop h (stop o (x ∷ rest)) =
       option_map_or (λ next. action_run limit next rest) (cond (ends_at h x.symbol) (after_formula h o) None) (refused (x ∷ rest))

@@ -13,7 +13,8 @@ use Rattle.math_parse.specs.declared.frames.Frame.{Frame}
 use Rattle.math_parse.specs.declared.frames.Frame.TheVariants as frame
 use Rattle.math_parse.specs.Machine.{hole_of, State, want, have, finished, attach, step, complete, ended, is_open_ended, is_ready}
 use Rattle.math_parse.proofs.Basics.{both, fits_reaches}
-use Rattle.math_parse.proofs.Sound.{ways, option_ways}
+use Rattle.math_parse.proofs.Readers.{option_ways}
+use Rattle.math_parse.proofs.Sound.{ways}
 use Rattle.math_parse.proofs.Complete.{complete_reads}
 use Rattle.math_parse.proofs.Reach.{stop, reach}
 

@@ -1,7 +1,5 @@
 pub mod Formulas
 pub mod Complete
 pub mod Sound
-pub mod Place
 pub mod Small
-pub mod Limited
-pub mod Decided
+pub mod Place

@@ -1,8 +1,7 @@
--- The place of the fault: what was read goes on to an action, and the next token doesn't.
-use Rattle.std.proofs.Common.{◌≡◌, ℕ, zero, suc, ◌+◌, ◌-◌, ◌<◌, ◌≤◌, List, [], ◌∷◌, ◌++◌, true, Option, Some, None, inl, inr, refl, ap, sym, ◌∙◌, subst, arith, length, take, drop, length-append, length-drop, take_at, append_assoc, append-nil, nat_lt}
+-- What was read goes on to an action.
+use Rattle.std.proofs.Common.{◌≡◌, ℕ, zero, suc, ◌+◌, ◌-◌, List, [], ◌∷◌, ◌++◌, true, Option, Some, None, refl, ap, sym, ◌∙◌, arith, length, length-append, append-nil, nat_lt}
 use Rattle.std.specs.Prelude.{nat_eq}
 use Rattle.std.proofs.lemmas.Bool.Decides.{nat_tests}
-use Rattle.std.proofs.Math.Seq.{take-append-add}
 use Rattle.formula_core.specs.declared.op.Op.TheVariants as op
 use Rattle.formula_core.specs.declared.raw.Raw.{Raw}
 use Rattle.formula_core.specs.declared.raw.Raw.TheVariants as raw
@@ -17,17 +16,18 @@ use Rattle.math_grammar.specs.Tokens.{Item}
 use Rattle.math_grammar.specs.Grammar.{item}
 use Rattle.math_grammar.specs.Actions.{SpellsAction}
 use Rattle.math_parse.specs.Machine.{State, want}
-use Rattle.math_parse.specs.Machine as formulas
+use Rattle.math_parse.specs.PrivateReaders.{found}
+use Rattle.math_parse.proofs.Readers.{ReadsGrammar}
 use Rattle.math_parse.proofs.Reach.{Stop, stop, reach, outcome, run_reaches}
 use Rattle.math_parse.proofs.Place as places
 use Rattle.math_parse.proofs.Sound as sounds
-use Rattle.math_action.specs.Faults.{IsUnexpectedInAction}
 use Rattle.math_action.specs.declared.stages.Head.{Head}
 use Rattle.math_action.specs.declared.stages.Head.TheVariants as head
-use Rattle.math_action.specs.PrivateMachine.{ActionState, target, formula, goal_of, action_step, action_ended, found, refused, action_run}
+use Rattle.math_action.specs.PrivateMachine.{ActionState, formula, goal_of, action_reader, action_run}
 use Rattle.math_action.proofs.Formulas.{stops_before}
 use Rattle.math_action.proofs.Complete.{after_stop, formula_run, complete_action}
-use Rattle.math_action.proofs.Sound.{Headed, assigning, Sound, wanting, holding, reading, argued, sound_step, sound_run, sound_start}
+use Rattle.math_action.proofs.Sound.{Headed, assigning, Sound, wanting, holding, reading, argued, sound_step, sound_end, sound_start}
+use Rattle.math_action.proofs.Small.{small_action_step}
 
 -- the name a
 abbrev a_word : List ℕ
@@ -39,7 +39,7 @@ a_name = item sign.Word 0 a_word
 abbrev a_truth : Item
 a_truth = item (sign.Truth op.Top) 0 []
 
-outcome_found : (z : Stop) (t : Raw) → outcome z ≡ formulas.found t → z ≡ stop (Some t) []
+outcome_found : (z : Stop) (t : Raw) → outcome z ≡ found t → z ≡ stop (Some t) []
 outcome_found (stop None []) t e = cc
 outcome_found (stop (Some u) []) t e = let same : u ≡ t = cc in ap (λ v. stop (Some v) []) same
 outcome_found (stop o (x ∷ rest)) t e = cc
@@ -110,70 +110,14 @@ module _ (limit : Option ℕ) where
   alive (reading {h} {st} hd ok) = alive_formula h st hd (completable (goal_of h) st ok)
   alive (argued {n} {p = p} {a = a} is whole_is reads fit) = (item sign.Becomes 0 [] ∷ a_name ∷ [], _, refl)
 
-  -- where the run stops: what it read leads to a state that refuses the next token, whatever follows it
-  pub record Halts (s0 : List Item) (start : ActionState) (s rest : List Item) : Type 0 where
-    pub read : List Item
-    pub whole : s ≡ read ++ rest
-    pub st : ActionState
-    pub sound : Sound limit s0 st rest
-    pub same : (more : List Item) → action_run limit start (read ++ more) ≡ action_run limit st more
-    pub refuses : (a : RawAction) (more : List Item) → action_run limit st (take 1 rest ++ more) ≡ found a → 0 < length rest → ⊥
-
-  pub halts : {s0 : List Item} (start : ActionState) (s rest : List Item) → Sound limit s0 start s → action_run limit start s ≡ refused rest → Halts s0 start s rest
-  halts {s0} start [] rest ok e =
-      let none : [] ≡ rest = elim (sounds.option_ways (action_ended start) e) [ inl w ↦ cc | inr n ↦ cc ] in
-      record { read = []; whole = none; st = start; sound = subst (λ r. Sound limit s0 start r) none ok; same = λ more. refl; refuses = λ a more _ b. absurd (omega (arith, ap length none)) }
-  halts {s0} start (x ∷ s) rest ok e =
-      elim (sounds.option_ways (action_step limit start x) e) [
-        | inl w ↦ (
-            let next : Halts s0 w.0 s rest = halts w.0 s rest (sound_step limit start x w.0 ok w.1) w.2 in
-            record {
-              read = x ∷ next.read;
-              whole = ap (λ r. x ∷ r) next.whole;
-              st = next.st;
-              sound = next.sound;
-              same = λ more. rw w.1 (next.same more);
-              refuses = next.refuses;
-            })
-        | inr n ↦ (
-            let here : x ∷ s ≡ rest = cc in
-            record {
-              read = [];
-              whole = here;
-              st = start;
-              sound = subst (λ r. Sound limit s0 start r) here ok;
-              same = λ more. refl;
-              refuses = λ a more f b. (let f' : action_run limit start (x ∷ more) ≡ found a = rw (← here) at f in let n' : action_step limit start x ≡ None = n.0 in elim (sounds.option_ways (action_step limit start x) f') [ inl v ↦ cc | inr v ↦ cc ]);
-            })
-      ]
-
-  -- an action is found
-  pub found_action : (s : List Item) (a : RawAction) → SpellsAction limit s a → action_run limit (target []) s ≡ found a
-  found_action s a r = complete_action limit r
-
-  -- what is found is an action
-  pub action_found : (s : List Item) (a : RawAction) → action_run limit (target []) s ≡ found a → SpellsAction limit s a
-  action_found s a e = sound_run limit (target []) s a (sound_start limit s) e
-
-  pub unexpected : (s : List Item) (i : ℕ) → i ≤ length s → action_run limit (target []) s ≡ refused (drop i s) → IsUnexpectedInAction limit s i
-  unexpected s i short e =
-      let stop : Halts s (target []) s (drop i s) = halts (target []) s (drop i s) (sound_start limit s) e in
-      let a : Leads stop.st = alive stop.sound in
-      let rest : length (drop i s) ≡ length s - i = length-drop i s in
-      let size : length stop.read ≡ i = omega (arith, rest, length-append stop.read (drop i s), ap length stop.whole) in
-      let front : take i s ≡ stop.read = ap (λ l. take i l) stop.whole ∙ take_at stop.read (drop i s) i size in
-      let longer : take (i + 1) s ≡ stop.read ++ take 1 (drop i s) =
-      ap (λ l. take (i + 1) l) stop.whole ∙ ap (λ n. take (n + 1) (stop.read ++ drop i s)) (sym size) ∙ take-append-add stop.read (drop i s) 1 in
-      record {
-        before = (a.0, a.1, action_found (take i s ++ a.0) a.1 (rw front (stop.same a.0 ∙ a.2)));
-        there = λ inside c. (
-            let f : action_run limit (target []) (take (i + 1) s ++ c.0) ≡ found c.1 = found_action (take (i + 1) s ++ c.0) c.1 c.2 in
-            let same : action_run limit (target []) ((stop.read ++ take 1 (drop i s)) ++ c.0) ≡ action_run limit stop.st (take 1 (drop i s) ++ c.0) =
-            ap (λ l. action_run limit (target []) l) (append_assoc stop.read (take 1 (drop i s)) c.0) ∙ stop.same (take 1 (drop i s) ++ c.0) in
-            stop.refuses c.1 c.0 (sym same ∙ ap (λ l. action_run limit (target []) (l ++ c.0)) (sym longer) ∙ f) (omega (arith, rest)));
-        at_end = λ at a sp. (let f : action_run limit (target []) s ≡ found a = found_action s a sp in cc);
-      }
-
-  -- tokens spell one action
-  pub one_tree : (s : List Item) (a b : RawAction) → SpellsAction limit s a → SpellsAction limit s b → a ≡ b
-  one_tree s a b p q = let x = found_action s a p in let y = found_action s b q in cc
+-- the reader reads the grammar
+pub reads_actions : ReadsGrammar action_reader SpellsAction
+reads_actions = record {
+  IsRight = Sound;
+  at_start = sound_start;
+  at_step = λ limit s0 rest st x new ok e. sound_step limit st x new ok e;
+  at_end = λ limit s0 st a ok e. sound_end limit st a ok e;
+  leads = λ limit s0 rest st ok. alive limit ok;
+  finds = λ limit s a k. complete_action limit k;
+  limited = small_action_step;
+}

@@ -9,18 +9,16 @@ use Rattle.math_grammar.specs.declared.symbols.Symbol.TheVariants as sign
 use Rattle.math_grammar.specs.Tokens.{Item}
 use Rattle.math_grammar.specs.Actions.{ref}
 use Rattle.math_parse.specs.Limits.{most_parts}
-use Rattle.math_parse.specs.Machine.{State, want, step, ended, is_ready}
-use Rattle.math_parse.specs.Reading.{is_full}
-use Rattle.math_parse.proofs.Small.{small, small_step}
+use Rattle.math_parse.specs.Machine.{State, want, step, ended, is_ready, is_full}
+use Rattle.math_parse.proofs.Readers.{unless_full}
+use Rattle.math_parse.proofs.Small.{small_step}
 use Rattle.math_action.specs.declared.stages.Head.{Head}
 use Rattle.math_action.specs.declared.stages.Head.TheVariants as head
-use Rattle.math_action.specs.PrivateMachine.{ActionState, target, named, formula, applied, goal_of, ends_at, begin_target, if_first, after_target, separated, after_formula, read_on, after_argument, action_step}
-use Rattle.math_action.specs.PrivateReading.{is_full_action}
+use Rattle.math_action.specs.PrivateMachine.{ActionState, target, named, formula, applied, goal_of, ends_at, begin_target, if_first, after_target, separated, after_formula, read_on, after_argument, action_step, is_full_action}
 
 -- what is left of a step within the limit
 abbrev pub small_action : Option ActionState → Option ActionState
-small_action None = None
-small_action (Some st) = cond (is_full_action st) None (Some st)
+small_action = unless_full is_full_action
 
 -- nothing is taken away
 abbrev IsLean : Option ActionState → Type 0
@@ -62,7 +60,7 @@ lean_formula : (h : Head) (o : Option Raw) → IsLean (after_formula h o)
 lean_formula h None = refl
 lean_formula h (Some e) = lean_separated h e
 
-small_read : (h : Head) (o : Option State) → read_on h (small o) ≡ small_action (read_on h o)
+small_read : (h : Head) (o : Option State) → read_on h (unless_full is_full o) ≡ small_action (read_on h o)
 small_read h None = refl
 small_read h (Some next) = go (is_full next)
   where

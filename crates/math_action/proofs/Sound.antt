@@ -1,5 +1,5 @@
 -- What is read is an action.
-use Rattle.std.proofs.Common.{◌≡◌, ℕ, ◌<◌, List, [], ◌∷◌, ◌++◌, true, ◌&&◌, Option, Some, None, inl, inr, refl, ap, sym, ◌∙◌, subst, arith, length, length-append, nat_lt}
+use Rattle.std.proofs.Common.{◌≡◌, ℕ, ◌<◌, List, [], ◌∷◌, ◌++◌, true, ◌&&◌, Option, Some, None, inl, inr, refl, sym, subst, arith, length, length-append, nat_lt}
 use Rattle.std.specs.Prelude.{IfSome, option_and_then, nat_eq}
 use Rattle.std.proofs.lemmas.Bool.Decides.{nat_tests}
 use Rattle.formula_core.specs.Names.{is_name}
@@ -22,7 +22,7 @@ use Rattle.math_parse.proofs.Sound as formulas
 use Rattle.math_action.proofs.Complete.{ends_separates}
 use Rattle.math_action.specs.declared.stages.Head.{Head}
 use Rattle.math_action.specs.declared.stages.Head.TheVariants as head
-use Rattle.math_action.specs.PrivateMachine.{ActionState, target, named, formula, applied, goal_of, ends_at, begin_target, after_target, separated, after_formula, read_on, after_argument, action_step, whole, action_ended, found, action_run}
+use Rattle.math_action.specs.PrivateMachine.{ActionState, target, named, formula, applied, goal_of, ends_at, begin_target, after_target, separated, after_formula, read_on, after_argument, action_step, whole, action_ended}
 
 module _ (limit : Option ℕ) where
   -- The tokens s0 up to m spell what stands before a formula.
@@ -157,12 +157,6 @@ module _ (limit : Option ℕ) where
   sound_end st a (wanting k first) e = cc
   sound_end st a (holding is k first) e = cc
   sound_end st a (argued is whole_is reads fit) e = cc
-
-  pub sound_run : {s0 : List Item} (st : ActionState) (rest : List Item) (a : RawAction) → Sound s0 st rest → action_run limit st rest ≡ found a → SpellsAction limit s0 a
-  sound_run st [] a ok e =
-      elim (formulas.option_ways (action_ended st) e) [ inl w ↦ (let e' : w.0 ≡ a = cc in sound_end st a ok (w.1 ∙ ap Some e')) | inr n ↦ cc ]
-  sound_run st (x ∷ rest) a ok e =
-      elim (formulas.option_ways (action_step limit st x) e) [ inl w ↦ sound_run w.0 rest a (sound_step st x w.0 ok w.1) w.2 | inr n ↦ cc ]
 
   -- before the first token
   pub sound_start : (s : List Item) → Sound s (target []) s

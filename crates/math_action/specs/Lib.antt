@@ -1,5 +1,4 @@
 pub mod PrivateMachine
 pub mod Faults
 pub mod Limits
-pub mod PrivateReading
 pub mod PrivateView

@@ -1,6 +1,5 @@
 -- The reader of actions, as a function on the tokens: the targets, and then formulas by the parser of formulas.
 use Rattle.std.specs.Prelude.{ℕ, List, [], ◌∷◌, ◌++◌, Bool, true, false, ◌&&◌, cond, nat_eq, nat_lt, length, Option, Some, None, option_and_then}
-use Rattle.std.specs.Option.{option_map_or}
 use Rattle.formula_core.specs.Names.{is_name}
 use Rattle.formula_core.specs.declared.raw.Raw.{Raw}
 use Rattle.formula_core.specs.declared.raw.Ref.{Ref}
@@ -13,7 +12,8 @@ use Rattle.math_grammar.specs.declared.symbols.Symbol.{Symbol}
 use Rattle.math_grammar.specs.declared.symbols.Symbol.TheVariants as sym
 use Rattle.math_grammar.specs.Tokens.{Item}
 use Rattle.math_grammar.specs.Actions.{ref}
-use Rattle.math_parse.specs.Machine.{State, want, step, ended, is_ready}
+use Rattle.math_parse.specs.Machine.{State, want, step, ended, is_ready, is_full}
+use Rattle.math_parse.specs.PrivateReaders.{TokenReader, ReadOutcome, outcome_by}
 use Rattle.math_action.specs.declared.stages.Head.{Head}
 use Rattle.math_action.specs.declared.stages.Head.TheVariants.{Assign, Argument, Apply, ChooseIn, ChooseSuch}
 
@@ -95,11 +95,13 @@ abbrev pub action_ended : ActionState → Option RawAction
 action_ended (formula h st) = option_and_then (whole h) (ended (goal_of h) st)
 action_ended _ = None
 
--- what comes of a list of tokens: the action, or the tokens from the first one on that isn't taken
-pub data ActionOutcome : Type 0 where
-  found : (a : RawAction) → ActionOutcome
-  refused : (rest : List Item) → ActionOutcome
+-- a part behind the last one allowed is wanted
+abbrev pub is_full_action : ActionState → Bool
+is_full_action (formula h st) = is_full st
+is_full_action _ = false
 
-abbrev pub action_run : Option ℕ → ActionState → List Item → ActionOutcome
-action_run limit st [] = option_map_or found (action_ended st) (refused [])
-action_run limit st (x ∷ rest) = option_map_or (λ after. action_run limit after rest) (action_step limit st x) (refused (x ∷ rest))
+abbrev pub action_reader : TokenReader ActionState RawAction
+action_reader = record { start = target []; step = action_step; ended = action_ended; is_full = is_full_action }
+
+abbrev pub action_run : Option ℕ → ActionState → List Item → ReadOutcome RawAction
+action_run = outcome_by action_reader

@@ -3,8 +3,10 @@
 ghost use Rattle.std.specs.Prelude.{◌≡◌, IfOk, IfErr};
 ghost use Rattle.formula_core.specs.declared.raw.RawAction.{RawAction};
 ghost use Rattle.math_grammar.specs.Tokens.{items_of};
-ghost use Rattle.math_action.specs.Limits.{IsAction, FindsAction, IsActionFault};
-ghost use Rattle.math_action.specs.PrivateReading.{is_full_action, ReadsAction};
+ghost use Rattle.math_parse.specs.Limits.{Finds};
+ghost use Rattle.math_parse.specs.PrivateReaders.{ReadsTokens};
+ghost use Rattle.math_action.specs.Limits.{IsAction, IsActionFault};
+ghost use Rattle.math_action.specs.PrivateMachine.{is_full_action, action_reader};
 ghost use Rattle.math_action.specs.PrivateView.{action_state};
 
 use crate::stages::Stage;
@@ -26,7 +28,7 @@ fn is_full_action(stage: &Stage) -> bool
 }
 
 fn read(alloc: Global, text: &str, tokens: &[Token]) -> Result<RawAction, ParseFault>
-    ensures { ReadsAction text.now tokens.now result }
+    ensures { ReadsTokens action_reader text.now tokens.now result }
 {
     let mut stage = Stage::Target(List::of(Vec::new(alloc)));
     let mut depth = 0;
@@ -58,7 +60,7 @@ pub fn action(alloc: Global, text: &str, tokens: &[Token]) -> Result<RawAction, 
     // What is found is spelled so, within the limits.
     ensures found { IfOk result (λ a. IsAction (items_of text.now tokens.now) a) }
     // What is spelled so is found, unless memory runs out.
-    ensures only { (a : RawAction) → IsAction (items_of text.now tokens.now) a → FindsAction result a }
+    ensures only { (a : RawAction) → IsAction (items_of text.now tokens.now) a → Finds result a }
     // Else the place is that of the first token that no action within the limits has there.
     ensures fault { IfErr result (λ fault. IsActionFault (items_of text.now tokens.now) fault) }
 {

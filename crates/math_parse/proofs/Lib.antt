@@ -3,9 +3,9 @@ pub mod Reach
 pub mod Complete
 pub mod Runs
 pub mod Sound
+pub mod Readers
+pub mod Small
 pub mod Place
 pub mod Words
-pub mod Decided
-pub mod Small
 pub mod Limited
 pub mod Slices

@@ -1,5 +1,5 @@
 -- The place of the fault: what was read goes on to a sentence, and the next token doesn't.
-use Rattle.std.proofs.Common.{◌≡◌, ℕ, ◌+◌, ◌-◌, ◌<◌, ◌≤◌, List, [], ◌∷◌, ◌++◌, Bool, true, false, ◌&&◌, cond, Option, Some, None, ◌⊎◌, inl, inr, refl, ap, sym, ◌∙◌, subst, arith}
+use Rattle.std.proofs.Common.{◌≡◌, ℕ, ◌<◌, ◌≤◌, List, [], ◌∷◌, ◌++◌, Bool, true, false, ◌&&◌, cond, Option, Some, None, ◌⊎◌, inl, inr, refl, ap, ◌∙◌, subst, arith}
 use Rattle.std.specs.Prelude.{nat_le}
 use Rattle.std.proofs.lemmas.Bool.{leb-true, le-leb}
 use Rattle.std.proofs.lemmas.Bool.Decides.{nat_tests}
@@ -32,14 +32,14 @@ use Rattle.math_grammar.specs.Tokens.{Item}
 use Rattle.math_grammar.specs.Grammar.{item, bound, between, type_with, lone, joined, Ends, Reads, Spells}
 use Rattle.math_parse.specs.declared.frames.Frame.{Frame}
 use Rattle.math_parse.specs.declared.frames.Frame.TheVariants as frame
-use Rattle.math_parse.specs.Machine.{hole_of, place, State, want, have, shape_want, shape_name, shape_have, name_of, body_of, finished, shape_next, closed, step, ended, found, refused, run}
-use Rattle.std.proofs.Common.{length, take, drop, length-append, length-drop, take_at, append_assoc}
-use Rattle.std.proofs.Math.Seq.{take-append-add}
-use Rattle.math_parse.specs.Faults.{IsUnexpected}
+use Rattle.math_parse.specs.Machine.{hole_of, place, State, want, have, shape_want, shape_name, shape_have, name_of, body_of, finished, shape_next, closed}
+use Rattle.math_parse.specs.PrivateReaders.{found, formula_reader, run}
 use Rattle.math_parse.proofs.Basics.{name_of-name, both, fits_reaches, rank_most, level_rank, left_most, reached, name_reaches, group_fits}
 use Rattle.math_parse.proofs.Complete.{Stops, attach_infix, suffix_closes}
 use Rattle.math_parse.proofs.Runs.{goes, ends_finished, takes_sign, complete_reads}
-use Rattle.math_parse.proofs.Sound.{NameRead, name_read, read_name, not_name, call_low, binding_low, grouped_low, prefix_low, fits_name, closed_set, ways, reads_formula, room_top, Spelled, nothing, left_side, operand, group_open, parts_so_far, suffix_open, names_so_far, type_so_far, listed_so_far, given_so_far, last_so_far, pattern_so_far, inner_so_far, pattern_type, Sound, wanting, having, word_read, pattern_wanted, pattern_named, pattern_read, sound_step, sound_run, option_ways}
+use Rattle.math_parse.proofs.Sound.{NameRead, name_read, read_name, not_name, call_low, binding_low, grouped_low, prefix_low, fits_name, closed_set, ways, reads_formula, room_top, Spelled, nothing, left_side, operand, group_open, parts_so_far, suffix_open, names_so_far, type_so_far, listed_so_far, given_so_far, last_so_far, pattern_so_far, inner_so_far, pattern_type, Sound, wanting, having, word_read, pattern_wanted, pattern_named, pattern_read, sound_step, sound_end}
+use Rattle.math_parse.proofs.Small.{small_step}
+use Rattle.math_parse.proofs.Readers.{ReadsGrammar, found_one, one_value}
 
 -- a place for predicates alone, or for expressions alone
 abbrev IsSorted : Hole → Type 0
@@ -327,70 +327,26 @@ module _ (limit : Option ℕ) where
       leads goal (shape_have (frame.Pattern inner outer q ∷ fs) a)
       (alive_shape goal (frame.Pattern inner outer q ∷ fs) refl sp a (shape_have (frame.Pattern inner outer q ∷ fs) a) (λ x rest off. refl))
 
-  -- where the run stops: what it read leads to a state that refuses the next token, whatever follows it
-  pub record Halts (goal : Hole) (s0 : List Item) (start : State) (s rest : List Item) : Type 0 where
-    pub read : List Item
-    pub whole : s ≡ read ++ rest
-    pub st : State
-    pub sound : Sound limit goal s0 st rest
-    pub same : (more : List Item) → run limit goal start (read ++ more) ≡ run limit goal st more
-    pub refuses : (t : Raw) (more : List Item) → run limit goal st (take 1 rest ++ more) ≡ found t → 0 < length rest → ⊥
-
-  pub halts : (goal : Hole) {s0 : List Item} (start : State) (s rest : List Item) → Sound limit goal s0 start s → run limit goal start s ≡ refused rest → Halts goal s0 start s rest
-  halts goal {s0} start [] rest ok e =
-      let none : [] ≡ rest = elim (option_ways (ended goal start) e) [ inl w ↦ cc | inr n ↦ cc ] in
-      record { read = []; whole = none; st = start; sound = subst (λ r. Sound limit goal s0 start r) none ok; same = λ more. refl; refuses = λ t more _ b. absurd (omega (arith, ap length none)) }
-  halts goal {s0} start (x ∷ s) rest ok e =
-      elim (option_ways (step limit goal start x) e) [
-        | inl w ↦ (
-            let next : Halts goal s0 w.0 s rest = halts goal w.0 s rest (sound_step limit goal start x w.0 ok w.1) w.2 in
-            record {
-              read = x ∷ next.read;
-              whole = ap (λ r. x ∷ r) next.whole;
-              st = next.st;
-              sound = next.sound;
-              same = λ more. rw w.1 (next.same more);
-              refuses = next.refuses;
-            })
-        | inr n ↦ (
-            let here : x ∷ s ≡ rest = cc in
-            record {
-              read = [];
-              whole = here;
-              st = start;
-              sound = subst (λ r. Sound limit goal s0 start r) here ok;
-              same = λ more. refl;
-              refuses = λ t more f b. (let f' : run limit goal start (x ∷ more) ≡ found t = rw (← here) at f in let n' : step limit goal start x ≡ None = n.0 in elim (option_ways (step limit goal start x) f') [ inl v ↦ cc | inr v ↦ cc ]);
-            })
-      ]
-
   -- a sentence is found
   pub found_sentence : (goal : Hole) (s : List Item) (t : Raw) → Spells limit goal s t → run limit goal (want []) s ≡ found t
   found_sentence goal s t r = complete_reads limit goal [] r.reads (fits_reaches goal r.g r.fit) ∙ rw r.fit
 
-  -- what is found is a sentence
-  pub sentence_found : (goal : Hole) (s : List Item) (t : Raw) → run limit goal (want []) s ≡ found t → Spells limit goal s t
-  sentence_found goal s t e = sound_run limit goal (want []) s t (wanting refl nothing) e
+-- the parser reads the grammar
+pub reads_formulas : (goal : Hole) → ReadsGrammar (formula_reader goal) (λ limit. Spells limit goal)
+reads_formulas goal = record {
+  IsRight = λ limit. Sound limit goal;
+  at_start = λ limit s. wanting refl nothing;
+  at_step = λ limit s0 rest st x new ok e. sound_step limit goal st x new ok e;
+  at_end = λ limit s0 st t ok e. sound_end limit goal st t ok e;
+  leads = λ limit s0 rest st ok. alive limit goal ok;
+  finds = λ limit. found_sentence limit goal;
+  limited = small_step goal;
+}
 
-  pub unexpected : (goal : Hole) (s : List Item) (i : ℕ) → i ≤ length s → run limit goal (want []) s ≡ refused (drop i s) → IsUnexpected limit goal s i
-  unexpected goal s i short e =
-      let stop : Halts goal s (want []) s (drop i s) = halts goal (want []) s (drop i s) (wanting refl nothing) e in
-      let a : Leads goal stop.st = alive goal stop.sound in
-      let rest : length (drop i s) ≡ length s - i = length-drop i s in
-      let size : length stop.read ≡ i = omega (arith, rest, length-append stop.read (drop i s), ap length stop.whole) in
-      let front : take i s ≡ stop.read = ap (λ l. take i l) stop.whole ∙ take_at stop.read (drop i s) i size in
-      let longer : take (i + 1) s ≡ stop.read ++ take 1 (drop i s) =
-      ap (λ l. take (i + 1) l) stop.whole ∙ ap (λ n. take (n + 1) (stop.read ++ drop i s)) (sym size) ∙ take-append-add stop.read (drop i s) 1 in
-      record {
-        before = (a.0, a.1, sentence_found goal (take i s ++ a.0) a.1 (rw front (stop.same a.0 ∙ a.2)));
-        there = λ inside c. (
-            let f : run limit goal (want []) (take (i + 1) s ++ c.0) ≡ found c.1 = found_sentence goal (take (i + 1) s ++ c.0) c.1 c.2 in
-            let same : run limit goal (want []) ((stop.read ++ take 1 (drop i s)) ++ c.0) ≡ run limit goal stop.st (take 1 (drop i s) ++ c.0) =
-            ap (λ l. run limit goal (want []) l) (append_assoc stop.read (take 1 (drop i s)) c.0) ∙ stop.same (take 1 (drop i s) ++ c.0) in
-            stop.refuses c.1 c.0 (sym same ∙ ap (λ l. run limit goal (want []) (l ++ c.0)) (sym longer) ∙ f) (omega (arith, rest)));
-        at_end = λ at t sp. (let f : run limit goal (want []) s ≡ found t = found_sentence goal s t sp in cc);
-      }
+-- what is found is a sentence
+pub sentence_found : (limit : Option ℕ) (goal : Hole) (s : List Item) (t : Raw) → run limit goal (want []) s ≡ found t → Spells limit goal s t
+sentence_found limit goal = found_one (reads_formulas goal) limit
 
-  -- a sentence has one tree
-  pub one_tree : (h : Hole) (s : List Item) (t u : Raw) → Spells limit h s t → Spells limit h s u → t ≡ u
-  one_tree h s t u a b = let x = found_sentence h s t a in let y = found_sentence h s u b in cc
+-- a sentence has one tree
+pub one_tree : (limit : Option ℕ) (h : Hole) (s : List Item) (t u : Raw) → Spells limit h s t → Spells limit h s u → t ≡ u
+one_tree limit h = one_value (reads_formulas h) limit

@@ -4,7 +4,8 @@ use Rattle.std.specs.Option.{option_map_or}
 use Rattle.formula_core.specs.declared.raw.Raw.{Raw}
 use Rattle.math_grammar.specs.declared.holes.Hole.{Hole}
 use Rattle.math_grammar.specs.Tokens.{Item}
-use Rattle.math_parse.specs.Machine.{State, step, ended, Outcome, found, refused, run}
+use Rattle.math_parse.specs.Machine.{State, step, ended}
+use Rattle.math_parse.specs.PrivateReaders.{ReadOutcome, found, refused, run}
 
 -- the formula that is complete, if there is one, and the tokens from the first one on that isn't taken
 pub data Stop : Type 0 where
@@ -14,7 +15,7 @@ abbrev pub reach : Option ℕ → Hole → State → List Item → Stop
 reach limit goal st [] = stop (ended goal st) []
 reach limit goal st (x ∷ rest) = option_map_or (λ after. reach limit goal after rest) (step limit goal st x) (stop (ended goal st) (x ∷ rest))
 
-abbrev pub outcome : Stop → Outcome
+abbrev pub outcome : Stop → ReadOutcome Raw
 outcome (stop whole []) = option_map_or found whole (refused [])
 outcome (stop whole (x ∷ rest)) = refused (x ∷ rest)
 

@@ -8,7 +8,8 @@ use Rattle.math_grammar.specs.Levels.{reaches, fits, goes_on}
 use Rattle.math_grammar.specs.Tokens.{Item}
 use Rattle.math_grammar.specs.Grammar.{item, Ends, Reads}
 use Rattle.math_parse.specs.declared.frames.Frame.{Frame}
-use Rattle.math_parse.specs.Machine.{hole_of, place, State, want, have, finished, closed, attach, run}
+use Rattle.math_parse.specs.Machine.{hole_of, place, State, want, have, finished, closed, attach}
+use Rattle.math_parse.specs.PrivateReaders.{run}
 use Rattle.math_parse.proofs.Reach.{reach, outcome, run_reaches}
 use Rattle.math_parse.proofs.Complete as complete
 

@@ -25,13 +25,12 @@ use Rattle.math_grammar.specs.Grammar.{bound, lone, joined, type_with}
 use Rattle.math_parse.specs.declared.frames.Frame.{Frame}
 use Rattle.math_parse.specs.declared.frames.Frame.TheVariants as frame
 use Rattle.math_parse.specs.Limits.{most_parts}
-use Rattle.math_parse.specs.Reading.{is_full_frame, is_full}
-use Rattle.math_parse.specs.Machine.{hole_of, place, State, want, have, calling, shape_want, shape_name, shape_have, only_if, then_want, name_of, typed_name_of, bounds_of, body_of, opened, begin, extend_infix, extend_suffix, extend, finished, after_names, after_name, second_side, after_type, names_next, type_next, shape_next, after_member, after_shape, shape_step, closed, after_form, attach, call_word, begin_shape, step}
+use Rattle.math_parse.specs.Machine.{hole_of, place, State, want, have, calling, shape_want, shape_name, shape_have, only_if, then_want, name_of, typed_name_of, bounds_of, body_of, opened, begin, extend_infix, extend_suffix, extend, finished, after_names, after_name, second_side, after_type, names_next, type_next, shape_next, after_member, after_shape, shape_step, closed, after_form, attach, call_word, begin_shape, step, is_full_frame, is_full}
+use Rattle.math_parse.proofs.Readers.{unless_full}
 
 -- what is left of a step within the limit
 abbrev pub small : Option State → Option State
-small None = None
-small (Some st) = cond (is_full st) None (Some st)
+small = unless_full is_full
 
 -- nothing is taken away
 abbrev IsLean : Option State → Type 0

@@ -1,7 +1,6 @@
 -- What is read is a sentence.
 use Rattle.std.proofs.Common.{◌≡◌, ℕ, ◌≤◌, List, [], ◌∷◌, ◌++◌, Bool, true, false, ◌&&◌, cond, Option, Some, None, ◌⊎◌, inl, inr, refl, ap, ◌∙◌, subst, arith, length}
 use Rattle.std.specs.Prelude.{nat_le, IfSome, option_and_then}
-use Rattle.std.specs.Option.{option_map_or}
 use Rattle.formula_core.specs.Names.{is_name}
 use Rattle.formula_core.specs.declared.op.Op.TheVariants as op
 use Rattle.formula_core.specs.declared.raw.RawOp.{RawOp}
@@ -32,7 +31,7 @@ use Rattle.math_grammar.specs.Tokens.{Item}
 use Rattle.math_grammar.specs.Grammar.{item, bound, between, lone, joined, Ends, Reads, a_name, a_number, a_truth, a_constant, prefixed, two_sides, in_parentheses, called, applied, converted, set_by_members, by_names, by_shape, lambda, Parts, last_one, next_one, TypeOf, last_side, first_side, Bound, bare, of_type, Declares, last_name, next_name, Body, a_predicate, a_value, LastPart, up_to_brace, reaching, Pattern, last_atom, next_atom, Atom, bare_atom, typed_atom, grouped_atom, Spells}
 use Rattle.math_parse.specs.declared.frames.Frame.{Frame}
 use Rattle.math_parse.specs.declared.frames.Frame.TheVariants as frame
-use Rattle.math_parse.specs.Machine.{hole_of, place, State, want, have, calling, shape_want, shape_name, shape_have, only_if, name_of, typed_name_of, bound_of, bounds_of, body_of, begin, extend, finished, after_name, after_type, type_next, shape_next, after_member, after_shape, shape_step, closed, after_form, attach, begin_shape, call_word, step, complete, ended, found, run}
+use Rattle.math_parse.specs.Machine.{hole_of, place, State, want, have, calling, shape_want, shape_name, shape_have, only_if, name_of, typed_name_of, bound_of, bounds_of, body_of, begin, extend, finished, after_name, after_type, type_next, shape_next, after_member, after_shape, shape_step, closed, after_form, attach, begin_shape, call_word, step, complete, ended}
 use Rattle.math_parse.proofs.Basics.{name_of-name, typed_name_of-name, typed_name_of-between, bound_of-name, bound_of-between, bounds_of-more, both, chosen, level_rank, left_most, reached_least, name_reaches, group_fits}
 
 -- a bare name
@@ -165,11 +164,6 @@ complete_ways goal f fs g t u e = elim (chosen (fits (hole_of f) g) e) [ inl y �
 -- a form that takes a sign isn't complete
 unfinished : {A : Type 0} (goal : Hole) (f : Frame) (fs : List Frame) (g : Grade) (t u : Raw) → finished f t ≡ None → complete goal (f ∷ fs) g t ≡ Some u → A
 unfinished goal f fs g t u n e = let w = (complete_ways goal f fs g t u e).1 in let w' = rw n at w in cc
-
--- what a test of an option came to
-pub option_ways : {A B : Type 0} {f : A → B} {d z : B} (o : Option A) → option_map_or f o d ≡ z → ((a : A) × (o ≡ Some a) × (f a ≡ z)) ⊎ ((o ≡ None) × (d ≡ z))
-option_ways None e = inr (refl, e)
-option_ways (Some a) e = inl (a, refl, e)
 
 module _ (limit : Option ℕ) where
   -- a bare name with a type
@@ -674,10 +668,3 @@ module _ (limit : Option ℕ) where
 
   pub sound_end : (goal : Hole) {s0 : List Item} (st : State) (u : Raw) → Sound goal s0 st [] → ended goal st ≡ Some u → Spells limit goal s0 u
   sound_end goal st u ok e = let w = sound_stop goal st u (λ _ _. tt) ok e in record { g = w.g; reads = w.reads; fit = w.fit }
-
-  pub sound_run : (goal : Hole) {s0 : List Item} (st : State) (rest : List Item) (u : Raw) →
-      Sound goal s0 st rest → run limit goal st rest ≡ found u → Spells limit goal s0 u
-  sound_run goal {s0} st [] u ok e =
-      elim (option_ways (ended goal st) e) [ inl w ↦ (let e' : w.0 ≡ u = cc in sound_end goal st u ok (w.1 ∙ ap Some e')) | inr n ↦ cc ]
-  sound_run goal st (x ∷ rest) u ok e =
-      elim (option_ways (step limit goal st x) e) [ inl w ↦ sound_run goal w.0 rest u (sound_step goal st x w.0 ok w.1) w.2 | inr n ↦ cc ]

@@ -2,4 +2,4 @@ pub mod Machine
 pub mod Faults
 pub mod View
 pub mod Limits
-pub mod Reading
+pub mod PrivateReaders

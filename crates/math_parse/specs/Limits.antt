@@ -5,8 +5,8 @@ use Rattle.math_grammar.specs.declared.holes.Hole.{Hole}
 use Rattle.math_grammar.specs.declared.symbols.Symbol.{Symbol}
 use Rattle.math_grammar.specs.declared.symbols.Symbol.TheVariants as sym
 use Rattle.math_grammar.specs.Tokens.{Item}
-use Rattle.math_grammar.specs.Grammar.{Spells, HasContinuation}
-use Rattle.math_parse.specs.Faults.{IsUnexpected}
+use Rattle.math_grammar.specs.Grammar.{Spells}
+use Rattle.math_parse.specs.Faults.{BeginsOne, IsUnexpectedIn}
 use Rattle.math_parse.specs.declared.fault.ParseFault.{ParseFault}
 use Rattle.math_parse.specs.declared.fault.ParseFault.TheVariants as fault
 
@@ -36,26 +36,34 @@ first_large_from i n (x ∷ rest) = cond (passes i n x.symbol) (Some i) (first_l
 abbrev pub first_large : List Item → Option ℕ
 first_large tokens = first_large_from 0 0 tokens
 
--- the tokens are a sentence within the limits
-abbrev pub IsSentence : Hole → List Item → Raw → Type 0
-IsSentence h tokens t = Spells most_parts h tokens t × (first_large tokens ≡ None)
+-- What the tokens spell, with at most so many parts of a partition as the limit says, if there is one: here within all limits.
+abbrev pub SpellsWithin : {T : Type 0} → (Option ℕ → List Item → T → Type 0) → List Item → T → Type 0
+SpellsWithin IsOne tokens t = IsOne most_parts tokens t × (first_large tokens ≡ None)
 
--- the tree is found, unless memory runs out
-abbrev pub Finds : Result Raw ParseFault → Raw → Type 0
-Finds (Ok raw) t = raw ≡ t
+-- it is found, unless memory runs out
+abbrev pub Finds : {T : Type 0} → Result T ParseFault → T → Type 0
+Finds (Ok u) t = u ≡ t
 Finds (Err fault.OutOfMemory) t = Unit {0}
 Finds (Err _) t = ⊥
 
 -- The token at i passes a limit: of tokens, of open brackets, or it is a comma with which only larger partitions go on.
-abbrev pub IsTooLarge : Hole → List Item → ℕ → Type 0
-IsTooLarge h tokens i =
+abbrev pub IsTooLargeIn : {T : Type 0} → (Option ℕ → List Item → T → Type 0) → List Item → ℕ → Type 0
+IsTooLargeIn IsOne tokens i =
     (first_large (take (i + 1) tokens) ≡ Some i)
-    ⊎ (HasContinuation None h (take (i + 1) tokens) × (HasContinuation most_parts h (take (i + 1) tokens) → ⊥))
+    ⊎ (BeginsOne (IsOne None) (take (i + 1) tokens) × (BeginsOne (IsOne most_parts) (take (i + 1) tokens) → ⊥))
 
--- The tokens before the fault begin a sentence within the limits.
+-- The tokens before the fault begin what is spelled within the limits.
+abbrev pub IsFaultOf : {T : Type 0} → (Option ℕ → List Item → T → Type 0) → List Item → ParseFault → Type 0
+IsFaultOf IsOne tokens (fault.Unexpected i) =
+    (i ≤ length tokens) × BeginsOne (IsOne most_parts) (take i tokens) × IsUnexpectedIn (IsOne None) tokens i × (first_large (take (i + 1) tokens) ≡ None)
+IsFaultOf IsOne tokens (fault.TooLarge i) =
+    (i < length tokens) × BeginsOne (IsOne most_parts) (take i tokens) × (first_large (take i tokens) ≡ None) × IsTooLargeIn IsOne tokens i
+IsFaultOf IsOne tokens fault.OutOfMemory = Unit {0}
+
+-- the tokens are a sentence within the limits
+abbrev pub IsSentence : Hole → List Item → Raw → Type 0
+IsSentence h = SpellsWithin (λ limit. Spells limit h)
+
+-- the first fault of tokens that are none
 abbrev pub IsFault : Hole → List Item → ParseFault → Type 0
-IsFault h tokens (fault.Unexpected i) =
-    (i ≤ length tokens) × HasContinuation most_parts h (take i tokens) × IsUnexpected None h tokens i × (first_large (take (i + 1) tokens) ≡ None)
-IsFault h tokens (fault.TooLarge i) =
-    (i < length tokens) × HasContinuation most_parts h (take i tokens) × (first_large (take i tokens) ≡ None) × IsTooLarge h tokens i
-IsFault h tokens fault.OutOfMemory = Unit {0}
+IsFault h = IsFaultOf (λ limit. Spells limit h)

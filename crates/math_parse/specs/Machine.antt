@@ -1,7 +1,6 @@
 -- The parser, as a function on the tokens: a stack of unfinished forms, and what it wants or holds.
-use Rattle.std.specs.Prelude.{ℕ, List, [], ◌∷◌, ◌++◌, Bool, true, false, not, ◌&&◌, cond, Option, Some, None, option_and_then, fold, length}
+use Rattle.std.specs.Prelude.{ℕ, List, [], ◌∷◌, ◌++◌, Bool, true, false, not, ◌&&◌, cond, Option, Some, None, option_and_then, fold, length, nat_le}
 use Rattle.std.specs.List.{list_all}
-use Rattle.std.specs.Option.{option_map_or}
 use Rattle.formula_core.specs.Names.{is_name}
 use Rattle.formula_core.specs.declared.op.Op.TheVariants as op
 use Rattle.formula_core.specs.declared.raw.RawOp.{RawOp}
@@ -292,11 +291,15 @@ abbrev pub is_ready : State → Bool
 is_ready (have fs g t) = list_all is_open_ended fs
 is_ready _ = false
 
--- what comes of a list of tokens: the tree, or the tokens from the first one on that isn't taken
-pub data Outcome : Type 0 where
-  found : (t : Raw) → Outcome
-  refused : (rest : List Item) → Outcome
+-- a part behind the last one allowed is wanted
+abbrev pub is_full_frame : Frame → Bool
+is_full_frame (Parts c o before p) = nat_le 25 (length before)
+is_full_frame _ = false
 
-abbrev pub run : Option ℕ → Hole → State → List Item → Outcome
-run limit goal st [] = option_map_or found (ended goal st) (refused [])
-run limit goal st (x ∷ rest) = option_map_or (λ after. run limit goal after rest) (step limit goal st x) (refused (x ∷ rest))
+abbrev pub is_full_top : List Frame → Bool
+is_full_top [] = false
+is_full_top (f ∷ fs) = is_full_frame f
+
+abbrev pub is_full : State → Bool
+is_full (want fs) = is_full_top fs
+is_full _ = false

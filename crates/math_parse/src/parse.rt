@@ -4,9 +4,9 @@ ghost use Rattle.std.specs.Prelude.{◌≡◌, ◌<◌, ◌^◌, IfOk, IfErr};
 ghost use Rattle.formula_core.specs.declared.raw.Raw.{Raw};
 ghost use Rattle.math_grammar.specs.declared.holes.Hole.TheVariants as hole;
 ghost use Rattle.math_grammar.specs.Tokens.{bytes_of, items_of};
-ghost use Rattle.math_parse.specs.Machine.{want};
+ghost use Rattle.math_parse.specs.Machine.{is_full};
 ghost use Rattle.math_parse.specs.Limits.{passes, open_after, IsSentence, Finds, IsFault};
-ghost use Rattle.math_parse.specs.Reading.{is_full, Parses};
+ghost use Rattle.math_parse.specs.PrivateReaders.{ReadsTokens, formula_reader};
 ghost use Rattle.math_parse.specs.View.{state_of};
 
 use crate::fault::{ParseFault, StepFault};
@@ -70,7 +70,7 @@ pub fn is_full(phase: &Phase) -> bool
 }
 
 fn parse(alloc: Global, goal: Hole, text: &str, tokens: &[Token]) -> Result<Raw, ParseFault>
-    ensures { Parses text.now goal tokens.now result }
+    ensures { ReadsTokens (formula_reader goal) text.now tokens.now result }
 {
     let mut phase = Phase::Want(Vec::new(alloc));
     let mut depth = 0;

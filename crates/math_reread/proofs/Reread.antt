@@ -12,9 +12,9 @@ use Rattle.formula_core.specs.Wellness.{type_of, is_well}
 use Rattle.math_grammar.specs.declared.holes.Hole.{Hole}
 use Rattle.math_grammar.specs.declared.symbols.Symbol.{Symbol}
 use Rattle.math_grammar.specs.Tokens.{Item, items_of}
-use Rattle.math_grammar.specs.Grammar.{Spells, HasContinuation}
+use Rattle.math_grammar.specs.Grammar.{Spells}
 use Rattle.math_parse.specs.Limits.{most_parts, passes, open_after, first_large_from}
-use Rattle.math_parse.specs.Faults.{IsUnexpected}
+use Rattle.math_parse.specs.Faults.{BeginsOne, IsUnexpected}
 use Rattle.math_parse.specs.declared.fault.ParseFault.{ParseFault}
 use Rattle.math_parse.specs.declared.fault.ParseFault.TheVariants as fault
 use Rattle.math_parse.proofs.Place.{one_tree}
@@ -74,7 +74,7 @@ large_in_front (suc k) i n (x ∷ s) j e =
     large_here (passes i n x.symbol) i j (first_large_from (i + 1) (open_after n x.symbol) (take k s)) (first_large_from (i + 1) (open_after n x.symbol) s) (large_in_front k (i + 1) (open_after n x.symbol) s j) e
 
 module _ (h : Hole) (tokens : List Item) (tree : Raw) (spells : (limit : Option ℕ) → Spells limit h tokens tree) where
-  goes_on : (limit : Option ℕ) (k : ℕ) → HasContinuation limit h (take k tokens)
+  goes_on : (limit : Option ℕ) (k : ℕ) → BeginsOne (Spells limit h) (take k tokens)
   goes_on limit k = (drop k tokens, tree, subst (λ (s : List Item). Spells limit h s tree) (sym (take-append-drop k tokens)) (spells limit))
 
   never : (i : ℕ) → i ≤ length tokens → IsUnexpected None h tokens i → ⊥

@@ -1,12 +1,13 @@
 use Rattle.math_grammar.specs.declared.holes.Hole.TheVariants as hole
+use Rattle.math_parse.proofs.Place.{reads_formulas}
 use Rattle.math_parse.proofs.Limited.{answer_found, answer_only, answer_fault}
 use Rattle.math_parse.proofs.parse.expression.Goals as goal
 
 pub returns-clause-found : goal.returns-clause-found
-returns-clause-found c = answer_found c.args.text.now hole.Expression c.args.tokens.now c.parse.result c.parse.ensures
+returns-clause-found c = answer_found (reads_formulas hole.Expression) c.args.text.now c.args.tokens.now c.parse.result c.parse.ensures
 
 pub returns-clause-only : goal.returns-clause-only
-returns-clause-only c = answer_only c.args.text.now hole.Expression c.args.tokens.now c.parse.result c.parse.ensures
+returns-clause-only c = answer_only (reads_formulas hole.Expression) c.args.text.now c.args.tokens.now c.parse.result c.parse.ensures
 
 pub returns-clause-fault : goal.returns-clause-fault
-returns-clause-fault c = answer_fault c.args.text.now hole.Expression c.args.tokens.now c.parse.result c.parse.ensures
+returns-clause-fault c = answer_fault (reads_formulas hole.Expression) c.args.text.now c.args.tokens.now c.parse.result c.parse.ensures
