@@ -21,14 +21,14 @@ use Rattle.model_core.specs.declared.component.RawComponent.{RawComponent}
 use Rattle.component_text.specs.declared.stop.Stop.{Stop}
 use Rattle.component_text.specs.declared.stop.Stop.TheVariants as stop
 use Rattle.component_text.specs.Marks.{Mark, word, label, plain, behind_run, is_word, is_at}
-use Rattle.component_text.specs.Forms.{Bounds, limits, parts, none, One, Run, Nothing, Then, Choice, taken, other, no_more, one_more}
-use Rattle.component_text.specs.Grammar.{IsFormula, IsPlaced, reference, is_reference, label_at, Names, SomeNames, labelled, Labelled, Line, begins_line, Lines, NamesBehind, SomeNamesBehind, LinesBehind, context_of, ContextBody, IsContext}
+use Rattle.component_text.specs.Forms.{Bounds, limits, parts, One, Run, Nothing, Then, Choice, taken, other, no_more, one_more}
+use Rattle.component_text.specs.Grammar.{IsPlaced, reference, is_reference, label_at, Names, SomeNames, labelled, Labelled, Line, begins_line, Lines, NamesBehind, SomeNamesBehind, LinesBehind, context_of, ContextBody, IsContext}
 use Rattle.component_text.specs.PrivateReading.{end_mark, Begins, Refuses, Passes, Reads, Takes, Lacks, ReadsFormula, AddsNames, Ends, ReadsWhole}
 use Rattle.component_text.proofs.Parts.{IsLooser, Good, good_one, good_run, good_nothing, good_then, good_of, good_choice, good_many}
 use Rattle.component_text.proofs.Refusing.{CanSkip, skip_begins, left_out, one_refused, one_then_refused, one_then_passes, first_refused, first_passes, both_skip, second_refused, second_passes, of_refused, of_passes, taken_refused, taken_passes, other_refused, other_passes, other_skip, many_skip, many_here, many_here_passes, many_later, many_later_passes}
 use Rattle.component_text.proofs.Formulas.{label_refused, label_passes}
 use Rattle.component_text.specs.PrivateReading.{NoFormula, all_plain, behind_word}
-use Rattle.component_text.proofs.Looser.{formula_looser}
+use Rattle.component_text.proofs.Looser.{formula_looser, loose}
 use Rattle.std.proofs.lemmas.Slice.Eq.{bytes_eq-Decides}
 use Rattle.component_text.proofs.Placed.{Leaves, leaves_one, leaves_nothing, leaves_formula, leaves_of, leaves_then, leaves_choice, leaves_many}
 use Rattle.component_text.proofs.Whole.{word_is, whole, body_unexpected, body_too_large, head_unexpected, head_wrong, body_wrong, after_body, after_end, end_wrong}
@@ -115,19 +115,8 @@ pub names_read : (s rest : List Mark) (all : List Ref) → AddsNames [] all s re
 names_read s rest all k = subst (λ xs. Names limits s xs rest) (sym k.1) k.2
 
 -- labelled predicates
-loose : (h : Hole) (b c : Bounds) → IsLooser b c → (f : List Item) (t : Raw) → IsFormula h b f t → IsFormula h c f t
-loose h limits limits l f t k = k
-loose h limits parts l f t k = k.0
-loose h limits none l f t k = formula_looser h f t k.0
-loose h parts limits l f t k = absurd l
-loose h parts parts l f t k = k
-loose h parts none l f t k = formula_looser h f t k
-loose h none limits l f t k = absurd l
-loose h none parts l f t k = absurd l
-loose h none none l f t k = k
-
 pub loose_placed : (h : Hole) (b c : Bounds) → IsLooser b c → (f : List Item) (p : Raw × ℕ) → IsPlaced h b f p → IsPlaced h c f p
-loose_placed h b c l f p k = (loose h b c l f p.0 k.0, k.1)
+loose_placed h b c l f p k = (loose (λ limit. Spells limit h) (formula_looser h) b c l f p.0 k.0, k.1)
 
 pub placed_few : (h : Hole) (f : List Item) (p : Raw × ℕ) → IsPlaced h limits f p → first_large f ≡ None
 placed_few h f p k = k.0.1

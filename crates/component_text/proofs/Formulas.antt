@@ -1,15 +1,17 @@
 -- Where a formula is refused, or passes a limit, in the text of a component.
 use Rattle.std.proofs.Common.{◌≡◌, ◌∙◌, ap, ℕ, zero, suc, ◌+◌, ◌<◌, ◌≤◌, inl, inr, List, [], ◌∷◌, ◌++◌, Bool, true, false, Some, None, cond, length, take, drop, map, refl, sym, subst, arith, append_assoc, append-nil}
-use Rattle.std.specs.Prelude.{Option, ◌⊎◌}
+use Rattle.std.specs.Prelude.{Option}
 use Rattle.std.proofs.lemmas.List.{take-append-drop}
 use Rattle.formula_core.specs.Texts.{is_label}
 use Rattle.math_grammar.specs.Tokens.{Item}
-use Rattle.math_parse.specs.Limits.{first_large}
+use Rattle.math_parse.specs.Faults.{BeginsOne}
+use Rattle.math_parse.specs.Limits.{first_large, IsTooLargeIn}
+use Rattle.math_parse.specs.declared.fault.ParseFault.TheVariants as fault
 use Rattle.component_text.specs.Marks.{Mark, word, label, plain, run, behind_run, is_at}
 use Rattle.component_text.specs.Forms.{Bounds, limits, parts, none, One, Run, Then}
 use Rattle.component_text.specs.Grammar.{label_at}
 use Rattle.component_text.specs.Faults.{opens_formula}
-use Rattle.component_text.specs.PrivateReading.{end_mark, BeginsIn, NoneHasIn, NoneHas, Refuses, IsLargeIn, is_long, is_wide, Passes, from_token, StartsIn, StopsAt, PassesAt, is_plain, AreShort, Placed, not_plain, in_formula}
+use Rattle.component_text.specs.PrivateReading.{end_mark, BeginsIn, NoneHasIn, NoneHas, Refuses, IsLargeIn, is_long, is_wide, Passes, from_token, bounded, FailsBy, is_plain, AreShort, Placed, not_plain, in_formula}
 use Rattle.component_text.proofs.Refusing.{one_begins, one_then_nowhere, one_then_wrong}
 use Rattle.component_text.proofs.Shorts.{taken_fewer, short_append, formula_short}
 use Rattle.component_text.proofs.Parts.{Ended, nothing_there, at_word, at_label, run_ends, run_of, behind_of}
@@ -51,7 +53,7 @@ no_item (x ∷ f) zero e h = cc
 no_item (x ∷ f) (suc i) e h = let later = no_item f i e (omega arith) in (omega (arith, later.0), ap (λ t. x ∷ t) later.1)
 
 module _ {X : Type 0} (F : Bounds → List Item → X → Type 0) where
-  pub run_begins : (b : Bounds) (f : List Item) → StartsIn F b f → BeginsIn b (Run F) (map plain f)
+  pub run_begins : (b : Bounds) (f : List Item) → BeginsOne (F b) f → BeginsIn b (Run F) (map plain f)
   run_begins b f c =
       let all : (tail : List Mark) → map plain f ++ (map plain c.0 ++ end_mark ∷ tail) ≡ map plain (f ++ c.0) ++ end_mark ∷ tail =
       λ tail. sym (append_assoc (map plain f) (map plain c.0) (end_mark ∷ tail)) ∙ ap (λ t. t ++ end_mark ∷ tail) (sym (map_append f c.0)) in
@@ -73,22 +75,22 @@ module _ {X : Type 0} (F : Bounds → List Item → X → Type 0) where
       not_plain_there : (x : Item) (rest : List Mark) → Ended (plain x ∷ rest) → ⊥
       not_plain_there x rest e = elim e [ ]
 
-  goes_on : (b : Bounds) (f : List Item) (y : Item) (rest : List Mark) → (StartsIn F b (f ++ y ∷ []) → ⊥) → NoneHasIn b (Run F) (map plain f) (plain y ∷ rest)
+  goes_on : (b : Bounds) (f : List Item) (y : Item) (rest : List Mark) → (BeginsOne (F b) (f ++ y ∷ []) → ⊥) → NoneHasIn b (Run F) (map plain f) (plain y ∷ rest)
   goes_on b f y rest isnt = λ more t r k.
       let g : run (map plain f ++ plain y ∷ more) ≡ (f ++ y ∷ []) ++ run more = run_more f (plain y ∷ more) ∙ sym (append_assoc f (y ∷ []) (run more)) in
       isnt (run more, t, subst (λ u. F b u t) g k.spelled)
 
   -- no formula goes on with what stands at the place
-  stops_nowhere : (s rest : List Mark) (i : ℕ) → rest ≡ from_token i s → StopsAt F (run s) i → NoneHas (Run F) (map plain (take i (run s))) rest
+  stops_nowhere : (s rest : List Mark) (i : ℕ) → rest ≡ from_token i s → FailsBy F (run s) (fault.Unexpected i) → NoneHas (Run F) (map plain (take i (run s))) rest
   stops_nowhere s rest i e k = subst (NoneHas (Run F) (map plain (take i (run s)))) (sym e) (go (drop i (run s)) refl)
     where
       go : (g : List Item) → drop i (run s) ≡ g → NoneHas (Run F) (map plain (take i (run s))) (map plain g ++ behind_run s)
       go [] d =
-          let last = no_item (run s) i d k.short in
-          ends_there (take i (run s)) (behind_run s) (run_ends s) (λ t p. k.at_end last.0 t (subst (λ f. F none f t) last.1 p))
+          let last = no_item (run s) i d k.first.0 in
+          ends_there (take i (run s)) (behind_run s) (run_ends s) (λ t p. k.first.2.at_end last.0 t (subst (λ f. F none f t) last.1 p))
       go (y ∷ g) d =
           let next = next_item (run s) i y g d in
-          goes_on none (take i (run s)) y (map plain g ++ behind_run s) (λ c. k.there next.0 (subst (StartsIn F none) (sym next.1) c))
+          goes_on none (take i (run s)) y (map plain g ++ behind_run s) (λ c. k.first.2.there next.0 (subst (BeginsOne (F none)) (sym next.1) c))
 
 -- a label with a predicate behind it: how far the predicate is within its limits
 pub label_is : (y : Mark) (x : List ℕ × ℕ) → label_at y ≡ Some x → y ≡ label x.0 x.1
@@ -117,7 +119,7 @@ nothing_dropped (z ∷ f) (suc i) l d = nothing_dropped f i (omega arith) d
 -- a part with a formula behind the token y, which opens it
 module _ {X Z : Type 0} (F : Bounds → List Item → X → Type 0) (R : Bounds → List Mark → Z → List Mark → Type 0)
     (lead : List Mark) (y : Mark) (s m : List Mark) (there : s ≡ lead ++ y ∷ m) (opens : opens_formula y ≡ true) (lead_short : (t : List Mark) → AreShort lead (y ∷ t))
-    (begins_as : (b : Bounds) (f : List Item) → StartsIn F b f → BeginsIn b R (lead ++ y ∷ map plain f))
+    (begins_as : (b : Bounds) (f : List Item) → BeginsOne (F b) f → BeginsIn b R (lead ++ y ∷ map plain f))
     (nowhere_as : (b : Bounds) (before rest : List Mark) → m ≡ before ++ rest → NoneHasIn b (Run F) before rest → NoneHasIn b R (lead ++ y ∷ before) rest)
     (wrong_as : ((x : X) → F limits (run m) x → ⊥) → (z : Z) (r : List Mark) → R limits s z r → ⊥) where
   divided : (rest : List Mark) (i : ℕ) → rest ≡ from_token i m → m ≡ map plain (take i (run m)) ++ rest
@@ -126,28 +128,28 @@ module _ {X Z : Type 0} (F : Bounds → List Item → X → Type 0) (R : Bounds 
   all_is : (rest : List Mark) (i : ℕ) → rest ≡ from_token i m → s ≡ (lead ++ y ∷ map plain (take i (run m))) ++ rest
   all_is rest i e = there ∙ ap (λ t. lead ++ y ∷ t) (divided rest i e) ∙ sym (append_assoc lead (y ∷ map plain (take i (run m))) rest)
 
-  placed_there : (rest : List Mark) (i : ℕ) → rest ≡ from_token i m → StopsAt F (run m) i → (g : List Item) → drop i (run m) ≡ g → Placed (lead ++ y ∷ map plain (take i (run m))) rest
+  placed_there : (rest : List Mark) (i : ℕ) → rest ≡ from_token i m → FailsBy F (run m) (fault.Unexpected i) → (g : List Item) → drop i (run m) ≡ g → Placed (lead ++ y ∷ map plain (take i (run m))) rest
   placed_there rest i e k [] d = not_plain (ap (is_at is_plain) (e ∙ ap (λ t. map plain t ++ behind_run m) d) ∙ ended_is (behind_run m) (run_ends m))
   placed_there rest i e k (x ∷ g) d =
       let next = next_item (run m) i x g d in
-      in_formula lead y (take i (run m)) x (map plain g ++ behind_run m) refl opens (e ∙ ap (λ t. map plain t ++ behind_run m) d) (ap first_large (sym next.1) ∙ k.few)
+      in_formula lead y (take i (run m)) x (map plain g ++ behind_run m) refl opens (e ∙ ap (λ t. map plain t ++ behind_run m) d) (ap first_large (sym next.1) ∙ k.first.3)
 
   before_short : (i : ℕ) → first_large (take i (run m)) ≡ None → AreShort (lead ++ y ∷ map plain (take i (run m))) []
   before_short i few = short_append lead (y ∷ map plain (take i (run m))) [] (lead_short (map plain (take i (run m)) ++ [])) (formula_short y (take i (run m)) few)
 
-  pub opened_refused : (rest : List Mark) (i : ℕ) → rest ≡ from_token i m → StopsAt F (run m) i → Refuses R s rest
+  pub opened_refused : (rest : List Mark) (i : ℕ) → rest ≡ from_token i m → FailsBy F (run m) (fault.Unexpected i) → Refuses R s rest
   opened_refused rest i e k = record {
     before = lead ++ y ∷ map plain (take i (run m));
     is = all_is rest i e;
-    begins = begins_as parts (take i (run m)) k.begins;
+    begins = begins_as parts (take i (run m)) k.first.1;
     nowhere = nowhere_as none (map plain (take i (run m))) rest (divided rest i e) (stops_nowhere F m rest i e k);
     placed = placed_there rest i e k (drop i (run m)) refl;
-    short = before_short i (taken_fewer i (run m) k.few);
+    short = before_short i (taken_fewer i (run m) k.first.3);
     wrong = wrong_as k.wrong;
   }
 
   large_there : (i : ℕ) (x : Item) (later : List Mark) → m ≡ map plain (take i (run m)) ++ plain x ∷ later → take (i + 1) (run m) ≡ take i (run m) ++ x ∷ [] → length (take i (run m)) ≡ i →
-      ((first_large (take (i + 1) (run m)) ≡ Some i) ⊎ (StartsIn F none (take (i + 1) (run m)) × (StartsIn F parts (take (i + 1) (run m)) → ⊥))) →
+      IsTooLargeIn (bounded F) (run m) i →
       IsLargeIn R (lead ++ y ∷ map plain (take i (run m))) (plain x) later
   large_there i x later is e n (inl a) =
       is_long (record { lead = lead; opening = y; formula = take i (run m); item = x; is = refl; opens = opens; token = refl; large = ap first_large (sym e) ∙ a ∙ ap Some (sym n) })
@@ -155,11 +157,11 @@ module _ {X Z : Type 0} (F : Bounds → List Item → X → Type 0) (R : Bounds 
       let f = take i (run m) in
       is_wide
       (subst (BeginsIn none R) (ap (λ t. lead ++ y ∷ t) (map_append f (x ∷ [])) ∙ sym (append_assoc lead (y ∷ map plain f) (plain x ∷ [])))
-      (begins_as none (f ++ x ∷ []) (subst (StartsIn F none) e a.0)))
-      (nowhere_as parts (map plain f) (plain x ∷ later) is (goes_on F parts f x later (λ c. a.1 (subst (StartsIn F parts) (sym e) c))))
+      (begins_as none (f ++ x ∷ []) (subst (BeginsOne (F none)) e a.0)))
+      (nowhere_as parts (map plain f) (plain x ∷ later) is (goes_on F parts f x later (λ c. a.1 (subst (BeginsOne (F parts)) (sym e) c))))
 
-  passes_at : (rest : List Mark) (i : ℕ) → rest ≡ from_token i m → PassesAt F (run m) i → (g : List Item) → drop i (run m) ≡ g → Passes R s rest
-  passes_at rest i e k [] d = absurd (nothing_dropped (run m) i k.short d)
+  passes_at : (rest : List Mark) (i : ℕ) → rest ≡ from_token i m → FailsBy F (run m) (fault.TooLarge i) → (g : List Item) → drop i (run m) ≡ g → Passes R s rest
+  passes_at rest i e k [] d = absurd (nothing_dropped (run m) i k.first.0 d)
   passes_at rest i e k (x ∷ g) d =
       let next = next_item (run m) i x g d in
       let later : List Mark = map plain g ++ behind_run m in
@@ -170,13 +172,13 @@ module _ {X Z : Type 0} (F : Bounds → List Item → X → Type 0) (R : Bounds 
         later = later;
         is = all_is rest i e;
         next = rest_is;
-        begins = begins_as parts (take i (run m)) k.begins;
-        short = before_short i k.few;
-        large = large_there i x later (divided rest i e ∙ ap (λ t. map plain (take i (run m)) ++ t) rest_is) next.1 next.2 k.large;
+        begins = begins_as parts (take i (run m)) k.first.1;
+        short = before_short i k.first.2;
+        large = large_there i x later (divided rest i e ∙ ap (λ t. map plain (take i (run m)) ++ t) rest_is) next.1 next.2 k.first.3;
         wrong = wrong_as k.wrong;
       }
 
-  pub opened_passes : (rest : List Mark) (i : ℕ) → rest ≡ from_token i m → PassesAt F (run m) i → Passes R s rest
+  pub opened_passes : (rest : List Mark) (i : ℕ) → rest ≡ from_token i m → FailsBy F (run m) (fault.TooLarge i) → Passes R s rest
   opened_passes rest i e k = passes_at rest i e k (drop i (run m)) refl
 
 -- a label with a formula behind it
@@ -184,12 +186,12 @@ module _ {X : Type 0} (F : Bounds → List Item → X → Type 0) (s m : List Ma
   wrong_behind : ((t : X) → F limits (run m) t → ⊥) → (z : (List ℕ × ℕ) × X) (r : List Mark) → Then (One label_at) (Run F) limits s z r → ⊥
   wrong_behind isnt = one_then_wrong label_at (Run F) s m x o (λ t r k. isnt t k.spelled)
 
-  pub label_refused : (rest : List Mark) (i : ℕ) → rest ≡ from_token i m → StopsAt F (run m) i → Refuses (Then (One label_at) (Run F)) s rest
+  pub label_refused : (rest : List Mark) (i : ℕ) → rest ≡ from_token i m → FailsBy F (run m) (fault.Unexpected i) → Refuses (Then (One label_at) (Run F)) s rest
   label_refused =
       opened_refused F (Then (One label_at) (Run F)) [] o.mark s m o.there (label_opens o.mark x o.is) (λ t. tt) (λ b f c. one_begins label_at (Run F) b o.mark x (map plain f) o.is (run_begins F b f c))
       (λ b before rest e. one_then_nowhere label_at (Run F) b o.mark before rest) wrong_behind
 
-  pub label_passes : (rest : List Mark) (i : ℕ) → rest ≡ from_token i m → PassesAt F (run m) i → Passes (Then (One label_at) (Run F)) s rest
+  pub label_passes : (rest : List Mark) (i : ℕ) → rest ≡ from_token i m → FailsBy F (run m) (fault.TooLarge i) → Passes (Then (One label_at) (Run F)) s rest
   label_passes =
       opened_passes F (Then (One label_at) (Run F)) [] o.mark s m o.there (label_opens o.mark x o.is) (λ t. tt) (λ b f c. one_begins label_at (Run F) b o.mark x (map plain f) o.is (run_begins F b f c))
       (λ b before rest e. one_then_nowhere label_at (Run F) b o.mark before rest) wrong_behind

@@ -10,7 +10,8 @@ use Rattle.formula_core.specs.declared.raw.Raw.TheVariants as raw
 use Rattle.math_grammar.specs.declared.holes.Grade.TheVariants as grade
 use Rattle.math_grammar.specs.declared.symbols.Symbol.TheVariants as sign
 use Rattle.math_grammar.specs.Grammar.{item, a_name}
-use Rattle.math_grammar.specs.Actions.{chooses_in}
+use Rattle.math_grammar.specs.Actions.{SpellsAction, chooses_in}
+use Rattle.math_parse.specs.Faults.{BeginsOne}
 use Rattle.math_grammar.specs.Tokens.{Item}
 use Rattle.model_core.specs.declared.component.Convergence.{Convergence}
 use Rattle.model_core.specs.declared.component.Convergence.TheVariants.{Ordinary, Convergent, Anticipated}
@@ -22,15 +23,15 @@ use Rattle.component_text.specs.declared.stop.Stop.{Stop}
 use Rattle.component_text.specs.declared.stop.Stop.TheVariants as stop
 use Rattle.component_text.specs.declared.machine.Abstracts.{Abstracts}
 use Rattle.component_text.specs.Marks.{Mark, word, label, plain, run, is_word, is_at}
-use Rattle.component_text.specs.Forms.{Bounds, limits, parts, none, One, Run, Nothing, Then, Choice, taken, other, Of}
+use Rattle.component_text.specs.Forms.{Bounds, limits, parts, One, Run, Nothing, Then, Choice, taken, other, Of}
 use Rattle.component_text.specs.Grammar.{IsPlaced, reference, label_at, is_a_label, SomeNames, Names, Labelled, Lines, SomeNamesBehind, NamesBehind, LinesBehind}
 use Rattle.component_text.specs.Machines.{IsAct, word_at, Refines, Expression, VariantExpression, variant_of, Variant, Witnesses, step, Step, Steps, extending, refining, References, either, Guards, With, Actions, event_of, EventBody, Event, begins_event, EventList, Events, machine_of, MachineBody}
 use Rattle.component_text.specs.Faults.{opens_formula}
-use Rattle.component_text.specs.PrivateReading.{end_mark, BeginsIn, Begins, NoneHasIn, Refuses, Reads, Takes, Lacks, StartsIn, ReadsFormula, is_plain, AreShort, NoFormula}
-use Rattle.component_text.proofs.Looser.{action_looser}
+use Rattle.component_text.specs.PrivateReading.{end_mark, BeginsIn, Begins, NoneHasIn, Refuses, Reads, Takes, Lacks, ReadsFormula, is_plain, AreShort, NoFormula}
+use Rattle.component_text.proofs.Looser.{action_looser, loose}
 use Rattle.std.proofs.lemmas.List.{append_cancel_right}
 use Rattle.component_text.proofs.Shorts.{short_append, run_short, before_label}
-use Rattle.component_text.proofs.Parts.{IsLooser, Good, Ended, run_ends, good_one, good_run, good_nothing, good_then, good_of, good_choice, good_many}
+use Rattle.component_text.proofs.Parts.{Good, Ended, run_ends, good_one, good_run, good_nothing, good_then, good_of, good_choice, good_many}
 use Rattle.component_text.proofs.Placed.{Leaves, not_ended, leaves_one, leaves_nothing, leaves_formula, leaves_of, leaves_then, leaves_choice, leaves_many}
 use Rattle.component_text.proofs.Refusing.{CanSkip, skip_begins, left_out, both_skip, of_skip, other_skip, of_begins, of_nowhere, taken_begins, taken_nowhere, taken_wrong, other_nowhere, other_wrong}
 use Rattle.component_text.proofs.Formulas.{run_begins, opened_refused, opened_passes, label_refused, label_passes}
@@ -149,7 +150,7 @@ not_label b (label l p ∷ s) x m h e = let contra : true ≡ false = sym (ap (i
 abbrev IsExpression : Bounds → List Item → (Raw × ℕ) → Type 0
 IsExpression = IsPlaced hole.Expression
 
-unlabelled : (b : Bounds) (f : List Item) → StartsIn IsExpression b f → BeginsIn b VariantExpression (map plain f)
+unlabelled : (b : Bounds) (f : List Item) → BeginsOne (IsExpression b) f → BeginsIn b VariantExpression (map plain f)
 unlabelled b f c =
     let k = run_begins IsExpression b f c in
     record { more = k.more; value = k.value; goes_on = λ tail. other (not_label b (map plain f ++ (k.more ++ end_mark ∷ tail)) k.value (end_mark ∷ tail) (k.goes_on tail) refl) (k.goes_on tail) }
@@ -169,7 +170,7 @@ module _ (s m k : List Mark) (v : Takes (is_word (codes "variant")) s true m) wh
   OfVariant = Of variant_of VariantExpression
 
   module _ (l : Takes is_a_label m true k) where
-    labelled_begins : (b : Bounds) (f : List Item) → StartsIn IsExpression b f → BeginsIn b Variant (v.0 ∷ (l.0 ∷ map plain f))
+    labelled_begins : (b : Bounds) (f : List Item) → BeginsOne (IsExpression b) f → BeginsIn b Variant (v.0 ∷ (l.0 ∷ map plain f))
     labelled_begins b f c =
         taken_begins (is_word (codes "variant")) OfVariant (Nothing None) b v.0 (l.0 ∷ map plain f) v.2
         (of_begins variant_of VariantExpression b (l.0 ∷ map plain f) (taken_begins is_a_label Expression Expression b l.0 (map plain f) l.2 (run_begins IsExpression b f c)))
@@ -195,7 +196,7 @@ module _ (s m k : List Mark) (v : Takes (is_word (codes "variant")) s true m) wh
     labelled_variant_stops rest stop.OutOfMemory h = tt
 
   module _ (isnt_label : is_at is_a_label m ≡ false) where
-    bare_begins : (b : Bounds) (f : List Item) → StartsIn IsExpression b f → BeginsIn b Variant (v.0 ∷ map plain f)
+    bare_begins : (b : Bounds) (f : List Item) → BeginsOne (IsExpression b) f → BeginsIn b Variant (v.0 ∷ map plain f)
     bare_begins b f c =
         taken_begins (is_word (codes "variant")) OfVariant (Nothing None) b v.0 (map plain f) v.2 (of_begins variant_of VariantExpression b (map plain f) (unlabelled b f c))
 
@@ -277,22 +278,11 @@ leaves_witness = leaves_labelled false
 leaves_witnesses : Leaves Witnesses
 leaves_witnesses = leaves_many is_a_label (Labelled false) good_witness good_witnesses.split leaves_witness
 
-loose_action : (b c : Bounds) → IsLooser b c → (f : List Item) (a : RawAction) → IsAct b f a → IsAct c f a
-loose_action limits limits l f a k = k
-loose_action limits parts l f a k = k.0
-loose_action limits none l f a k = action_looser f a k.0
-loose_action parts limits l f a k = absurd l
-loose_action parts parts l f a k = k
-loose_action parts none l f a k = action_looser f a k
-loose_action none limits l f a k = absurd l
-loose_action none parts l f a k = absurd l
-loose_action none none l f a k = k
-
 pub step_takes : (b : Bounds) (s : List Mark) (x : RawStep) (m : List Mark) → Step b s x m → length m < length s
 step_takes b s x m h = labelled_shorter IsAct b s h.from m h.part
 
 pub good_step : Good Step
-good_step = good_of step (Then (One label_at) (Run IsAct)) (good_then (One label_at) (Run IsAct) (good_one label_at) (good_run IsAct loose_action))
+good_step = good_of step (Then (One label_at) (Run IsAct)) (good_then (One label_at) (Run IsAct) (good_one label_at) (good_run IsAct (loose SpellsAction action_looser)))
 
 pub good_steps : Good Steps
 good_steps = good_many is_a_label Step good_step refl step_takes

@@ -5,8 +5,10 @@ use Rattle.std.specs.Prelude.{Some, slice_get, Err}
 use Rattle.std.proofs.lemmas.List.{take_rest}
 use Rattle.formula_core.specs.declared.raw.Raw.{Raw}
 use Rattle.math_grammar.specs.declared.holes.Hole.{Hole}
+use Rattle.math_parse.specs.declared.fault.ParseFault.{ParseFault}
 use Rattle.math_parse.specs.declared.fault.ParseFault.TheVariants as fault
-use Rattle.math_parse.specs.Limits.{IsFault, IsSentence}
+use Rattle.math_parse.specs.Faults.{BeginsOne}
+use Rattle.math_parse.specs.Limits.{IsFaultOf, IsFault, IsSentence}
 use Rattle.component_text.specs.declared.stop.Stop.TheVariants as stop
 use Rattle.formula_core.specs.declared.raw.RawAction.{RawAction}
 use Rattle.math_action.specs.Limits.{IsAction, IsActionFault}
@@ -18,7 +20,7 @@ use Rattle.math_tokens.specs.declared.cutting.Token.{Token}
 use Rattle.math_grammar.specs.Tokens.{Item, bytes_of, item_of, items_of}
 use Rattle.component_tokens.specs.Pieces.{at_sign}
 use Rattle.component_text.specs.Marks.{Mark, word, label, plain, is_structural, mark_by, mark_of, marks_of, run, behind_run, is_word, is_at}
-use Rattle.component_text.specs.PrivateReading.{Takes, from_token, StartsIn, StopsAt, PassesAt, ReadsFormula}
+use Rattle.component_text.specs.PrivateReading.{Takes, from_token, bounded, FailsBy, ReadsFormula}
 use Rattle.component_text.specs.PrivateTexts.{is_plain_text, plain_length}
 
 -- it ends a formula
@@ -165,44 +167,45 @@ module _ {X : Type 0} (F : Bounds → List Item → X → Type 0) (text : List �
   at_token i short =
       ap (marks_of text) (rest_slice i tokens) ∙ tokens_from text tokens i (subst (λ m. i ≤ length (run m)) (sym view) short) ∙ ap (from_token i) view
 
-  pub formula_unexpected : (i : ℕ) → StopsAt F (items_of text (take n tokens)) i → ReadsFormula F s (Err stop.Unexpected) (marks_of text (take (length tokens - i) (drop i tokens)))
+  pub formula_unexpected : (i : ℕ) → FailsBy F (items_of text (take n tokens)) (fault.Unexpected i) → ReadsFormula F s (Err stop.Unexpected) (marks_of text (take (length tokens - i) (drop i tokens)))
   formula_unexpected i k =
-      let there : StopsAt F (run s) i = subst (λ f. StopsAt F f i) (sym run_is) k in
-      (i, at_token i there.short, there)
+      let there : FailsBy F (run s) (fault.Unexpected i) = subst (λ f. FailsBy F f (fault.Unexpected i)) (sym run_is) k in
+      (i, at_token i there.first.0, there)
 
-  pub formula_too_large : (i : ℕ) → PassesAt F (items_of text (take n tokens)) i → ReadsFormula F s (Err stop.TooLarge) (marks_of text (take (length tokens - i) (drop i tokens)))
+  pub formula_too_large : (i : ℕ) → FailsBy F (items_of text (take n tokens)) (fault.TooLarge i) → ReadsFormula F s (Err stop.TooLarge) (marks_of text (take (length tokens - i) (drop i tokens)))
   formula_too_large i k =
-      let there : PassesAt F (run s) i = subst (λ f. PassesAt F f i) (sym run_is) k in
-      (i, at_token i (omega (arith, there.short)), there)
+      let there : FailsBy F (run s) (fault.TooLarge i) = subst (λ f. FailsBy F f (fault.TooLarge i)) (sym run_is) k in
+      (i, at_token i (omega (arith, there.first.0)), there)
 
 -- what the parsers of formulas and of actions tell
-starts_placed : (h : Hole) (b : Bounds) (f : List Item) → StartsIn (IsFormula h) b f → StartsIn (IsPlaced h) b f
+starts_placed : (h : Hole) (b : Bounds) (f : List Item) → BeginsOne (IsFormula h b) f → BeginsOne (IsPlaced h b) f
 starts_placed h b f c = (c.0, (c.1, first_place (f ++ c.0)), (c.2, refl))
 
-pub formula_stops : (h : Hole) (f : List Item) (i : ℕ) → IsFault h f (fault.Unexpected i) → ((t : Raw) → IsSentence h f t → ⊥) → StopsAt (IsPlaced h) f i
-formula_stops h f i k isnt = record {
-  short = k.0;
-  begins = starts_placed h parts (take i f) k.1;
-  there = λ l c. k.2.there l (c.0, c.1.0, c.2.0);
-  at_end = λ e p s. k.2.at_end e p.0 s.0;
-  few = k.3;
-  wrong = λ p s. isnt p.0 s.0;
-}
+placed_fault : (h : Hole) (f : List Item) (e : ParseFault) → IsFault h f e → IsFaultOf (bounded (IsPlaced h)) f e
+placed_fault h f (fault.Unexpected i) k = (
+  k.0,
+  starts_placed h parts (take i f) k.1,
+  record { before = starts_placed h none (take i f) k.2.before; there = λ l c. k.2.there l (c.0, c.1.0, c.2.0); at_end = λ e p s. k.2.at_end e p.0 s.0 },
+  k.3,
+)
+placed_fault h f (fault.TooLarge i) k = (
+  k.0,
+  starts_placed h parts (take i f) k.1,
+  k.2,
+  elim k.3 [ inl a ↦ inl a | inr a ↦ inr (starts_placed h none (take (i + 1) f) a.0, λ c. a.1 (c.0, c.1.0, c.2.0)) ],
+)
+placed_fault h f fault.OutOfMemory k = tt
 
-pub formula_passes : (h : Hole) (f : List Item) (i : ℕ) → IsFault h f (fault.TooLarge i) → ((t : Raw) → IsSentence h f t → ⊥) → PassesAt (IsPlaced h) f i
-formula_passes h f i k isnt = record {
-  short = k.0;
-  begins = starts_placed h parts (take i f) k.1;
-  few = k.2;
-  large = elim k.3 [ inl a ↦ inl a | inr a ↦ inr (starts_placed h none (take (i + 1) f) a.0, λ c. a.1 (c.0, c.1.0, c.2.0)) ];
-  wrong = λ p s. isnt p.0 s.0;
-}
+pub formula_fails : (h : Hole) (f : List Item) (e : ParseFault) → IsFault h f e → ((t : Raw) → IsSentence h f t → ⊥) → FailsBy (IsPlaced h) f e
+formula_fails h f e k isnt = record { first = placed_fault h f e k; wrong = λ p s. isnt p.0 s.0 }
 
-pub action_stops : (f : List Item) (i : ℕ) → IsActionFault f (fault.Unexpected i) → ((a : RawAction) → IsAction f a → ⊥) → StopsAt IsAct f i
-action_stops f i k isnt = record { short = k.0; begins = k.1; there = k.2.there; at_end = k.2.at_end; few = k.3; wrong = isnt }
+action_fault : (f : List Item) (e : ParseFault) → IsActionFault f e → IsFaultOf (bounded IsAct) f e
+action_fault f (fault.Unexpected i) k = k
+action_fault f (fault.TooLarge i) k = k
+action_fault f fault.OutOfMemory k = tt
 
-pub action_passes : (f : List Item) (i : ℕ) → IsActionFault f (fault.TooLarge i) → ((a : RawAction) → IsAction f a → ⊥) → PassesAt IsAct f i
-action_passes f i k isnt = record { short = k.0; begins = k.1; few = k.2; large = k.3; wrong = isnt }
+pub action_fails : (f : List Item) (e : ParseFault) → IsActionFault f e → ((a : RawAction) → IsAction f a → ⊥) → FailsBy IsAct f e
+action_fails f e k isnt = record { first = action_fault f e k; wrong = isnt }
 
 -- one of two words
 pub either_first : (v w : List ℕ) (s m : List Mark) → Takes (is_word v) s true m → Takes (either v w) s true m

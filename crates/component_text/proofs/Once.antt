@@ -9,11 +9,11 @@ use Rattle.model_core.specs.declared.component.Convergence.{Convergence}
 use Rattle.model_core.specs.declared.component.Convergence.TheVariants.{Ordinary, Convergent, Anticipated}
 use Rattle.model_core.specs.declared.component.RawComponent.{RawComponent}
 use Rattle.component_text.specs.Marks.{Mark, word, is_word, is_at}
-use Rattle.component_text.specs.Forms.{Bounds, limits, parts, none, One, Run, Nothing, Then, Of}
+use Rattle.component_text.specs.Forms.{Bounds, One, Run, Nothing, Then, Of}
 use Rattle.component_text.specs.Grammar.{IsPlaced, reference, label_at, is_a_label, Names, SomeNames, Labelled, Lines, SomeNamesBehind, NamesBehind, LinesBehind}
 use Rattle.component_text.specs.Machines.{IsAct, word_at, Refines, Expression, VariantExpression, variant_of, Variant, Witnesses, step, Step, Steps, extending, refining, References, either, Guards, With, Actions, event_of, EventBody, Event, begins_event, EventList, Events, machine_of, MachineBody, IsMachine, IsComponent, a_context, a_machine}
 use Rattle.component_text.proofs.Parts.{good_one}
-use Rattle.component_text.proofs.Unique.{Unique, OneFormula, placed_once, one_unique, run_unique, nothing_unique, then_unique, of_unique, choice_unique, many_unique, labelled_unique, lines_unique, names_unique, some_names_unique, section_unique, context_unique}
+use Rattle.component_text.proofs.Unique.{Unique, OneFormula, within_once, placed_once, one_unique, run_unique, nothing_unique, then_unique, of_unique, choice_unique, many_unique, labelled_unique, lines_unique, names_unique, some_names_unique, section_unique, context_unique}
 use Rattle.component_text.proofs.Machines.{good_refines, good_variant, good_witness, good_step, good_references, good_any, good_guards, good_with, good_actions, Unordinary, Unconvergent, good_event, good_sees, good_variables, good_invariants}
 
 abbrev pub OneAction : Type 0
@@ -31,9 +31,7 @@ module _ (law : OneFormula) (action_law : OneAction) where
       (of_unique variant_of VariantExpression (choice_unique is_a_label Expression Expression expression_unique expression_unique)) (nothing_unique None)
 
   action_once : (b : Bounds) (s : List Item) (x y : RawAction) → IsAct b s x → IsAct b s y → x ≡ y
-  action_once limits s x y h k = action_law _ s x y h.0 k.0
-  action_once parts s x y h k = action_law _ s x y h k
-  action_once none s x y h k = action_law _ s x y h k
+  action_once = within_once SpellsAction action_law
 
   step_unique : Unique Step
   step_unique = of_unique step (Then (One label_at) (Run IsAct))

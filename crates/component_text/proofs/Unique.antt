@@ -1,15 +1,16 @@
 -- What is spelled, within the limits or without them, is read in one way.
-use Rattle.std.proofs.Common.{◌≡◌, ◌∙◌, ap, ℕ, List, [], ◌∷◌, Bool, true, false, Some, refl, sym, subst}
+use Rattle.std.proofs.Common.{◌≡◌, ◌∙◌, ap, ℕ, List, [], ◌∷◌, Bool, true, false, Some, None, refl, sym, subst}
 use Rattle.std.specs.Prelude.{Option, codes}
 use Rattle.formula_core.specs.declared.raw.Raw.{Raw}
 use Rattle.math_grammar.specs.declared.holes.Hole.{Hole}
 use Rattle.math_grammar.specs.declared.holes.Hole.TheVariants as hole
 use Rattle.math_grammar.specs.Tokens.{Item}
 use Rattle.math_grammar.specs.Grammar.{Spells}
+use Rattle.math_parse.specs.Limits.{most_parts}
 use Rattle.model_core.specs.declared.component.RawComponent.{RawComponent}
 use Rattle.component_text.specs.Marks.{Mark, word, is_word, is_at}
 use Rattle.component_text.specs.Forms.{Bounds, limits, parts, none, One, Run, Nothing, Then, Choice, taken, other, Many, no_more, one_more, Of}
-use Rattle.component_text.specs.Grammar.{IsFormula, IsPlaced, reference, is_reference, label_at, Names, SomeNames, labelled, Labelled, Line, begins_line, Lines, NamesBehind, SomeNamesBehind, LinesBehind, context_of, ContextBody, IsContext}
+use Rattle.component_text.specs.Grammar.{Within, IsFormula, IsPlaced, reference, is_reference, label_at, Names, SomeNames, labelled, Labelled, Line, begins_line, Lines, NamesBehind, SomeNamesBehind, LinesBehind, context_of, ContextBody, IsContext}
 use Rattle.component_text.proofs.Parts.{Good, same_start_self, good_one}
 use Rattle.component_text.proofs.Components.{good_line, good_extends, good_sets, good_constants}
 
@@ -65,15 +66,19 @@ many_unique test P p u b s xs ys m n (one_more {m = a} {x = x} {xs = xs'} does h
     let later : xs' ≡ ys' = many_unique test P p u b a xs' ys' m n hs (subst (λ t. Many test P b t ys' n) middle ks) in
     ap (λ z. z ∷ xs') first ∙ ap (λ zs. y ∷ zs) later
 
+pub within_once : {X : Type 0} (IsOne : Option ℕ → List Item → X → Type 0) → ((limit : Option ℕ) (s : List Item) (x y : X) → IsOne limit s x → IsOne limit s y → x ≡ y) →
+    (b : Bounds) (s : List Item) (x y : X) → Within IsOne b s x → Within IsOne b s y → x ≡ y
+within_once IsOne one limits s x y h k = one most_parts s x y h.0 k.0
+within_once IsOne one parts s x y h k = one most_parts s x y h k
+within_once IsOne one none s x y h k = one None s x y h k
+
 -- formulas have one tree
 abbrev pub OneFormula : Type 0
 OneFormula = (limit : Option ℕ) (h : Hole) (s : List Item) (t u : Raw) → Spells limit h s t → Spells limit h s u → t ≡ u
 
 module _ (law : OneFormula) where
   pub formula_once : (h : Hole) (b : Bounds) (s : List Item) (t u : Raw) → IsFormula h b s t → IsFormula h b s u → t ≡ u
-  formula_once h limits s t u k l = law _ h s t u k.0 l.0
-  formula_once h parts s t u k l = law _ h s t u k l
-  formula_once h none s t u k l = law _ h s t u k l
+  formula_once h = within_once (λ limit. Spells limit h) (λ limit. law limit h)
 
   pub placed_once : (h : Hole) (b : Bounds) (s : List Item) (p q : Raw × ℕ) → IsPlaced h b s p → IsPlaced h b s q → p ≡ q
   placed_once h b s p q k l = ap (λ (t : Raw). (t, p.1)) (formula_once h b s p.0 q.0 k.0 l.0) ∙ ap (λ (n : ℕ). (q.0, n)) (k.1 ∙ sym l.1)

@@ -1,6 +1,7 @@
 -- The first place at which a text can't go on.
 use Rattle.std.specs.Prelude.{◌≡◌, Bool, true, false, List, [], ◌∷◌, ◌++◌, Some, length, map, bytes_eq, codes}
 use Rattle.math_grammar.specs.Tokens.{Item}
+use Rattle.math_parse.specs.Faults.{BeginsOne}
 use Rattle.math_parse.specs.Limits.{first_large}
 use Rattle.component_text.specs.Marks.{Mark, word, label, plain}
 use Rattle.component_text.specs.Forms.{Bounds, parts, none}
@@ -24,7 +25,7 @@ pub record IsLong (before : List Mark) (x : Mark) : Type 0 where
 
 -- Some component begins so, with formulas within the bounds.
 abbrev pub Continues : {C : Type 0} → (Bounds → List Mark → C → Type 0) → Bounds → List Mark → Type 0
-Continues {C} Whole b before = (more : List Mark) × (c : C) × Whole b (before ++ more) c
+Continues Whole b = BeginsOne (Whole b)
 
 -- none of these tokens passes the limit of tokens or of open brackets of its formula
 abbrev pub NoneIsLong : List Mark → Type 0

@@ -8,17 +8,21 @@ use Rattle.math_grammar.specs.declared.holes.Hole.{Hole}
 use Rattle.math_grammar.specs.declared.holes.Hole.TheVariants as hole
 use Rattle.math_grammar.specs.Tokens.{Item}
 use Rattle.math_grammar.specs.Grammar.{Spells}
-use Rattle.math_parse.specs.Limits.{most_parts, IsSentence}
+use Rattle.math_parse.specs.Limits.{most_parts, SpellsWithin}
 use Rattle.model_core.specs.declared.component.RawLabelled.{RawLabelled}
 use Rattle.model_core.specs.declared.component.RawComponent.{RawComponent}
 use Rattle.model_core.specs.declared.component.RawComponent.TheVariants.{Context}
 use Rattle.component_text.specs.Marks.{Mark, word, label, plain, is_word}
 use Rattle.component_text.specs.Forms.{Bounds, limits, parts, none, One, Run, Nothing, Then, Choice, Many, Of}
 
+-- what is spelled within the bounds
+abbrev pub Within : {X : Type 0} → (Option ℕ → List Item → X → Type 0) → Bounds → List Item → X → Type 0
+Within IsOne limits s x = SpellsWithin IsOne s x
+Within IsOne parts s x = IsOne most_parts s x
+Within IsOne none s x = IsOne None s x
+
 abbrev pub IsFormula : Hole → Bounds → List Item → Raw → Type 0
-IsFormula h limits s t = IsSentence h s t
-IsFormula h parts s t = Spells most_parts h s t
-IsFormula h none s t = Spells None h s t
+IsFormula h = Within (λ limit. Spells limit h)
 
 -- a formula with the place of its first token
 abbrev pub first_place : List Item → ℕ

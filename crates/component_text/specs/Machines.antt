@@ -6,8 +6,6 @@ use Rattle.formula_core.specs.declared.raw.Ref.{Ref}
 use Rattle.math_grammar.specs.declared.holes.Hole.TheVariants as hole
 use Rattle.math_grammar.specs.Tokens.{Item}
 use Rattle.math_grammar.specs.Actions.{SpellsAction}
-use Rattle.math_parse.specs.Limits.{most_parts}
-use Rattle.math_action.specs.Limits.{IsAction}
 use Rattle.model_core.specs.declared.component.Convergence.{Convergence}
 use Rattle.model_core.specs.declared.component.Convergence.TheVariants.{Ordinary, Convergent, Anticipated}
 use Rattle.model_core.specs.declared.component.RawLabelled.{RawLabelled}
@@ -18,13 +16,11 @@ use Rattle.model_core.specs.declared.component.RawComponent.{RawComponent}
 use Rattle.model_core.specs.declared.component.RawComponent.TheVariants.{Machine}
 use Rattle.component_text.specs.declared.machine.Abstracts.{Abstracts}
 use Rattle.component_text.specs.Marks.{Mark, word, label, plain, is_word}
-use Rattle.component_text.specs.Forms.{Bounds, limits, parts, none, One, Run, Nothing, Then, Choice, Many, Of}
-use Rattle.component_text.specs.Grammar.{IsPlaced, reference, label_at, is_a_label, Labelled, Lines, NamesBehind, SomeNamesBehind, LinesBehind, Headed, IsContext}
+use Rattle.component_text.specs.Forms.{Bounds, One, Run, Nothing, Then, Choice, Many, Of}
+use Rattle.component_text.specs.Grammar.{Within, IsPlaced, reference, label_at, is_a_label, Labelled, Lines, NamesBehind, SomeNamesBehind, LinesBehind, Headed, IsContext}
 
 abbrev pub IsAct : Bounds → List Item → RawAction → Type 0
-IsAct limits s a = IsAction s a
-IsAct parts s a = SpellsAction most_parts s a
-IsAct none s a = SpellsAction None s a
+IsAct = Within SpellsAction
 
 -- the word, by its place
 abbrev pub word_at : List ℕ → Mark → Option ℕ

@@ -1,8 +1,10 @@
 -- What the calls that read parts leave. Private contracts alone cite this.
-use Rattle.std.specs.Prelude.{◌≡◌, ℕ, ◌+◌, ◌<◌, ◌≤◌, Bool, true, false, List, [], ◌∷◌, ◌++◌, length, drop, take, map, Option, Some, None, Result, Ok, Err, codes, ◌⊎◌}
+use Rattle.std.specs.Prelude.{◌≡◌, ℕ, Bool, true, false, List, [], ◌∷◌, ◌++◌, drop, map, Option, Some, None, Result, Ok, Err, codes, ◌⊎◌}
 use Rattle.formula_core.specs.declared.raw.Ref.{Ref}
 use Rattle.math_grammar.specs.Tokens.{Item}
-use Rattle.math_parse.specs.Limits.{first_large}
+use Rattle.math_parse.specs.Limits.{first_large, IsFaultOf}
+use Rattle.math_parse.specs.declared.fault.ParseFault.{ParseFault}
+use Rattle.math_parse.specs.declared.fault.ParseFault.TheVariants as fault
 use Rattle.component_text.specs.declared.stop.Stop.{Stop}
 use Rattle.component_text.specs.declared.stop.Stop.TheVariants as stop
 use Rattle.component_text.specs.Marks.{Mark, word, label, plain, run, behind_run, is_word, is_at}
@@ -102,32 +104,21 @@ ReadsOne value old None new = (new ≡ old) × Lacks value old
 abbrev pub from_token : ℕ → List Mark → List Mark
 from_token i s = map plain (drop i (run s)) ++ behind_run s
 
--- some formula begins so
-abbrev pub StartsIn : {X : Type 0} → (Bounds → List Item → X → Type 0) → Bounds → List Item → Type 0
-StartsIn {X} F b f = (more : List Item) × (x : X) × F b (f ++ more) x
+-- a formula with at most so many parts of a partition as the limit says, if there is one
+abbrev pub bounded : {X : Type 0} → (Bounds → List Item → X → Type 0) → Option ℕ → List Item → X → Type 0
+bounded F None = F none
+bounded F (Some n) = F parts
 
--- the token at i is the first one that no formula has there, or the end is
-pub record StopsAt {X : Type 0} (F : Bounds → List Item → X → Type 0) (s : List Item) (i : ℕ) : Type 0 where
-  pub short : i ≤ length s
-  pub begins : StartsIn F parts (take i s)
-  pub there : i < length s → StartsIn F none (take (i + 1) s) → ⊥
-  pub at_end : i ≡ length s → (x : X) → F none s x → ⊥
-  pub few : first_large (take (i + 1) s) ≡ None
-  pub wrong : (x : X) → F limits s x → ⊥
-
--- the token at i passes a limit
-pub record PassesAt {X : Type 0} (F : Bounds → List Item → X → Type 0) (s : List Item) (i : ℕ) : Type 0 where
-  pub short : i < length s
-  pub begins : StartsIn F parts (take i s)
-  pub few : first_large (take i s) ≡ None
-  pub large : (first_large (take (i + 1) s) ≡ Some i) ⊎ (StartsIn F none (take (i + 1) s) × (StartsIn F parts (take (i + 1) s) → ⊥))
+-- the first fault of tokens that are no formula within the limits
+pub record FailsBy {X : Type 0} (F : Bounds → List Item → X → Type 0) (s : List Item) (f : ParseFault) : Type 0 where
+  pub first : IsFaultOf (bounded F) s f
   pub wrong : (x : X) → F limits s x → ⊥
 
 -- a formula was read, or it is refused at a token
 abbrev pub ReadsFormula : {X : Type 0} → (Bounds → List Item → X → Type 0) → List Mark → Result X Stop → List Mark → Type 0
 ReadsFormula F old (Ok t) new = Run F limits old t new
-ReadsFormula F old (Err stop.Unexpected) new = (i : ℕ) × (new ≡ from_token i old) × StopsAt F (run old) i
-ReadsFormula F old (Err stop.TooLarge) new = (i : ℕ) × (new ≡ from_token i old) × PassesAt F (run old) i
+ReadsFormula F old (Err stop.Unexpected) new = (i : ℕ) × (new ≡ from_token i old) × FailsBy F (run old) (fault.Unexpected i)
+ReadsFormula F old (Err stop.TooLarge) new = (i : ℕ) × (new ≡ from_token i old) × FailsBy F (run old) (fault.TooLarge i)
 ReadsFormula F old (Err stop.OutOfMemory) new = Unit {0}
 
 -- all names that stand next were added
