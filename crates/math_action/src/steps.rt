@@ -110,7 +110,8 @@ fn formula_step(
     from: u32,
     word: &[u8],
 ) -> Result<Stage, StepFault>
-    ensures { ActionSteps result (action_step None (action_state (stage.Formula head phase)) (item symbol from word.now)) }
+    ensures { ActionSteps result
+        (action_step None (action_state (stage.Formula head phase)) (item symbol from word.now)) }
 {
     let goal = head.goal();
     if head.ends_at(symbol) && is_ready(&phase) {

@@ -115,7 +115,8 @@ fn close_type(
     place: u32,
     symbol: Symbol,
 ) -> Result<Phase, StepFault>
-    ensures { Steps result (after_type (forms stack.items) binding before name.name name.place side formula place symbol) }
+    ensures { Steps result
+        (after_type (forms stack.items) binding before name.name name.place side formula place symbol) }
 {
     if symbol.is_typing() {
         second_side(stack, binding, before, name, side, formula, place)
@@ -155,7 +156,8 @@ fn type_next(
     formula: Raw,
     place: u32,
 ) -> Result<Phase, StepFault>
-    ensures { Steps result (cond are_names (type_next (forms stack.items) binding (bounds_of before) (typed_name_of formula) place) None) }
+    ensures { Steps result
+        (cond are_names (type_next (forms stack.items) binding (bounds_of before) (typed_name_of formula) place) None) }
 {
     if !are_names {
         return Err(StepFault::Refused);
@@ -258,7 +260,8 @@ fn close_given(
     formula: Raw,
     symbol: Symbol,
 ) -> Result<Phase, StepFault>
-    ensures { Steps result (closed None (forms stack.items) (frame.Given binding names parts place) grade formula symbol) }
+    ensures { Steps result
+        (closed None (forms stack.items) (frame.Given binding names parts place) grade formula symbol) }
 {
     let _ = grade;
     match symbol {
@@ -290,7 +293,8 @@ fn whole(
     place: u32,
     formula: Raw,
 ) -> Result<Phase, StepFault>
-    ensures { Steps result (Some (have (forms stack.items) (binding_grade binding) (raw.Bind binder names (parts ++ formula ∷ []) place))) }
+    ensures { Steps result (Some
+        (have (forms stack.items) (binding_grade binding) (raw.Bind binder names (parts ++ formula ∷ []) place))) }
 {
     let parts = with(parts, formula)?;
     Ok(Phase::Have(stack, binding.grade(), bind(binder, names, parts, place)))

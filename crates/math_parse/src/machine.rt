@@ -129,7 +129,8 @@ fn shape_named(
     place: u32,
     symbol: Symbol,
 ) -> Result<Phase, StepFault>
-    ensures { Steps result (cond (is_typing symbol) (Some (want (frame.PatternType name place ∷ forms stack.items))) (shape_step (forms stack.items) (lone name place None) symbol)) }
+    ensures { Steps result (cond (is_typing symbol) (Some (want (frame.PatternType name place ∷ forms stack.items)))
+        (shape_step (forms stack.items) (lone name place None) symbol)) }
 {
     if symbol.is_typing() {
         open(stack, Frame::PatternType(name, place))
