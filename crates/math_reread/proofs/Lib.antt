@@ -13,5 +13,9 @@ pub mod CutBack
 pub mod AnyLimit
 pub mod Unlimited
 pub mod Placeless
+pub mod BarePlaces
+pub mod Typings
+pub mod CoreForms
+pub mod OtherPlaces
 pub mod Reread
 pub mod Known

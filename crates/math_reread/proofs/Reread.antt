@@ -26,7 +26,7 @@ use Rattle.math_print.proofs.FreshNames.{fresh}
 use Rattle.math_print.proofs.TypedBack.{typed_back}
 use Rattle.math_places.specs.Places.{unplaced_item, unplaced, AlikeTokens}
 use Rattle.math_places.proofs.Spelled.{spelled_again}
-use Rattle.type_places.proofs.OtherPlaces.{formula_again}
+use Rattle.math_reread.proofs.OtherPlaces.{formula_again}
 use Rattle.token_text.specs.Spacing.{unplaced as without_place, IsCutInto}
 use Rattle.math_reread.specs.Items.{items_of_formula}
 use Rattle.math_reread.specs.Grades.{place_for}

@@ -1,11 +1,15 @@
 //! The laws of reading back what is printed. The calls do nothing.
-ghost use Rattle.std.specs.Prelude.{◌≡◌, None, IsTrue};
+ghost use Rattle.std.specs.Prelude.{◌≡◌, ℕ, List, Option, None, IsTrue};
+ghost use Rattle.formula_core.specs.declared.ty.Ty.{Ty};
 ghost use Rattle.formula_core.specs.declared.formula.Formula.{Formula};
 ghost use Rattle.formula_core.specs.declared.raw.Raw.{Raw};
 ghost use Rattle.formula_core.specs.Wellness.{is_well};
+ghost use Rattle.type_core.specs.CoreForms.{core_form};
+ghost use Rattle.type_core.specs.Answers.{IsTypedAs, IsTheFormula};
 ghost use Rattle.math_grammar.specs.Grammar.{Spells};
 ghost use Rattle.math_print.specs.Printing.{text_of};
 ghost use Rattle.math_print.specs.Written.{raw_of};
+ghost use Rattle.math_places.specs.Places.{unplaced};
 ghost use Rattle.token_text.specs.Spacing.{IsCutInto};
 ghost use Rattle.math_reread.specs.Grades.{IsSpelled, place_for};
 ghost use Rattle.math_print.specs.Held.{HasNames, IsCounted};
@@ -35,4 +39,13 @@ pub fn text_is_cut()
 pub fn read_back()
     ensures { (f : Formula) → IsTrue (is_well f) → HasNames f → IsCounted f
         → HasNarrowNumbers f → ReadsBack f (text_of f) }
+{}
+
+/// Two written formulas that are the same but for their places have the same typings, and if one has a single typing, it is
+/// the only one of the other too.
+pub fn typed_at_other_places()
+    ensures typings { (r s : Raw) → unplaced r ≡ unplaced s → (env : List (List ℕ × Ty)) (wanted : List (List ℕ)) (expected : Option Ty) (f : Formula)
+        → IsTypedAs env wanted (core_form r) expected f → IsTypedAs env wanted (core_form s) expected f }
+    ensures the_formula { (r s : Raw) → unplaced r ≡ unplaced s → (env : List (List ℕ × Ty)) (wanted : List (List ℕ)) (expected : Option Ty) (f : Formula)
+        → IsTheFormula env wanted (core_form r) expected f → IsTheFormula env wanted (core_form s) expected f }
 {}

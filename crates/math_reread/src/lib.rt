@@ -4,5 +4,7 @@
 mod laws;
 mod rereading;
 
-pub use laws::{read_back, spelled_one_way, text_is_cut, written_is_spelled};
+pub use laws::{
+    read_back, spelled_one_way, text_is_cut, typed_at_other_places, written_is_spelled,
+};
 pub use rereading::text;

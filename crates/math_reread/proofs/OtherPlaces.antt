@@ -7,9 +7,9 @@ use Rattle.type_core.specs.Bare.{Bare}
 use Rattle.type_core.specs.CoreForms.{core_form}
 use Rattle.type_core.specs.Answers.{IsTypedAs, IsTheFormula}
 use Rattle.math_places.specs.Places.{unplaced}
-use Rattle.type_places.specs.BarePlaces.{unplaced_bare}
-use Rattle.type_places.proofs.Typings.{placed, without_places}
-use Rattle.type_places.proofs.CoreForms.{same_core}
+use Rattle.math_reread.proofs.BarePlaces.{unplaced_bare}
+use Rattle.math_reread.proofs.Typings.{placed, without_places}
+use Rattle.math_reread.proofs.CoreForms.{same_core}
 
 pub typed_again : (r s : Raw) → unplaced r ≡ unplaced s → (env : List (List ℕ × Ty)) (wanted : List (List ℕ)) (expected : Option Ty) (f : Formula) → IsTypedAs env wanted (core_form r) expected f → IsTypedAs env wanted (core_form s) expected f
 typed_again r s same env wanted expected f h =

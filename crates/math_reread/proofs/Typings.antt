@@ -13,7 +13,7 @@ use Rattle.type_core.specs.TypeExpressions.{denoted, denoted_form, all_denoted}
 use Rattle.type_core.specs.Partition.{partition_schemes, partition_of}
 use Rattle.type_core.specs.Typings.{AreBound, Types, AllTyped}
 use Rattle.type_core.specs.Answers.{IsTypedAs, IsExpected, AreValueTypes, paired}
-use Rattle.type_places.specs.BarePlaces.{unplaced_bare, unplaced_bares, unplaced_bounds}
+use Rattle.math_reread.proofs.BarePlaces.{unplaced_bare, unplaced_bares, unplaced_bounds}
 
 same_count : (bs : Bares) → part_count (unplaced_bares bs) ≡ part_count bs
 same_count nothing = refl

@@ -14,9 +14,9 @@ use Rattle.type_core.specs.CoreForms.{free_in_form, free_in_binder, free_names, 
 use Rattle.type_core.proofs.CoreEquations.{core_form-Int, core_form-Name, core_form-Node, core_form-Bind, free_names-Int, free_names-Name, free_names-Node, free_names-Bind}
 use Rattle.math_places.specs.Places.{unplaced, unplaced_bound}
 use Rattle.math_places.proofs.Equations.{unplaced-Int, unplaced-Name, unplaced-Node, unplaced-Bind}
-use Rattle.type_places.specs.BarePlaces.{unplaced_bare, unplaced_bares, unplaced_bounds}
+use Rattle.math_reread.proofs.BarePlaces.{unplaced_bare, unplaced_bares, unplaced_bounds}
 use Rattle.math_places.proofs.Induction.{OfType, raw_induction}
-use Rattle.type_places.proofs.Typings.{same_has}
+use Rattle.math_reread.proofs.Typings.{same_has}
 
 -- The free names.
 

@@ -1,3 +1,0 @@
-pub mod Typings
-pub mod CoreForms
-pub mod OtherPlaces

@@ -1,5 +1,0 @@
-use Rattle.type_places.proofs.OtherPlaces.{typed_again, formula_again}
-use Rattle.type_places.proofs.laws.typed_at_other_places.Goals as goal
-
-pub returns : goal.returns
-returns c = record { typings = typed_again; the_formula = formula_again }
