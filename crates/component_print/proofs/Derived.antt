@@ -30,8 +30,9 @@ use Rattle.math_grammar.specs.Levels.{infix_of, binder_of, implicit_of, takes_na
 use Rattle.math_grammar.specs.Tokens.{Item}
 use Rattle.math_grammar.specs.Grammar.{Reads, a_name, a_number, a_truth, a_constant, prefixed, two_sides, in_parentheses, called, applied, converted, set_by_members, by_names, by_shape, lambda, Parts, last_one, next_one, TypeOf, last_side, first_side, Bound, bare, of_type, Declares, last_name, next_name, Body, a_predicate, a_value, LastPart, up_to_brace, reaching, Pattern, last_atom, next_atom, Atom, bare_atom, typed_atom, grouped_atom, type_with, joined, lone, bound, place_of}
 use Rattle.token_text.specs.Spacing.{is_space, stops, Follows}
-use Rattle.raw_print.specs.Pieces.{bytes, Piece, Token, text_of, word, dot, bar, typing, in_round, in_square, between, separated}
-use Rattle.raw_print.specs.Signs.{sign_of, symbol_of}
+use Rattle.math_grammar.specs.Characters.{bytes}
+use Rattle.raw_print.specs.Pieces.{Piece, Token, text_of, word, dot, bar, typing, in_round, in_square, between, separated}
+use Rattle.math_grammar.specs.Operators.{raw_sign_of, raw_class_of}
 use Rattle.raw_print.specs.Printing as printing
 use Rattle.raw_print.specs.Printing.{Part, operand, bare as bare_parts, form, pieces, with_pieces, declared, bind_pieces, body, pattern, pattern_step, names_in, names_in_step}
 use Rattle.raw_print.proofs.Equations.{pieces-Int, pieces-Name, pieces-Node, pieces-Bind, pattern-Name, names_in-Name}
@@ -96,7 +97,7 @@ record IsPrintedPattern (shape : Shape) : Type 0 where
 
 pair_printed : (b a : Shape) → IsPrintedPattern b → IsPrintedPattern a → IsPrintedPattern (joined (Some b) a)
 pair_printed b a left right = record {
-  qs = between (operand (b.tree, left.qs)) (Token (symbol_of (rawop.Plain op.Maplet)) (sign_of (rawop.Plain op.Maplet))) (operand (a.tree, right.qs));
+  qs = between (operand (b.tree, left.qs)) (Token (raw_class_of (rawop.Plain op.Maplet)) (raw_sign_of (rawop.Plain op.Maplet))) (operand (a.tree, right.qs));
   printed = with_sign _ _ (before_space (rawop.Plain op.Maplet) refl) _ _ (as_operand b.tree left.qs left.printed) (as_operand a.tree right.qs right.printed);
   prints = λ more.
       let all : List (List Piece) = map declared (b.names ++ a.names) ++ more in
@@ -105,21 +106,21 @@ pair_printed b a left right = record {
       let behind : drop (names_in b.tree) all ≡ map declared a.names ++ more = (λ i. drop (left.counts i) (names i)) ∙ drop-append_seam (map declared b.names) (map declared a.names ++ more) in
       let second : pattern a.tree (drop (names_in b.tree) all) ≡ right.qs = ap (pattern a.tree) behind ∙ right.prints more in
       pattern-pair (rawop.Plain op.Maplet) b.tree a.tree (place_of b.tree) all
-      ∙ (λ i. between (operand (b.tree, first i)) (Token (symbol_of (rawop.Plain op.Maplet)) (sign_of (rawop.Plain op.Maplet))) (operand (a.tree, second i)));
+      ∙ (λ i. between (operand (b.tree, first i)) (Token (raw_class_of (rawop.Plain op.Maplet)) (raw_sign_of (rawop.Plain op.Maplet))) (operand (a.tree, second i)));
   counts = names_in-pair (rawop.Plain op.Maplet) b.tree a.tree (place_of b.tree) ∙ (λ i. left.counts i + right.counts i) ∙ back (length-append (map declared b.names) (map declared a.names))
       ∙ ap length (back (map_declared b.names a.names));
 }
 
 -- a node, by the class of its operator
-node : (o : RawOp) (parts : List Raw) (p : ℕ) (x : Symbol) → symbol_of o ≡ x → Printed (form x (Token (symbol_of o) (sign_of o)) (map with_pieces parts)) → Printed (pieces (raw.Node o parts p))
+node : (o : RawOp) (parts : List Raw) (p : ℕ) (x : Symbol) → raw_class_of o ≡ x → Printed (form x (Token (raw_class_of o) (raw_sign_of o)) (map with_pieces parts)) → Printed (pieces (raw.Node o parts p))
 node o parts p x e is =
-    subst Printed (ap (λ y. form y (Token (symbol_of o) (sign_of o)) (map with_pieces parts)) (back e) ∙ back (pieces-Node o parts p)) is
+    subst Printed (ap (λ y. form y (Token (raw_class_of o) (raw_sign_of o)) (map with_pieces parts)) (back e) ∙ back (pieces-Node o parts p)) is
 
-two_printed : (l : Level) (o : RawOp) (x : Symbol) → infix_of x ≡ Some (l, o) → symbol_of o ≡ x → (a b : Raw) (p : ℕ) → Printed (pieces a) → Printed (pieces b) → Printed (pieces (raw.Node o (a ∷ b ∷ []) p))
+two_printed : (l : Level) (o : RawOp) (x : Symbol) → infix_of x ≡ Some (l, o) → raw_class_of o ≡ x → (a b : Raw) (p : ℕ) → Printed (pieces a) → Printed (pieces b) → Printed (pieces (raw.Node o (a ∷ b ∷ []) p))
 two_printed l o x ix own a b p left right =
-    let ready : Ready is_space (symbol_of o) (sign_of o) = before_space o (ap is_infix own ∙ infix_is x l o ix) in
-    let whole : Printed (between (operand (a, pieces a)) (Token (symbol_of o) (sign_of o)) (operand (b, pieces b))) = with_sign (symbol_of o) (sign_of o) ready _ _ (as_operand a (pieces a) left) (as_operand b (pieces b) right) in
-    node o (a ∷ b ∷ []) p x own (subst Printed (back (second_form x (infix_is x l o ix) (Token (symbol_of o) (sign_of o)) (with_pieces a) (with_pieces b))) whole)
+    let ready : Ready is_space (raw_class_of o) (raw_sign_of o) = before_space o (ap is_infix own ∙ infix_is x l o ix) in
+    let whole : Printed (between (operand (a, pieces a)) (Token (raw_class_of o) (raw_sign_of o)) (operand (b, pieces b))) = with_sign (raw_class_of o) (raw_sign_of o) ready _ _ (as_operand a (pieces a) left) (as_operand b (pieces b) right) in
+    node o (a ∷ b ∷ []) p x own (subst Printed (back (second_form x (infix_is x l o ix) (Token (raw_class_of o) (raw_sign_of o)) (with_pieces a) (with_pieces b))) whole)
 
 applied_printed : (o : RawOp) (f a : Raw) (p : ℕ) → (o ≡ rawop.Plain op.Apply) ⊎ (o ≡ rawop.Plain op.Image) → Printed (pieces f) → Printed (pieces a) → Printed (pieces (raw.Node o (f ∷ a ∷ []) p))
 applied_printed o f a p (inl e) left right =

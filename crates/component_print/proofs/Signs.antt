@@ -26,8 +26,8 @@ use Rattle.component_text.specs.Marks.{is_structural}
 use Rattle.token_text.specs.Spacing.{is_space, stops, Follows, Fits}
 use Rattle.token_text.proofs.Tokens.{NoneGoesOn}
 use Rattle.token_text.proofs.Signs.{opens_set, free_fits, passing_sign, stop_sign, stop_word}
-use Rattle.raw_print.specs.Pieces.{bytes}
-use Rattle.raw_print.specs.Signs.{sign_of, symbol_of}
+use Rattle.math_grammar.specs.Characters.{bytes}
+use Rattle.math_grammar.specs.Operators.{raw_sign_of, raw_class_of}
 use Rattle.raw_print.proofs.Proper.{is_infix}
 use Rattle.component_print.proofs.Laying.{opens_no_piece}
 
@@ -72,7 +72,7 @@ space_stops (c ∷ t) f = go (c == 32) refl (c == 9) refl (c == 13) refl (c == 1
 
 -- an operator between two operands, before a blank
 
-pub before_space : (o : RawOp) → is_infix (symbol_of o) ≡ true → Ready is_space (symbol_of o) (sign_of o)
+pub before_space : (o : RawOp) → is_infix (raw_class_of o) ≡ true → Ready is_space (raw_class_of o) (raw_sign_of o)
 unfolding lib.Utf8.encode
 before_space (rawop.Plain op.Top) h = cc
 before_space (rawop.Plain op.Bottom) h = cc
@@ -163,7 +163,7 @@ is_wordy (sym.Constant o) = true
 is_wordy (sym.Call c o) = true
 is_wordy _ = false
 
-pub before_stop : (o : RawOp) → is_wordy (symbol_of o) ≡ true → Ready stops (symbol_of o) (sign_of o)
+pub before_stop : (o : RawOp) → is_wordy (raw_class_of o) ≡ true → Ready stops (raw_class_of o) (raw_sign_of o)
 unfolding lib.Utf8.encode
 before_stop (rawop.Plain op.Top) h = stopping 0 (sym.Truth op.Top) 226 (138 ∷ 164 ∷ []) refl (λ rest. refl) refl refl (refl, refl, refl) refl
 before_stop (rawop.Plain op.Bottom) h = stopping 1 (sym.Truth op.Bottom) 226 (138 ∷ 165 ∷ []) refl (λ rest. refl) refl refl (refl, refl, refl) refl

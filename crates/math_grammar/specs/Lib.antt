@@ -1,4 +1,6 @@
+pub mod Characters
 pub mod Levels
+pub mod Operators
 pub mod Tokens
 pub mod Grammar
 pub mod Actions

@@ -6,6 +6,12 @@ use Rattle.formula_core.specs.declared.op.Binder.{Binder}
 use Rattle.formula_core.specs.declared.op.Binder.TheVariants as binder
 use Rattle.formula_core.specs.declared.formula.Formula.{Formula, out-Formula}
 use Rattle.formula_core.specs.declared.formula.Formula.TheOpen.{Formula-F, Int, Free, Bound, Node, Bind}
+use Rattle.math_grammar.specs.declared.levels.Level.{Level as Sort}
+use Rattle.math_grammar.specs.declared.levels.Level.TheVariants as sort
+use Rattle.math_grammar.specs.declared.levels.Bracket.TheVariants as bracket
+use Rattle.math_grammar.specs.declared.operators.Form.{Form}
+use Rattle.math_grammar.specs.declared.operators.Form.TheVariants as form
+use Rattle.math_grammar.specs.Operators.{op_form}
 use Rattle.math_print.specs.declared.levels.Level.{Level}
 use Rattle.math_print.specs.declared.levels.Level.TheVariants as lev
 use Rattle.math_print.specs.declared.levels.Side.{Side}
@@ -28,54 +34,34 @@ rank lev.Power = 11
 rank lev.Postfix = 12
 rank lev.Closed = 13
 
+-- the level of an operator between two operands (⦂ stands in no formula)
+abbrev pub infix_level : Sort → Level
+infix_level sort.Implication = lev.Implication
+infix_level sort.Conjunction = lev.Junction
+infix_level sort.Disjunction = lev.Junction
+infix_level sort.Relation = lev.Relation
+infix_level sort.Typing = lev.Relation
+infix_level sort.Maplet = lev.Maplet
+infix_level sort.Arrow = lev.Arrow
+infix_level sort.SetOperator = lev.SetOperator
+infix_level sort.Interval = lev.Interval
+infix_level sort.Additive = lev.Additive
+infix_level sort.Multiplicative = lev.Multiplicative
+infix_level sort.Power = lev.Power
+
+-- the level of an operator, by how it stands to its operands
+abbrev pub form_level : Form → Level
+form_level (form.Infix l) = infix_level l
+form_level form.Not = lev.Relation
+form_level form.Negation = lev.Additive
+form_level form.Minus = lev.Additive
+form_level form.Converse = lev.Postfix
+form_level (form.Open bracket.Round) = lev.Postfix
+form_level (form.Open bracket.Square) = lev.Postfix
+form_level _ = lev.Closed
+
 abbrev pub level_of : Op → Level
-level_of op.Implies = lev.Implication
-level_of op.Equivalent = lev.Implication
-level_of op.And = lev.Junction
-level_of op.Or = lev.Junction
-level_of op.Not = lev.Relation
-level_of op.Equal = lev.Relation
-level_of op.Member = lev.Relation
-level_of op.ProperSubset = lev.Relation
-level_of op.Subset = lev.Relation
-level_of op.Less = lev.Relation
-level_of op.LessOrEqual = lev.Relation
-level_of op.Maplet = lev.Maplet
-level_of op.Relations = lev.Arrow
-level_of op.TotalRelations = lev.Arrow
-level_of op.SurjectiveRelations = lev.Arrow
-level_of op.TotalSurjectiveRelations = lev.Arrow
-level_of op.PartialFunctions = lev.Arrow
-level_of op.TotalFunctions = lev.Arrow
-level_of op.PartialInjections = lev.Arrow
-level_of op.TotalInjections = lev.Arrow
-level_of op.PartialSurjections = lev.Arrow
-level_of op.TotalSurjections = lev.Arrow
-level_of op.Bijections = lev.Arrow
-level_of op.Union = lev.SetOperator
-level_of op.Intersection = lev.SetOperator
-level_of op.Difference = lev.SetOperator
-level_of op.Product = lev.SetOperator
-level_of op.DomainRestriction = lev.SetOperator
-level_of op.DomainSubtraction = lev.SetOperator
-level_of op.RangeRestriction = lev.SetOperator
-level_of op.RangeSubtraction = lev.SetOperator
-level_of op.Overriding = lev.SetOperator
-level_of op.Composition = lev.SetOperator
-level_of op.ParallelProduct = lev.SetOperator
-level_of op.DirectProduct = lev.SetOperator
-level_of op.Interval = lev.Interval
-level_of op.Plus = lev.Additive
-level_of op.Minus = lev.Additive
-level_of op.Negate = lev.Additive
-level_of op.Times = lev.Multiplicative
-level_of op.Divide = lev.Multiplicative
-level_of op.Modulo = lev.Multiplicative
-level_of op.Power = lev.Power
-level_of op.Converse = lev.Postfix
-level_of op.Apply = lev.Postfix
-level_of op.Image = lev.Postfix
-level_of _ = lev.Closed
+level_of o = form_level (op_form o)
 
 abbrev pub binder_level_of : Binder → Level
 binder_level_of binder.ForAll = lev.Quantified

@@ -9,10 +9,11 @@ use Rattle.formula_core.specs.declared.op.Binder.TheVariants as binder
 use Rattle.formula_core.specs.declared.formula.Formula.{Formula}
 use Rattle.formula_core.specs.declared.formula.Formula.TheOpen.{Formula-F, Int, Free, Bound, Node, Bind}
 use Rattle.formula_core.specs.declared.formula.Formula.TheFolds.{para-Formula}
+use Rattle.math_grammar.specs.Operators.{sign_of, binder_sign_of}
 use Rattle.math_print.specs.declared.levels.Side.{Side}
 use Rattle.math_print.specs.declared.levels.Side.TheVariants as side
 use Rattle.math_print.specs.Characters.{bytes, separated}
-use Rattle.math_print.specs.Signs.{sign_of, denied_sign_of, opening_of, closing_of}
+use Rattle.math_print.specs.Signs.{denied_sign_of, opening_of, closing_of}
 use Rattle.math_print.specs.Levels.{needs_parentheses}
 use Rattle.math_print.specs.Types.{type_text}
 use Rattle.math_print.specs.Names.{bound_names}
@@ -79,13 +80,6 @@ name_at names at = unwrap_or (slice_get names at) []
 abbrev pub declarations : List (List ℕ) → List Ty → ℕ → List (List ℕ)
 declarations names [] depth = []
 declarations names (t ∷ types) depth = (name_at names depth ++ (bytes "⦂" ++ type_text t)) ∷ declarations names types (depth + 1)
-
-abbrev pub binder_sign_of : Binder → List ℕ
-binder_sign_of binder.ForAll = bytes "∀"
-binder_sign_of binder.Exists = bytes "∃"
-binder_sign_of binder.Comprehension = bytes "{"
-binder_sign_of binder.QuantifiedUnion = bytes "⋃"
-binder_sign_of binder.QuantifiedIntersection = bytes "⋂"
 
 abbrev pub binder_end_of : Binder → List ℕ
 binder_end_of binder.Comprehension = bytes "}"

@@ -1,8 +1,9 @@
 //! How tightly printed forms hold together, and which operands are in parentheses.
 ghost use Rattle.std.specs.Prelude.{◌≡◌};
-ghost use Rattle.math_print.specs.Levels.{rank, level_of, binder_level_of, formula_level, is_chained, is_same_connective, is_negative, goes_on_with, goes_on, is_relation, is_enclosed, needs_parentheses};
+ghost use Rattle.math_print.specs.Levels.{rank, infix_level, form_level, level_of, binder_level_of, formula_level, is_chained, is_same_connective, is_negative, goes_on_with, goes_on, is_relation, is_enclosed, needs_parentheses};
 
 use formula_core::{Binder, Formula, Op};
+use math_grammar::{Bracket, Form, op_form};
 
 /// The levels of printed forms, loosest first.
 #[derive(Clone, Copy)]
@@ -75,50 +76,41 @@ impl Level {
     }
 }
 
+/// The level of an operator between two operands. ⦂ stands in no formula.
+fn infix_level(level: math_grammar::Level) -> Level
+    ensures { result ≡ infix_level level }
+{
+    match level {
+        math_grammar::Level::Implication => Level::Implication,
+        math_grammar::Level::Conjunction | math_grammar::Level::Disjunction => Level::Junction,
+        math_grammar::Level::Relation | math_grammar::Level::Typing => Level::Relation,
+        math_grammar::Level::Maplet => Level::Maplet,
+        math_grammar::Level::Arrow => Level::Arrow,
+        math_grammar::Level::SetOperator => Level::SetOperator,
+        math_grammar::Level::Interval => Level::Interval,
+        math_grammar::Level::Additive => Level::Additive,
+        math_grammar::Level::Multiplicative => Level::Multiplicative,
+        math_grammar::Level::Power => Level::Power,
+    }
+}
+
+fn form_level(form: Form) -> Level
+    ensures { result ≡ form_level form }
+{
+    match form {
+        Form::Infix(level) => infix_level(level),
+        Form::Not => Level::Relation,
+        Form::Negation | Form::Minus => Level::Additive,
+        Form::Converse | Form::Open(Bracket::Round) | Form::Open(Bracket::Square) => Level::Postfix,
+        Form::Open(Bracket::Brace) => Level::Closed,
+        Form::Truth | Form::Constant | Form::Call(_) => Level::Closed,
+    }
+}
+
 fn level_of(op: Op) -> Level
     ensures { result ≡ level_of op }
 {
-    match op {
-        Op::Implies | Op::Equivalent => Level::Implication,
-        Op::And | Op::Or => Level::Junction,
-        Op::Not
-        | Op::Equal
-        | Op::Member
-        | Op::ProperSubset
-        | Op::Subset
-        | Op::Less
-        | Op::LessOrEqual => Level::Relation,
-        Op::Maplet => Level::Maplet,
-        Op::Relations
-        | Op::TotalRelations
-        | Op::SurjectiveRelations
-        | Op::TotalSurjectiveRelations
-        | Op::PartialFunctions
-        | Op::TotalFunctions
-        | Op::PartialInjections
-        | Op::TotalInjections
-        | Op::PartialSurjections
-        | Op::TotalSurjections
-        | Op::Bijections => Level::Arrow,
-        Op::Union
-        | Op::Intersection
-        | Op::Difference
-        | Op::Product
-        | Op::DomainRestriction
-        | Op::DomainSubtraction
-        | Op::RangeRestriction
-        | Op::RangeSubtraction
-        | Op::Overriding
-        | Op::Composition
-        | Op::ParallelProduct
-        | Op::DirectProduct => Level::SetOperator,
-        Op::Interval => Level::Interval,
-        Op::Plus | Op::Minus | Op::Negate => Level::Additive,
-        Op::Times | Op::Divide | Op::Modulo => Level::Multiplicative,
-        Op::Power => Level::Power,
-        Op::Converse | Op::Apply | Op::Image => Level::Postfix,
-        _ => Level::Closed,
-    }
+    form_level(op_form(op))
 }
 
 fn binder_level_of(binder: Binder) -> Level

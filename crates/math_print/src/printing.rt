@@ -7,13 +7,14 @@ ghost use Rattle.math_print.specs.Characters.{bytes, comma_after, separated};
 ghost use Rattle.math_print.specs.Types.{type_text};
 ghost use Rattle.math_print.specs.Held.{IsHeld};
 ghost use Rattle.math_print.specs.Written.{IsTypedBack};
-ghost use Rattle.math_print.specs.Printing.{operand, typed_text, constant_text, unary_text, second_text, members_text, operator_text, node_text, name_at, declarations, binder_sign_of, binder_end_of, body_text, binder_text, bind_text, printed, with_texts, text_of};
+ghost use Rattle.math_print.specs.Printing.{operand, typed_text, constant_text, unary_text, second_text, members_text, operator_text, node_text, name_at, declarations, binder_end_of, body_text, binder_text, bind_text, printed, with_texts, text_of};
 
 use crate::levels::{Side, needs_parentheses};
 use crate::names::bound_names;
-use crate::signs::{closing_of, denied_sign_of, opening_of, sign_of};
+use crate::signs::{closing_of, denied_sign_of, opening_of};
 use crate::types::print_type;
 use formula_core::{Binder, Formula, Name, Op, OutOfMemory, Ty};
+use math_grammar::{binder_sign_of, sign_of};
 use std::alloc::Global;
 
 /// The printed text of a formula.
@@ -292,18 +293,6 @@ fn print_comma(before: usize, out: &mut String) -> Result<(), OutOfMemory>
         out.push_str(", ")?;
     }
     Ok(())
-}
-
-fn binder_sign_of(binder: Binder) -> &'static str
-    ensures { result.now ≡ binder_sign_of binder }
-{
-    match binder {
-        Binder::ForAll => "∀",
-        Binder::Exists => "∃",
-        Binder::Comprehension => "{",
-        Binder::QuantifiedUnion => "⋃",
-        Binder::QuantifiedIntersection => "⋂",
-    }
 }
 
 fn binder_end_of(binder: Binder) -> &'static str

@@ -48,16 +48,17 @@ use Rattle.math_grammar.specs.declared.symbols.Symbol.TheVariants as sym
 use Rattle.math_grammar.specs.Levels.{rank, fits, opens, takes_names, binding_grade, binder_of}
 use Rattle.math_grammar.specs.Tokens.{Item}
 use Rattle.math_grammar.specs.Grammar.{item, place_at, place_of, Reads, a_name, a_number, by_names, Declares, Body, a_predicate, a_value, up_to_brace, reaching}
+use Rattle.math_grammar.specs.Operators.{binder_sign_of, binder_class_of}
 use Rattle.math_print.specs.Depths.{deepest}
 use Rattle.math_print.specs.Levels.{formula_level_at, formula_level}
 use Rattle.math_print.specs.Names.{bound_names, numbered_names, AreFresh}
 use Rattle.math_print.proofs.FreshNames.{fresh}
 use Rattle.math_print.proofs.NumberedNames.{numbered-is_name}
-use Rattle.math_print.specs.Printing.{name_at, binder_sign_of}
+use Rattle.math_print.specs.Printing.{name_at}
 use Rattle.math_print.specs.Written.{denied_at, denied, declared, written_step, written, raw_of}
 use Rattle.math_print.proofs.Equations.{deepest-Node, deepest-Bind}
 use Rattle.math_print.proofs.NamedScopes.{all_left, all_right, all_at}
-use Rattle.math_reread.specs.Items.{Part, Items, word, dot, bar, close_brace, not_sign, open_round, close_round, separated, declarations, binder_symbol_of, binder_items, items_step, items, with_items, items_of_formula}
+use Rattle.math_reread.specs.Items.{Part, Items, word, dot, bar, close_brace, not_sign, open_round, close_round, separated, declarations, binder_items, items_step, items, with_items, items_of_formula}
 use Rattle.math_reread.specs.Grades.{grade_at, grade_of, binder_grade, IsSpelled}
 use Rattle.math_print.specs.Held.{HasNames, IsCounted}
 use Rattle.math_reread.proofs.Tables.{Quiet, quiet, ends, zero_le, quieter, quiet_at}
@@ -273,32 +274,32 @@ module _ (names : List (List ℕ)) (named : (i : ℕ) → i < length names → i
     bind_reads binder.ForAll t0 types parts t read all few is inner = with_predicate (BindRead binder.ForAll (t0 ∷ types) t) (d + length (t0 ∷ types)) parts is.operands_are inner
         (λ p rp v.
         quantified binder.ForAll (t0 ∷ types) (p ∷ []) t refl is.whole_is
-        (λ rest q. names_form (binding.Quantified binder.ForAll) (binder_symbol_of binder.ForAll) (binder_sign_of binder.ForAll) refl refl t0 types read all few (body_tokens p (d + length (t0 ∷ types)) ++ []) rest
+        (λ rest q. names_form (binding.Quantified binder.ForAll) (binder_class_of binder.ForAll) (binder_sign_of binder.ForAll) refl refl t0 types read all few (body_tokens p (d + length (t0 ∷ types)) ++ []) rest
         (written names p (d + length (t0 ∷ types)) ∷ []) (predicate_body binder.ForAll (d + length (t0 ∷ types)) p rp v rest q)))
     bind_reads binder.Exists t0 types parts t read all few is inner = with_predicate (BindRead binder.Exists (t0 ∷ types) t) (d + length (t0 ∷ types)) parts is.operands_are inner
         (λ p rp v.
         quantified binder.Exists (t0 ∷ types) (p ∷ []) t refl is.whole_is
-        (λ rest q. names_form (binding.Quantified binder.Exists) (binder_symbol_of binder.Exists) (binder_sign_of binder.Exists) refl refl t0 types read all few (body_tokens p (d + length (t0 ∷ types)) ++ []) rest
+        (λ rest q. names_form (binding.Quantified binder.Exists) (binder_class_of binder.Exists) (binder_sign_of binder.Exists) refl refl t0 types read all few (body_tokens p (d + length (t0 ∷ types)) ++ []) rest
         (written names p (d + length (t0 ∷ types)) ∷ []) (predicate_body binder.Exists (d + length (t0 ∷ types)) p rp v rest q)))
     bind_reads binder.Comprehension t0 types parts t read all few is inner =
         with_value (BindRead binder.Comprehension (t0 ∷ types) t) (d + length (t0 ∷ types)) (type_at is.letters alpha) (values_at is.letters is.values alpha refl) parts is.operands_are inner
         (λ p e rp re v u.
         valued binder.Comprehension (t0 ∷ types) (p ∷ e ∷ []) t refl (ap is_value_type is.whole_is ∙ values_at is.letters is.values (power alpha) refl)
-        (λ rest q. names_form binding.Set (binder_symbol_of binder.Comprehension) (binder_sign_of binder.Comprehension) refl refl t0 types read all few
+        (λ rest q. names_form binding.Set (binder_class_of binder.Comprehension) (binder_sign_of binder.Comprehension) refl refl t0 types read all few
         ((body_tokens p (d + length (t0 ∷ types)) ++ (bar ∷ body_tokens e (d + length (t0 ∷ types)))) ++ (close_brace ∷ [])) rest
         (written names p (d + length (t0 ∷ types)) ∷ written names e (d + length (t0 ∷ types)) ∷ []) (set_body (d + length (t0 ∷ types)) p e rp re v u rest)))
     bind_reads binder.QuantifiedUnion t0 types parts t read all few is inner =
         with_value (BindRead binder.QuantifiedUnion (t0 ∷ types) t) (d + length (t0 ∷ types)) (type_at is.letters (power alpha)) (values_at is.letters is.values (power alpha) refl) parts is.operands_are inner
         (λ p e rp re v u.
         valued binder.QuantifiedUnion (t0 ∷ types) (p ∷ e ∷ []) t refl (ap is_value_type is.whole_is ∙ values_at is.letters is.values (power alpha) refl)
-        (λ rest q. names_form (binding.Reaching binder.QuantifiedUnion) (binder_symbol_of binder.QuantifiedUnion) (binder_sign_of binder.QuantifiedUnion) refl refl t0 types read all few
+        (λ rest q. names_form (binding.Reaching binder.QuantifiedUnion) (binder_class_of binder.QuantifiedUnion) (binder_sign_of binder.QuantifiedUnion) refl refl t0 types read all few
         ((body_tokens p (d + length (t0 ∷ types)) ++ (bar ∷ body_tokens e (d + length (t0 ∷ types)))) ++ []) rest
         (written names p (d + length (t0 ∷ types)) ∷ written names e (d + length (t0 ∷ types)) ∷ []) (reaching_body binder.QuantifiedUnion (d + length (t0 ∷ types)) p e rp re v u rest q)))
     bind_reads binder.QuantifiedIntersection t0 types parts t read all few is inner =
         with_value (BindRead binder.QuantifiedIntersection (t0 ∷ types) t) (d + length (t0 ∷ types)) (type_at is.letters (power alpha)) (values_at is.letters is.values (power alpha) refl) parts is.operands_are inner
         (λ p e rp re v u.
         valued binder.QuantifiedIntersection (t0 ∷ types) (p ∷ e ∷ []) t refl (ap is_value_type is.whole_is ∙ values_at is.letters is.values (power alpha) refl)
-        (λ rest q. names_form (binding.Reaching binder.QuantifiedIntersection) (binder_symbol_of binder.QuantifiedIntersection) (binder_sign_of binder.QuantifiedIntersection) refl refl t0 types read all few
+        (λ rest q. names_form (binding.Reaching binder.QuantifiedIntersection) (binder_class_of binder.QuantifiedIntersection) (binder_sign_of binder.QuantifiedIntersection) refl refl t0 types read all few
         ((body_tokens p (d + length (t0 ∷ types)) ++ (bar ∷ body_tokens e (d + length (t0 ∷ types)))) ++ []) rest
         (written names p (d + length (t0 ∷ types)) ∷ written names e (d + length (t0 ∷ types)) ∷ []) (reaching_body binder.QuantifiedIntersection (d + length (t0 ∷ types)) p e rp re v u rest q)))
 

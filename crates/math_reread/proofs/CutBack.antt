@@ -29,10 +29,11 @@ use Rattle.formula_core.proofs.Wellness.{well-Int, well-Bound, well-Node, well-B
 use Rattle.math_grammar.specs.Tokens.{Item}
 use Rattle.math_grammar.specs.Grammar.{item}
 use Rattle.math_grammar.specs.declared.symbols.Symbol.TheVariants as sym
+use Rattle.math_grammar.specs.Operators.{binder_sign_of, binder_class_of}
 use Rattle.math_print.specs.Characters.{bytes, separated as separated_texts}
 use Rattle.math_print.specs.Depths.{deepest}
 use Rattle.math_print.specs.Names.{bound_names}
-use Rattle.math_print.specs.Printing.{name_at, binder_sign_of, binder_end_of, body_text, binder_text, printed, with_texts, declarations as declaration_texts, text_of}
+use Rattle.math_print.specs.Printing.{name_at, binder_end_of, body_text, binder_text, printed, with_texts, declarations as declaration_texts, text_of}
 use Rattle.math_print.proofs.Equations.{printed-Int, printed-Free, printed-Bound, printed-Node, printed-Bind, deepest-Node, deepest-Bind}
 use Rattle.math_print.proofs.NamedScopes.{all_left, all_right}
 use Rattle.token_text.specs.Spacing.{Follows, Fits, Spaced, the_end, IsCutInto}
@@ -41,7 +42,7 @@ use Rattle.token_text.proofs.Names.{name_lettered}
 use Rattle.token_text.proofs.Numbers.{fits-number, number_lettered}
 use Rattle.token_text.proofs.Signs.{opens_set}
 use Rattle.token_text.proofs.Words.{lettered_opens_set}
-use Rattle.math_reread.specs.Items.{Part, Items, dot, bar, close_brace, not_sign, open_round, close_round, separated, declarations, binder_symbol_of, binder_end, body_items, binder_items, items_step, items, with_items, items_of_formula}
+use Rattle.math_reread.specs.Items.{Part, Items, dot, bar, close_brace, not_sign, open_round, close_round, separated, declarations, binder_end, body_items, binder_items, items_step, items, with_items, items_of_formula}
 use Rattle.math_print.specs.Held.{HasNames, IsCounted}
 use Rattle.math_print.specs.Held.{literals, HasNarrowNumbers}
 use Rattle.math_print.proofs.Literals.{literals-Int, literals-Node, literals-Bind}
@@ -70,7 +71,7 @@ in_scope [] i t h = cc
 in_scope (u ∷ bound) zero t h = omega arith
 in_scope (u ∷ bound) (suc i) t h = omega (arith, in_scope bound i t h)
 
-binder_fits_there : (b : Binder) (rest : List ℕ) → Follows opens_set rest → Fits (item (binder_symbol_of b) 0 (binder_sign_of b)) rest
+binder_fits_there : (b : Binder) (rest : List ℕ) → Follows opens_set rest → Fits (item (binder_class_of b) 0 (binder_sign_of b)) rest
 binder_fits_there binder.ForAll rest h = fits_binder-ForAll rest
 binder_fits_there binder.Exists rest h = fits_binder-Exists rest
 binder_fits_there binder.Comprehension rest h = fits_binder-Comprehension rest h
@@ -174,7 +175,7 @@ module _ (names : List (List ℕ)) (are_names : (i : ℕ) → i < length names �
       → IsPrinted (binder_items names b types (with_items names parts) d) (binder_text names b types (with_texts names parts) d)
   binder_form b [] parts d may few carried all = cc
   binder_form b (t ∷ types) parts d may few carried all =
-      let x : Item = item (binder_symbol_of b) 0 (binder_sign_of b) in
+      let x : Item = item (binder_class_of b) 0 (binder_sign_of b) in
       let ss : List Item = separated (declarations names (t ∷ types) d) in
       let ts : List ℕ = separated_texts (declaration_texts names (t ∷ types) d) in
       let deep : ℕ = d + length (t ∷ types) in

@@ -26,12 +26,12 @@ use Rattle.math_grammar.specs.declared.symbols.Symbol.TheVariants as sym
 use Rattle.math_grammar.specs.Levels.{rank, suffixes, level, right_of, takes_left, least, fits, infix_of}
 use Rattle.math_grammar.specs.Tokens.{Item}
 use Rattle.math_grammar.specs.Grammar.{item, between, Reads}
+use Rattle.math_grammar.specs.Operators.{sign_of, class_of}
 use Rattle.math_print.specs.declared.levels.Side.{Side}
 use Rattle.math_print.specs.declared.levels.Side.TheVariants as side
 use Rattle.math_print.specs.Levels.{level_of, formula_level, is_relation, is_same_connective, is_enclosed, goes_on as goes_on_left, goes_on_at, formula_level_at, needs_parentheses}
-use Rattle.math_print.specs.Signs.{sign_of}
 use Rattle.math_print.specs.Written.{written, operator_raw}
-use Rattle.math_reread.specs.Items.{not_sign, open_round, close_round, open_square, close_square, symbol_of, sign_token, operand_items, operator_items, Part, items}
+use Rattle.math_reread.specs.Items.{not_sign, open_round, close_round, open_square, close_square, sign_token, operand_items, operator_items, Part, items}
 use Rattle.math_reread.specs.Grades.{operator_grade, grade_of, grade_at}
 use Rattle.math_reread.proofs.Tables.{quiet_at, left_of_implication, left_of_equivalence, left_of_and, left_of_or, right_of_implication, right_of_junction, top, ends, le_through, quieter, least_value, quiet, left_value, sign_rank, value_at, left_is_tight, right_is_tight, left_is_quiet, right_is_quiet, goes_on_chained}
 use Rattle.math_reread.proofs.Readings.{Whole, round_grade, rounded, in_brackets, infix_form, prefix_form, apply_form, image_form, converse_form}
@@ -48,9 +48,9 @@ pub record IsConnective (o : Op) : Type 0 where
   pub its_row : row_of o ≡ row.Binary binary.Connective
   pub of_predicate : nat_lt 3 (rank (operator_grade o)) ≡ false
   pub graded : (g : Grade) → level l g ≡ operator_grade o
-  pub sign : infix_of (symbol_of o) ≡ Some (l, rawop.Plain o)
+  pub sign : infix_of (class_of o) ≡ Some (l, rawop.Plain o)
   pub calm : nat_lt (quiet (level_of o)) (least (right_of l)) ≡ true
-  pub reached : nat_le (top (symbol_of o)) (sign_rank (level_of o)) ≡ true
+  pub reached : nat_le (top (class_of o)) (sign_rank (level_of o)) ≡ true
   pub unrelated : is_relation (level_of o) ≡ false
   pub tokens : (a b : Part) (t : Ty) (d : ℕ) → operator_items o (sign_token o) (a ∷ b ∷ []) t d ≡ operand_items o side.Left a d ++ (sign_token o ∷ operand_items o side.Right b d)
   pub tree : (a b : Raw) (t : Ty) → operator_raw o (a ∷ b ∷ []) t ≡ raw.Node (rawop.Plain o) (a ∷ b ∷ []) 0
@@ -86,13 +86,13 @@ module _ (names : List (List ℕ)) (d : ℕ) (o : Op) (i : IsConnective o) where
       let after : List Item = sign_token o ∷ (right_items b ++ rest) in
       let first : Reads None ga (left_items a ++ after) (written names a d) after
       = rounded na (quiet (formula_level a)) (grade_of a) (items names a false d) (written names a d) ra.plain after (λ e.
-      le_through (top (symbol_of o)) (sign_rank (level_of o)) (quiet (formula_level a)) i.reached
+      le_through (top (class_of o)) (sign_rank (level_of o)) (quiet (formula_level a)) i.reached
       (left_is_quiet (level_of o) (formula_level a) (goes_on_left o side.Left a) (back (needed side.Left a) ∙ e))) in
       let second : Reads None gb (right_items b ++ rest) (written names b d) rest
       = rounded nb (quiet (formula_level b)) (grade_of b) (items names b false d) (written names b d) rb.plain rest (λ e.
       quieter (quiet (level_of o)) (quiet (formula_level b)) rest (right_is_quiet (level_of o) (formula_level b) (back (needed side.Right b) ∙ e)) q) in
       let whole : Reads None (level i.l ga) ((left_items a ++ (sign_token o ∷ right_items b)) ++ rest) (between (rawop.Plain o) (written names a d) (written names b d)) rest
-      = infix_form i.l (rawop.Plain o) (symbol_of o) (sign_of o) ga gb (left_items a) (right_items b) rest (written names a d) (written names b d) i.sign
+      = infix_form i.l (rawop.Plain o) (class_of o) (sign_of o) ga gb (left_items a) (right_items b) rest (written names a d) (written names b d) i.sign
       (left_takes a (ra.sorted ∙ va) na (back (needed side.Left a))) (right_fits b (rb.sorted ∙ vb) nb (back (needed side.Right b)))
       (ends (right_of i.l) gb (quiet (level_of o)) rest i.calm q) first second in
       let tree : between (rawop.Plain o) (written names a d) (written names b d) ≡ operator_raw o (written names a d ∷ written names b d ∷ []) t

@@ -22,12 +22,12 @@ use Rattle.math_grammar.specs.declared.levels.Level.TheVariants as sort
 use Rattle.math_grammar.specs.Levels.{rank, level, right_of, left_of, agrees, takes_left, least, most, fits, grouped, infix_of}
 use Rattle.math_grammar.specs.Tokens.{Item}
 use Rattle.math_grammar.specs.Grammar.{place_of, between, Reads}
+use Rattle.math_grammar.specs.Operators.{sign_of, class_of}
 use Rattle.math_print.specs.declared.levels.Side.{Side}
 use Rattle.math_print.specs.declared.levels.Side.TheVariants as side
 use Rattle.math_print.specs.Levels.{level_of, formula_level, is_relation, is_same_connective, is_enclosed, goes_on as goes_on_left, needs_parentheses}
-use Rattle.math_print.specs.Signs.{sign_of}
 use Rattle.math_print.specs.Written.{written, denied, operator_raw}
-use Rattle.math_reread.specs.Items.{symbol_of, sign_token, operand_items, operator_items, Part, items}
+use Rattle.math_reread.specs.Items.{sign_token, operand_items, operator_items, Part, items}
 use Rattle.math_reread.specs.Grades.{operator_grade, grade_of}
 use Rattle.math_reread.proofs.Tables.{top, ends, le_through, quieter, least_value, quiet, left_value, right_value, sign_rank, value_at, left_is_tight, right_is_tight, left_is_quiet, right_is_quiet, goes_on_chained}
 use Rattle.math_reread.proofs.Readings.{Whole, round_grade, rounded, infix_form}
@@ -78,7 +78,7 @@ pub record IsInfix (o : Op) : Type 0 where
   pub result : is_of_values (binary_scheme r).2 ≡ true
   pub of_value : nat_lt 3 (rank (operator_grade o)) ≡ true
   pub graded : (g : Grade) → level l g ≡ operator_grade o
-  pub sign : infix_of (symbol_of o) ≡ Some (l, rawop.Plain o)
+  pub sign : infix_of (class_of o) ≡ Some (l, rawop.Plain o)
   pub agreeing : (g : Grade) → agrees l g ≡ true
   pub left : nat_le (left_of l) (left_value (level_of o)) ≡ true
   pub left_grouped : nat_le (left_of l) 15 ≡ true
@@ -86,7 +86,7 @@ pub record IsInfix (o : Op) : Type 0 where
   pub right_grouped : nat_le (least (right_of l)) 15 ≡ true
   pub all : most (right_of l) ≡ 16
   pub calm : nat_lt (quiet (level_of o)) (least (right_of l)) ≡ true
-  pub reached : nat_le (top (symbol_of o)) (sign_rank (level_of o)) ≡ true
+  pub reached : nat_le (top (class_of o)) (sign_rank (level_of o)) ≡ true
   pub unrelated : is_relation (level_of o) ≡ false
   pub alone : (left : Op) → is_same_connective o left ≡ false
   pub tokens : (a b : Part) (t : Ty) (d : ℕ) → operator_items o (sign_token o) (a ∷ b ∷ []) t d ≡ operand_items o side.Left a d ++ (sign_token o ∷ operand_items o side.Right b d)
@@ -132,13 +132,13 @@ module _ (names : List (List ℕ)) (d : ℕ) (o : Op) (i : IsInfix o) where
       let after : List Item = sign_token o ∷ (right_items b ++ rest) in
       let first : Reads None ga (left_items a ++ after) (written names a d) after
       = rounded na (quiet (formula_level a)) (grade_of a) (items names a false d) (written names a d) ra.plain after (λ e.
-      le_through (top (symbol_of o)) (sign_rank (level_of o)) (quiet (formula_level a)) i.reached
+      le_through (top (class_of o)) (sign_rank (level_of o)) (quiet (formula_level a)) i.reached
       (left_is_quiet (level_of o) (formula_level a) (goes_on_left o side.Left a) (back (needed side.Left a) ∙ e))) in
       let second : Reads None gb (right_items b ++ rest) (written names b d) rest
       = rounded nb (quiet (formula_level b)) (grade_of b) (items names b false d) (written names b d) rb.plain rest (λ e.
       quieter (quiet (level_of o)) (quiet (formula_level b)) rest (right_is_quiet (level_of o) (formula_level b) (back (needed side.Right b) ∙ e)) q) in
       let whole : Reads None (level i.l ga) ((left_items a ++ (sign_token o ∷ right_items b)) ++ rest) (between (rawop.Plain o) (written names a d) (written names b d)) rest
-      = infix_form i.l (rawop.Plain o) (symbol_of o) (sign_of o) ga gb (left_items a) (right_items b) rest (written names a d) (written names b d) i.sign
+      = infix_form i.l (rawop.Plain o) (class_of o) (sign_of o) ga gb (left_items a) (right_items b) rest (written names a d) (written names b d) i.sign
       (left_takes a (ra.sorted ∙ va) na (back (needed side.Left a))) (right_fits b (rb.sorted ∙ vb) nb (back (needed side.Right b)))
       (ends (right_of i.l) gb (quiet (level_of o)) rest i.calm q) first second in
       let tree : between (rawop.Plain o) (written names a d) (written names b d) ≡ operator_raw o (written names a d ∷ written names b d ∷ []) t

@@ -41,10 +41,11 @@ use Rattle.math_grammar.specs.declared.symbols.Symbol.TheVariants as sym
 use Rattle.math_grammar.specs.Levels.{rank, infix_of}
 use Rattle.math_grammar.specs.Tokens.{Item}
 use Rattle.math_grammar.specs.Grammar.{item, place_at, place_of, Reads, a_truth, a_constant}
+use Rattle.math_grammar.specs.Operators.{sign_of, class_of}
 use Rattle.math_print.specs.Levels.{level_of, formula_level}
-use Rattle.math_print.specs.Signs.{sign_of, denied_sign_of}
+use Rattle.math_print.specs.Signs.{denied_sign_of}
 use Rattle.math_print.specs.Written.{written, denied_at, denied, typed_raw, operator_raw}
-use Rattle.math_reread.specs.Items.{not_sign, open_round, close_round, symbol_of, denied_symbol_of, sign_token, denied_sign_token, operator_items, node_items, typed_items, Part, items, with_items}
+use Rattle.math_reread.specs.Items.{not_sign, open_round, close_round, denied_class_of, sign_token, denied_sign_token, operator_items, node_items, typed_items, Part, items, with_items}
 use Rattle.math_reread.specs.Grades.{operator_grade, grade_of}
 use Rattle.math_reread.proofs.Tables.{quiet, top}
 use Rattle.math_reread.proofs.Readings.{Whole, call_form, set_form, IsValue, AreValues, none_more, one_more}
@@ -272,8 +273,8 @@ module _ (names : List (List ℕ)) (d : ℕ) where
 
   -- a relation, with a sign of its own where it is denied ..
   signed_node : (o : Op) (r : BinaryRow) (n : RawOp) → row_of o ≡ row.Binary r → is_of_values (binary_scheme r).0 ≡ true → is_of_values (binary_scheme r).1 ≡ true → (binary_scheme r).2 ≡ truth
-      → operator_grade o ≡ grade.Literal → quiet (level_of o) ≡ 2 → infix_of (symbol_of o) ≡ Some (sort.Relation, rawop.Plain o) → top (symbol_of o) ≡ 3
-      → infix_of (denied_symbol_of o) ≡ Some (sort.Relation, n) → top (denied_symbol_of o) ≡ 3
+      → operator_grade o ≡ grade.Literal → quiet (level_of o) ≡ 2 → infix_of (class_of o) ≡ Some (sort.Relation, rawop.Plain o) → top (class_of o) ≡ 3
+      → infix_of (denied_class_of o) ≡ Some (sort.Relation, n) → top (denied_class_of o) ≡ 3
       → ((a b : Part) (t : Ty) → operator_items o (sign_token o) (a ∷ b ∷ []) t d ≡ a.1 false d ++ (sign_token o ∷ b.1 false d))
       → ((a b : Part) (t : Ty) → node_items o (a ∷ b ∷ []) t true d ≡ (a.1 false d ++ (denied_sign_token o ∷ b.1 false d)) ++ [])
       → ((a b : Raw) (t : Ty) → operator_raw o (a ∷ b ∷ []) t ≡ raw.Node (rawop.Plain o) (a ∷ b ∷ []) 0) → ((r : Raw) (rs : List Raw) → denied_at r (RawNode (rawop.Plain o) rs 0) ≡ raw.Node n rs 0)
@@ -293,15 +294,15 @@ module _ (names : List (List ℕ)) (d : ℕ) where
         plain = subst (λ k. W k (operator_grade o) (operator_items o (sign_token o) (pa ∷ pb ∷ []) t d) (tree o (a ∷ b ∷ []) t)) (back low)
             (subst (λ g. W 2 g (operator_items o (sign_token o) (pa ∷ pb ∷ []) t d) (tree o (a ∷ b ∷ []) t)) (back graded)
             (retokened 2 grade.Literal (items names a false d ++ (sign_token o ∷ items names b false d)) (operator_items o (sign_token o) (pa ∷ pb ∷ []) t d) (tree o (a ∷ b ∷ []) t) (tokens pa pb t) (retreed 2 grade.Literal (items names a false d ++ (sign_token o ∷ items names b false d)) (raw.Node (rawop.Plain o) rs 0) (tree o (a ∷ b ∷ []) t) (back (same (written names a d) (written names b d) t))
-            (relation_reads names d (rawop.Plain o) (symbol_of o) (sign_of o) sign three a b ra rb va vb))));
+            (relation_reads names d (rawop.Plain o) (class_of o) (sign_of o) sign three a b ra rb va vb))));
         denied_too = λ x. retokened 2 grade.Literal (items names a false d ++ (denied_sign_token o ∷ items names b false d)) (node_items o (pa ∷ pb ∷ []) t true d) (denied (tree o (a ∷ b ∷ []) t)) (denied_tokens pa pb t ∙ append-nil (items names a false d ++ (denied_sign_token o ∷ items names b false d)))
             (retreed 2 grade.Literal (items names a false d ++ (denied_sign_token o ∷ items names b false d)) (raw.Node n rs 0) (denied (tree o (a ∷ b ∷ []) t)) (back (ap denied (same (written names a d) (written names b d) t) ∙ denied_node (rawop.Plain o) rs ∙ denies (raw.Node (rawop.Plain o) rs 0) rs))
-            (relation_reads names d n (denied_symbol_of o) (denied_sign_of o) denied_sign denied_three a b ra rb va vb));
+            (relation_reads names d n (denied_class_of o) (denied_sign_of o) denied_sign denied_three a b ra rb va vb));
       })
 
   -- .. and one without
   compared_node : (o : Op) → row_of o ≡ row.Binary binary.Comparison
-      → operator_grade o ≡ grade.Literal → quiet (level_of o) ≡ 2 → infix_of (symbol_of o) ≡ Some (sort.Relation, rawop.Plain o) → top (symbol_of o) ≡ 3
+      → operator_grade o ≡ grade.Literal → quiet (level_of o) ≡ 2 → infix_of (class_of o) ≡ Some (sort.Relation, rawop.Plain o) → top (class_of o) ≡ 3
       → ((a b : Part) (t : Ty) → operator_items o (sign_token o) (a ∷ b ∷ []) t d ≡ a.1 false d ++ (sign_token o ∷ b.1 false d))
       → ((ps : List Part) (t : Ty) → node_items o ps t true d ≡ not_sign ∷ open_round ∷ (operator_items o (sign_token o) ps t d ++ close_round ∷ []))
       → ((a b : Raw) (t : Ty) → operator_raw o (a ∷ b ∷ []) t ≡ raw.Node (rawop.Plain o) (a ∷ b ∷ []) 0)
@@ -321,7 +322,7 @@ module _ (names : List (List ℕ)) (d : ℕ) where
       (subst (λ k. W k (operator_grade o) (operator_items o (sign_token o) (pa ∷ pb ∷ []) t d) (tree o (a ∷ b ∷ []) t)) (back low)
       (subst (λ g. W 2 g (operator_items o (sign_token o) (pa ∷ pb ∷ []) t d) (tree o (a ∷ b ∷ []) t)) (back graded)
       (retokened 2 grade.Literal (items names a false d ++ (sign_token o ∷ items names b false d)) (operator_items o (sign_token o) (pa ∷ pb ∷ []) t d) (tree o (a ∷ b ∷ []) t) (tokens pa pb t) (retreed 2 grade.Literal (items names a false d ++ (sign_token o ∷ items names b false d)) (raw.Node (rawop.Plain o) rs 0) (tree o (a ∷ b ∷ []) t) (back equal)
-      (relation_reads names d (rawop.Plain o) (symbol_of o) (sign_of o) sign three a b ra rb va vb)))))
+      (relation_reads names d (rawop.Plain o) (class_of o) (sign_of o) sign three a b ra rb va vb)))))
       (denied_tokens (pa ∷ pb ∷ []) t)
       (ap denied equal ∙ denied_node (rawop.Plain o) rs ∙ denies (raw.Node (rawop.Plain o) rs 0) rs ∙ ap (λ r. raw.Node (rawop.Plain op.Not) (r ∷ []) 0) (back equal)))
 

@@ -21,11 +21,12 @@ use Rattle.formula_core.specs.TypeTable.{fits as is_fit}
 use Rattle.formula_core.specs.Wellness.{type_of}
 use Rattle.formula_core.proofs.Schemes.{fits_exactly}
 use Rattle.math_grammar.specs.Tokens.{Item}
+use Rattle.math_grammar.specs.Operators.{sign_of}
 use Rattle.math_print.specs.declared.levels.Side.{Side}
 use Rattle.math_print.specs.declared.levels.Side.TheVariants as side
 use Rattle.math_print.specs.Characters.{bytes, separated as separated_texts}
 use Rattle.math_print.specs.Levels.{needs_parentheses}
-use Rattle.math_print.specs.Signs.{sign_of, opening_of, closing_of}
+use Rattle.math_print.specs.Signs.{opening_of, closing_of}
 use Rattle.math_print.specs.Printing.{Part as TextPart, operand, typed_text, operator_text, printed, with_texts}
 use Rattle.token_text.specs.Spacing.{stops, Follows, Fits}
 use Rattle.math_reread.specs.Items.{Part, not_sign, open_round, close_round, open_square, close_square, sign_token, denied_sign_token, opening_items, closing_items, operand_items, typed_items, separated, operator_items, items, with_items}

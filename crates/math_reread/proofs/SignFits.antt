@@ -9,8 +9,8 @@ use Rattle.math_grammar.specs.declared.levels.Call.TheVariants as call
 use Rattle.math_grammar.specs.declared.levels.Binding.TheVariants as binding
 use Rattle.math_grammar.specs.declared.symbols.Symbol.TheVariants as sym
 use Rattle.math_grammar.specs.Grammar.{item}
-use Rattle.math_print.specs.Printing.{binder_sign_of}
-use Rattle.math_reread.specs.Items.{open_round, close_round, open_square, close_square, open_brace, close_brace, comma, dot, bar, typing, not_sign, sign_token, denied_sign_token, binder_symbol_of}
+use Rattle.math_grammar.specs.Operators.{binder_sign_of, binder_class_of}
+use Rattle.math_reread.specs.Items.{open_round, close_round, open_square, close_square, open_brace, close_brace, comma, dot, bar, typing, not_sign, sign_token, denied_sign_token}
 use Rattle.token_text.specs.Spacing.{is_space, stops, Follows, Fits}
 use Rattle.token_text.proofs.Signs.{opens_set, free_fits, passing_sign, stop_sign, stop_word}
 
@@ -266,17 +266,17 @@ fits_denied-ProperSubset = stop_sign 16 (sym.Infix lev.Relation rawop.NotProperS
 pub fits_denied-Subset : (rest : List ℕ) → Follows stops rest → Fits (denied_sign_token op.Subset) rest
 fits_denied-Subset = stop_sign 18 (sym.Infix lev.Relation rawop.NotSubset) 226 (138 ∷ 136 ∷ []) refl (λ rest. refl) refl refl
 
-pub fits_binder-ForAll : (rest : List ℕ) → Fits (item (binder_symbol_of binder.ForAll) 0 (binder_sign_of binder.ForAll)) rest
+pub fits_binder-ForAll : (rest : List ℕ) → Fits (item (binder_class_of binder.ForAll) 0 (binder_sign_of binder.ForAll)) rest
 fits_binder-ForAll = free_fits 7 (sym.Binder (binding.Quantified binder.ForAll)) 226 (136 ∷ 128 ∷ []) refl refl refl (λ rest. refl) refl refl
 
-pub fits_binder-Exists : (rest : List ℕ) → Fits (item (binder_symbol_of binder.Exists) 0 (binder_sign_of binder.Exists)) rest
+pub fits_binder-Exists : (rest : List ℕ) → Fits (item (binder_class_of binder.Exists) 0 (binder_sign_of binder.Exists)) rest
 fits_binder-Exists = free_fits 8 (sym.Binder (binding.Quantified binder.Exists)) 226 (136 ∷ 131 ∷ []) refl refl refl (λ rest. refl) refl refl
 
-pub fits_binder-Comprehension : (rest : List ℕ) → Follows opens_set rest → Fits (item (binder_symbol_of binder.Comprehension) 0 (binder_sign_of binder.Comprehension)) rest
+pub fits_binder-Comprehension : (rest : List ℕ) → Follows opens_set rest → Fits (item (binder_class_of binder.Comprehension) 0 (binder_sign_of binder.Comprehension)) rest
 fits_binder-Comprehension = passing_sign opens_set 73 (sym.Open bracket.Brace) 123 [] refl refl refl (λ rest. refl) refl refl
 
-pub fits_binder-QuantifiedUnion : (rest : List ℕ) → Fits (item (binder_symbol_of binder.QuantifiedUnion) 0 (binder_sign_of binder.QuantifiedUnion)) rest
+pub fits_binder-QuantifiedUnion : (rest : List ℕ) → Fits (item (binder_class_of binder.QuantifiedUnion) 0 (binder_sign_of binder.QuantifiedUnion)) rest
 fits_binder-QuantifiedUnion = free_fits 58 (sym.Binder (binding.Reaching binder.QuantifiedUnion)) 226 (139 ∷ 131 ∷ []) refl refl refl (λ rest. refl) refl refl
 
-pub fits_binder-QuantifiedIntersection : (rest : List ℕ) → Fits (item (binder_symbol_of binder.QuantifiedIntersection) 0 (binder_sign_of binder.QuantifiedIntersection)) rest
+pub fits_binder-QuantifiedIntersection : (rest : List ℕ) → Fits (item (binder_class_of binder.QuantifiedIntersection) 0 (binder_sign_of binder.QuantifiedIntersection)) rest
 fits_binder-QuantifiedIntersection = free_fits 59 (sym.Binder (binding.Reaching binder.QuantifiedIntersection)) 226 (139 ∷ 130 ∷ []) refl refl refl (λ rest. refl) refl refl

@@ -9,6 +9,7 @@ use Rattle.formula_core.specs.declared.op.Op.{Op}
 use Rattle.formula_core.specs.declared.op.Op.TheVariants as op
 use Rattle.formula_core.specs.declared.op.Binder.{Binder}
 use Rattle.formula_core.specs.declared.op.Binder.TheVariants as binder
+use Rattle.formula_core.specs.declared.op.TheConstants.{OPERATORS, BINDERS}
 use Rattle.formula_core.specs.declared.formula.Formula.{Formula, out-Formula}
 use Rattle.formula_core.specs.declared.formula.Formula.TheOpen.{Formula-F, Int, Free, Bound, Node, Bind}
 use Rattle.math_grammar.specs.declared.holes.Grade.{Grade}
@@ -23,11 +24,12 @@ use Rattle.math_grammar.specs.declared.symbols.Symbol.TheVariants as sym
 use Rattle.math_grammar.specs.Levels.{rank, level, takes_left, least, fits, goes_on}
 use Rattle.math_grammar.specs.Tokens.{Item}
 use Rattle.math_grammar.specs.Grammar.{Ends}
+use Rattle.math_grammar.proofs.Rows.{any_operator, any_binder}
 use Rattle.math_print.specs.declared.levels.Level.{Level}
 use Rattle.math_print.specs.declared.levels.Level.TheVariants as lev
 use Rattle.math_print.specs.declared.levels.Side.{Side}
 use Rattle.math_print.specs.declared.levels.Side.TheVariants as side
-use Rattle.math_print.specs.Levels.{rank as rank_of, level_of, formula_level_at, is_chained, is_same_connective, is_negative, goes_on_at, is_enclosed, goes_on as goes_on_left}
+use Rattle.math_print.specs.Levels.{rank as rank_of, level_of, binder_level_of, formula_level_at, is_chained, is_same_connective, is_negative, goes_on_with, goes_on_at, is_enclosed, goes_on as goes_on_left}
 use Rattle.math_reread.specs.Grades.{operator_grade, binder_grade, grade_at}
 
 -- the level that a token makes of what stands before it, if it goes on with it
@@ -59,19 +61,9 @@ Quiet n [] = Unit {0}
 Quiet n (x ∷ rest) = nat_le (top x.symbol) n ≡ true
 
 rank_level : (l : Sort) (g : Grade) → rank (level l g) ≡ sort_rank l
-rank_level sort.Implication g = refl
-rank_level sort.Conjunction g = refl
-rank_level sort.Disjunction g = refl
-rank_level sort.Relation g = refl
 rank_level sort.Typing grade.Name = refl
 rank_level sort.Typing _ = refl
-rank_level sort.Maplet g = refl
-rank_level sort.Arrow g = refl
-rank_level sort.SetOperator g = refl
-rank_level sort.Interval g = refl
-rank_level sort.Additive g = refl
-rank_level sort.Multiplicative g = refl
-rank_level sort.Power g = refl
+rank_level _ g = refl
 
 and_false : (a b : Bool) → b ≡ false → (a && b) ≡ false
 and_false true b h = h
@@ -120,14 +112,6 @@ least_value lev.Power = 12
 least_value lev.Postfix = 14
 least_value lev.Closed = 15
 least_value _ = 0
-
--- the least grade of a predicate of this level
-abbrev pub least_predicate : Level → ℕ
-least_predicate lev.Implication = 1
-least_predicate lev.Junction = 2
-least_predicate lev.Relation = 3
-least_predicate lev.Closed = 3
-least_predicate _ = 0
 
 -- what follows a form of this level
 abbrev pub quiet : Level → ℕ
@@ -183,43 +167,21 @@ sign_rank lev.Power = 12
 sign_rank lev.Postfix = 14
 sign_rank _ = 0
 
--- what the grammar wants on the left of a connective
-abbrev pub left_predicate : Level → ℕ
-left_predicate lev.Implication = 2
-left_predicate _ = 0
-
--- and on the right
-abbrev pub right_predicate : Level → ℕ
-right_predicate lev.Implication = 2
-right_predicate lev.Junction = 3
-right_predicate _ = 0
-
-pub value_op : (o : Op) → nat_lt 3 (rank (operator_grade o)) ≡ true → nat_le (least_value (level_of o)) (rank (operator_grade o)) ≡ true
+value_op : (o : Op) → nat_lt 3 (rank (operator_grade o)) ≡ true → nat_le (least_value (level_of o)) (rank (operator_grade o)) ≡ true
 value_op op.Top h = cc
 value_op op.Bottom h = cc
 value_op op.Finite h = cc
 value_op _ h = refl
 
-pub predicate_op : (o : Op) → nat_le (least_predicate (level_of o)) (rank (operator_grade o)) ≡ true
-predicate_op op.Top = refl
-predicate_op _ = refl
+-- of two tests of which one is passed, the other, if the one isn't
+other_passed : (a b : Bool) → (a || b) ≡ true → a ≡ false → b ≡ true
+other_passed true b h e = cc
+other_passed false b h e = h
 
 quiet_op : (o : Op) → nat_lt 3 (rank (operator_grade o)) ≡ true → nat_le 3 (quiet (level_of o)) ≡ true
-quiet_op op.Top h = refl
-quiet_op op.Bottom h = refl
-quiet_op op.Not h = cc
-quiet_op op.And h = cc
-quiet_op op.Or h = cc
-quiet_op op.Implies h = cc
-quiet_op op.Equivalent h = cc
-quiet_op op.Equal h = cc
-quiet_op op.Member h = cc
-quiet_op op.ProperSubset h = cc
-quiet_op op.Subset h = cc
-quiet_op op.Less h = cc
-quiet_op op.LessOrEqual h = cc
-quiet_op op.Finite h = refl
-quiet_op _ h = refl
+quiet_op o h =
+    other_passed (not (nat_lt 3 (rank (operator_grade o)))) (nat_le 3 (quiet (level_of o)))
+    (any_operator (λ o. not (nat_lt 3 (rank (operator_grade o))) || nat_le 3 (quiet (level_of o))) refl o) (ap not h)
 
 pub value_at : (x : Formula-F Formula) → nat_lt 3 (rank (grade_at x)) ≡ true → nat_le (least_value (formula_level_at x)) (rank (grade_at x)) ≡ true
 value_at (Int n) h = refl
@@ -230,24 +192,7 @@ value_at (Bind b types parts t) h = go b
   where
     go : (b : Binder) → nat_le (least_value (formula_level_at (Bind b types parts t))) (rank (binder_grade b)) ≡ true
     go binder.ForAll = refl
-    go binder.Exists = refl
-    go binder.Comprehension = refl
-    go binder.QuantifiedUnion = refl
-    go binder.QuantifiedIntersection = refl
-
-pub predicate_at : (x : Formula-F Formula) → nat_le (least_predicate (formula_level_at x)) (rank (grade_at x)) ≡ true
-predicate_at (Int n) = refl
-predicate_at (Free name t) = refl
-predicate_at (Bound i t) = refl
-predicate_at (Node o parts t) = predicate_op o
-predicate_at (Bind b types parts t) = go b
-  where
-    go : (b : Binder) → nat_le (least_predicate (formula_level_at (Bind b types parts t))) (rank (binder_grade b)) ≡ true
-    go binder.ForAll = refl
-    go binder.Exists = refl
-    go binder.Comprehension = refl
-    go binder.QuantifiedUnion = refl
-    go binder.QuantifiedIntersection = refl
+    go _ = refl
 
 -- a relation may follow an expression
 pub quiet_at : (x : Formula-F Formula) → nat_lt 3 (rank (grade_at x)) ≡ true → nat_le 3 (quiet (formula_level_at x)) ≡ true
@@ -272,19 +217,7 @@ levels =
 
 listed : (l : Level) → (get_or levels (rank_of l) l ≡ l) × (nat_lt (rank_of l) (length levels) ≡ true)
 listed lev.Quantified = (refl, refl)
-listed lev.Implication = (refl, refl)
-listed lev.Junction = (refl, refl)
-listed lev.Relation = (refl, refl)
-listed lev.Reaching = (refl, refl)
-listed lev.Maplet = (refl, refl)
-listed lev.Arrow = (refl, refl)
-listed lev.SetOperator = (refl, refl)
-listed lev.Interval = (refl, refl)
-listed lev.Additive = (refl, refl)
-listed lev.Multiplicative = (refl, refl)
-listed lev.Power = (refl, refl)
-listed lev.Postfix = (refl, refl)
-listed lev.Closed = (refl, refl)
+listed _ = (refl, refl)
 
 -- a test that all levels pass is passed by any
 any_level : (p : Level → Bool) → list_all p levels ≡ true → (l : Level) → p l ≡ true
@@ -299,11 +232,6 @@ any_level p h l = go (p l) refl
 
 any_two : (p : Level → Level → Bool) → list_all (λ own. list_all (p own) levels) levels ≡ true → (own operand : Level) → p own operand ≡ true
 any_two p h own operand = any_level (p own) (any_level (λ l. list_all (p l) levels) h own) operand
-
--- of two tests of which one is passed, the other, if the one isn't
-other_passed : (a b : Bool) → (a || b) ≡ true → a ≡ false → b ≡ true
-other_passed true b h e = cc
-other_passed false b h e = h
 
 -- an operand that stands without parentheses is as tight, and as quiet, as this asks
 bare : (wanted given : Level → ℕ) (go : Bool) → list_all (λ own. list_all (λ operand. is_enclosed own operand go || nat_le (wanted own) (given operand)) levels) levels ≡ true →
@@ -342,188 +270,53 @@ goes_on_chained o side.Left f alone h = go (out-Formula f)
     go (Node left parts t) = (λ i. alone left i || (h i && not (is_negative left)))
     go _ = refl
 
+-- A predicate that stands without parentheses beside a connective of this level is of a grade that is wanted there: on the left ..
+module _ (own : Level) (wanted : Grade → Bool) where
+  left_stands : (c : Op) → list_all (λ o. nat_lt 3 (rank (operator_grade o)) || (is_enclosed own (level_of o) (goes_on_with c o) || wanted (operator_grade o))) OPERATORS ≡ true
+      → list_all (λ b. nat_lt 3 (rank (binder_grade b)) || (is_enclosed own (binder_level_of b) false || wanted (binder_grade b))) BINDERS ≡ true
+      → (x : Formula-F Formula) → nat_lt 3 (rank (grade_at x)) ≡ false → is_enclosed own (formula_level_at x) (goes_on_at c x) ≡ false → wanted (grade_at x) ≡ true
+  left_stands c os bs (Int n) e h = cc
+  left_stands c os bs (Free m t) e h = cc
+  left_stands c os bs (Bound i t) e h = cc
+  left_stands c os bs (Node o parts t) e h =
+      other_passed (is_enclosed own (level_of o) (goes_on_with c o)) (wanted (operator_grade o))
+      (other_passed (nat_lt 3 (rank (operator_grade o))) _
+      (any_operator (λ o. nat_lt 3 (rank (operator_grade o)) || (is_enclosed own (level_of o) (goes_on_with c o) || wanted (operator_grade o))) os o) e) h
+  left_stands c os bs (Bind b types parts t) e h =
+      other_passed (is_enclosed own (binder_level_of b) false) (wanted (binder_grade b))
+      (other_passed (nat_lt 3 (rank (binder_grade b))) _
+      (any_binder (λ b. nat_lt 3 (rank (binder_grade b)) || (is_enclosed own (binder_level_of b) false || wanted (binder_grade b))) bs b) e) h
+
+  -- .. and on the right
+  right_stands : list_all (λ o. nat_lt 3 (rank (operator_grade o)) || (is_enclosed own (level_of o) false || wanted (operator_grade o))) OPERATORS ≡ true
+      → list_all (λ b. nat_lt 3 (rank (binder_grade b)) || (is_enclosed own (binder_level_of b) false || wanted (binder_grade b))) BINDERS ≡ true
+      → (x : Formula-F Formula) → nat_lt 3 (rank (grade_at x)) ≡ false → is_enclosed own (formula_level_at x) false ≡ false → wanted (grade_at x) ≡ true
+  right_stands os bs (Int n) e h = cc
+  right_stands os bs (Free m t) e h = cc
+  right_stands os bs (Bound i t) e h = cc
+  right_stands os bs (Node o parts t) e h =
+      other_passed (is_enclosed own (level_of o) false) (wanted (operator_grade o))
+      (other_passed (nat_lt 3 (rank (operator_grade o))) _
+      (any_operator (λ o. nat_lt 3 (rank (operator_grade o)) || (is_enclosed own (level_of o) false || wanted (operator_grade o))) os o) e) h
+  right_stands os bs (Bind b types parts t) e h =
+      other_passed (is_enclosed own (binder_level_of b) false) (wanted (binder_grade b))
+      (other_passed (nat_lt 3 (rank (binder_grade b))) _
+      (any_binder (λ b. nat_lt 3 (rank (binder_grade b)) || (is_enclosed own (binder_level_of b) false || wanted (binder_grade b))) bs b) e) h
+
 pub left_of_implication : (x : Formula-F Formula) → nat_lt 3 (rank (grade_at x)) ≡ false → is_enclosed lev.Implication (formula_level_at x) (goes_on_at op.Implies x) ≡ false → takes_left sort.Implication (grade_at x) ≡ true
-left_of_implication (Int n) e h = cc
-left_of_implication (Free m t) e h = cc
-left_of_implication (Bound i t) e h = cc
-left_of_implication (Node o parts t) e h = go o e h
-  where
-    go : (o : Op) → nat_lt 3 (rank (operator_grade o)) ≡ false → is_enclosed lev.Implication (level_of o) (goes_on_at op.Implies (Node o parts t)) ≡ false → takes_left sort.Implication (operator_grade o) ≡ true
-    go op.Top e h = refl
-    go op.Bottom e h = refl
-    go op.Not e h = refl
-    go op.And e h = refl
-    go op.Or e h = refl
-    go op.Implies e h = cc
-    go op.Equivalent e h = cc
-    go op.Equal e h = refl
-    go op.Member e h = refl
-    go op.ProperSubset e h = refl
-    go op.Subset e h = refl
-    go op.Less e h = refl
-    go op.LessOrEqual e h = refl
-    go op.Finite e h = refl
-    go _ e h = cc
-left_of_implication (Bind b types parts t) e h = go b e h
-  where
-    go : (b : Binder) → nat_lt 3 (rank (binder_grade b)) ≡ false → is_enclosed lev.Implication (formula_level_at (Bind b types parts t)) (goes_on_at op.Implies (Bind b types parts t)) ≡ false → takes_left sort.Implication (binder_grade b) ≡ true
-    go binder.ForAll e h = cc
-    go binder.Exists e h = cc
-    go binder.Comprehension e h = cc
-    go binder.QuantifiedUnion e h = cc
-    go binder.QuantifiedIntersection e h = cc
+left_of_implication = left_stands lev.Implication (takes_left sort.Implication) op.Implies refl refl
 
 pub left_of_equivalence : (x : Formula-F Formula) → nat_lt 3 (rank (grade_at x)) ≡ false → is_enclosed lev.Implication (formula_level_at x) (goes_on_at op.Equivalent x) ≡ false → takes_left sort.Implication (grade_at x) ≡ true
-left_of_equivalence (Int n) e h = cc
-left_of_equivalence (Free m t) e h = cc
-left_of_equivalence (Bound i t) e h = cc
-left_of_equivalence (Node o parts t) e h = go o e h
-  where
-    go : (o : Op) → nat_lt 3 (rank (operator_grade o)) ≡ false → is_enclosed lev.Implication (level_of o) (goes_on_at op.Equivalent (Node o parts t)) ≡ false → takes_left sort.Implication (operator_grade o) ≡ true
-    go op.Top e h = refl
-    go op.Bottom e h = refl
-    go op.Not e h = refl
-    go op.And e h = refl
-    go op.Or e h = refl
-    go op.Implies e h = cc
-    go op.Equivalent e h = cc
-    go op.Equal e h = refl
-    go op.Member e h = refl
-    go op.ProperSubset e h = refl
-    go op.Subset e h = refl
-    go op.Less e h = refl
-    go op.LessOrEqual e h = refl
-    go op.Finite e h = refl
-    go _ e h = cc
-left_of_equivalence (Bind b types parts t) e h = go b e h
-  where
-    go : (b : Binder) → nat_lt 3 (rank (binder_grade b)) ≡ false → is_enclosed lev.Implication (formula_level_at (Bind b types parts t)) (goes_on_at op.Equivalent (Bind b types parts t)) ≡ false → takes_left sort.Implication (binder_grade b) ≡ true
-    go binder.ForAll e h = cc
-    go binder.Exists e h = cc
-    go binder.Comprehension e h = cc
-    go binder.QuantifiedUnion e h = cc
-    go binder.QuantifiedIntersection e h = cc
+left_of_equivalence = left_stands lev.Implication (takes_left sort.Implication) op.Equivalent refl refl
 
 pub left_of_and : (x : Formula-F Formula) → nat_lt 3 (rank (grade_at x)) ≡ false → is_enclosed lev.Junction (formula_level_at x) (goes_on_at op.And x) ≡ false → takes_left sort.Conjunction (grade_at x) ≡ true
-left_of_and (Int n) e h = cc
-left_of_and (Free m t) e h = cc
-left_of_and (Bound i t) e h = cc
-left_of_and (Node o parts t) e h = go o e h
-  where
-    go : (o : Op) → nat_lt 3 (rank (operator_grade o)) ≡ false → is_enclosed lev.Junction (level_of o) (goes_on_at op.And (Node o parts t)) ≡ false → takes_left sort.Conjunction (operator_grade o) ≡ true
-    go op.Top e h = refl
-    go op.Bottom e h = refl
-    go op.Not e h = refl
-    go op.And e h = refl
-    go op.Or e h = cc
-    go op.Implies e h = cc
-    go op.Equivalent e h = cc
-    go op.Equal e h = refl
-    go op.Member e h = refl
-    go op.ProperSubset e h = refl
-    go op.Subset e h = refl
-    go op.Less e h = refl
-    go op.LessOrEqual e h = refl
-    go op.Finite e h = refl
-    go _ e h = cc
-left_of_and (Bind b types parts t) e h = go b e h
-  where
-    go : (b : Binder) → nat_lt 3 (rank (binder_grade b)) ≡ false → is_enclosed lev.Junction (formula_level_at (Bind b types parts t)) (goes_on_at op.And (Bind b types parts t)) ≡ false → takes_left sort.Conjunction (binder_grade b) ≡ true
-    go binder.ForAll e h = cc
-    go binder.Exists e h = cc
-    go binder.Comprehension e h = cc
-    go binder.QuantifiedUnion e h = cc
-    go binder.QuantifiedIntersection e h = cc
+left_of_and = left_stands lev.Junction (takes_left sort.Conjunction) op.And refl refl
 
 pub left_of_or : (x : Formula-F Formula) → nat_lt 3 (rank (grade_at x)) ≡ false → is_enclosed lev.Junction (formula_level_at x) (goes_on_at op.Or x) ≡ false → takes_left sort.Disjunction (grade_at x) ≡ true
-left_of_or (Int n) e h = cc
-left_of_or (Free m t) e h = cc
-left_of_or (Bound i t) e h = cc
-left_of_or (Node o parts t) e h = go o e h
-  where
-    go : (o : Op) → nat_lt 3 (rank (operator_grade o)) ≡ false → is_enclosed lev.Junction (level_of o) (goes_on_at op.Or (Node o parts t)) ≡ false → takes_left sort.Disjunction (operator_grade o) ≡ true
-    go op.Top e h = refl
-    go op.Bottom e h = refl
-    go op.Not e h = refl
-    go op.And e h = cc
-    go op.Or e h = refl
-    go op.Implies e h = cc
-    go op.Equivalent e h = cc
-    go op.Equal e h = refl
-    go op.Member e h = refl
-    go op.ProperSubset e h = refl
-    go op.Subset e h = refl
-    go op.Less e h = refl
-    go op.LessOrEqual e h = refl
-    go op.Finite e h = refl
-    go _ e h = cc
-left_of_or (Bind b types parts t) e h = go b e h
-  where
-    go : (b : Binder) → nat_lt 3 (rank (binder_grade b)) ≡ false → is_enclosed lev.Junction (formula_level_at (Bind b types parts t)) (goes_on_at op.Or (Bind b types parts t)) ≡ false → takes_left sort.Disjunction (binder_grade b) ≡ true
-    go binder.ForAll e h = cc
-    go binder.Exists e h = cc
-    go binder.Comprehension e h = cc
-    go binder.QuantifiedUnion e h = cc
-    go binder.QuantifiedIntersection e h = cc
+left_of_or = left_stands lev.Junction (takes_left sort.Disjunction) op.Or refl refl
 
 pub right_of_implication : (x : Formula-F Formula) → nat_lt 3 (rank (grade_at x)) ≡ false → is_enclosed lev.Implication (formula_level_at x) false ≡ false → fits hole.Junction (grade_at x) ≡ true
-right_of_implication (Int n) e h = cc
-right_of_implication (Free m t) e h = cc
-right_of_implication (Bound i t) e h = cc
-right_of_implication (Node o parts t) e h = go o e h
-  where
-    go : (o : Op) → nat_lt 3 (rank (operator_grade o)) ≡ false → is_enclosed lev.Implication (level_of o) false ≡ false → fits hole.Junction (operator_grade o) ≡ true
-    go op.Top e h = refl
-    go op.Bottom e h = refl
-    go op.Not e h = refl
-    go op.And e h = refl
-    go op.Or e h = refl
-    go op.Implies e h = cc
-    go op.Equivalent e h = cc
-    go op.Equal e h = refl
-    go op.Member e h = refl
-    go op.ProperSubset e h = refl
-    go op.Subset e h = refl
-    go op.Less e h = refl
-    go op.LessOrEqual e h = refl
-    go op.Finite e h = refl
-    go _ e h = cc
-right_of_implication (Bind b types parts t) e h = go b e h
-  where
-    go : (b : Binder) → nat_lt 3 (rank (binder_grade b)) ≡ false → is_enclosed lev.Implication (formula_level_at (Bind b types parts t)) false ≡ false → fits hole.Junction (binder_grade b) ≡ true
-    go binder.ForAll e h = cc
-    go binder.Exists e h = cc
-    go binder.Comprehension e h = cc
-    go binder.QuantifiedUnion e h = cc
-    go binder.QuantifiedIntersection e h = cc
+right_of_implication = right_stands lev.Implication (fits hole.Junction) refl refl
 
 pub right_of_junction : (x : Formula-F Formula) → nat_lt 3 (rank (grade_at x)) ≡ false → is_enclosed lev.Junction (formula_level_at x) false ≡ false → fits hole.Literal (grade_at x) ≡ true
-right_of_junction (Int n) e h = cc
-right_of_junction (Free m t) e h = cc
-right_of_junction (Bound i t) e h = cc
-right_of_junction (Node o parts t) e h = go o e h
-  where
-    go : (o : Op) → nat_lt 3 (rank (operator_grade o)) ≡ false → is_enclosed lev.Junction (level_of o) false ≡ false → fits hole.Literal (operator_grade o) ≡ true
-    go op.Top e h = refl
-    go op.Bottom e h = refl
-    go op.Not e h = refl
-    go op.And e h = cc
-    go op.Or e h = cc
-    go op.Implies e h = cc
-    go op.Equivalent e h = cc
-    go op.Equal e h = refl
-    go op.Member e h = refl
-    go op.ProperSubset e h = refl
-    go op.Subset e h = refl
-    go op.Less e h = refl
-    go op.LessOrEqual e h = refl
-    go op.Finite e h = refl
-    go _ e h = cc
-right_of_junction (Bind b types parts t) e h = go b e h
-  where
-    go : (b : Binder) → nat_lt 3 (rank (binder_grade b)) ≡ false → is_enclosed lev.Junction (formula_level_at (Bind b types parts t)) false ≡ false → fits hole.Literal (binder_grade b) ≡ true
-    go binder.ForAll e h = cc
-    go binder.Exists e h = cc
-    go binder.Comprehension e h = cc
-    go binder.QuantifiedUnion e h = cc
-    go binder.QuantifiedIntersection e h = cc
+right_of_junction = right_stands lev.Junction (fits hole.Literal) refl refl

@@ -31,7 +31,7 @@ use Rattle.math_grammar.specs.declared.symbols.Symbol.TheVariants as sym
 use Rattle.math_grammar.specs.Levels.{rank, fits}
 use Rattle.math_grammar.specs.Tokens.{Item}
 use Rattle.math_grammar.specs.Grammar.{item, place_at, place_of, between, Reads, a_name, a_constant, in_parentheses, last_side, Bound, of_type, Declares, last_name, next_name}
-use Rattle.math_print.specs.Signs.{sign_of}
+use Rattle.math_grammar.specs.Operators.{sign_of}
 use Rattle.math_print.specs.Characters.{bytes}
 use Rattle.math_print.specs.Printing.{name_at}
 use Rattle.math_print.specs.Written.{constant, type_raw_step, type_raw, typed_raw, declared}

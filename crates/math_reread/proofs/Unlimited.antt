@@ -21,22 +21,23 @@ use Rattle.formula_core.proofs.Equations.{formula_para}
 use Rattle.formula_core.proofs.Induction.{formula_induction}
 use Rattle.formula_core.proofs.Types.{type_induction}
 use Rattle.math_grammar.specs.Tokens.{Item}
+use Rattle.math_grammar.specs.Operators.{class_of, binder_class_of}
 use Rattle.math_print.specs.declared.levels.Side.{Side}
 use Rattle.math_print.specs.declared.levels.Side.TheVariants as side
 use Rattle.math_print.specs.Levels.{needs_parentheses}
 use Rattle.math_print.specs.Names.{bound_names}
-use Rattle.math_reread.specs.Items.{Items, Part, close_round, close_square, close_brace, dot, bar, symbol_of, denied_symbol_of, sign_token, denied_sign_token, opening_items, closing_items, right_items, type_items_step, type_items, in_round, operand_items, typed_items, constant_items, unary_items, second_items, comma_after, separated_after, separated, operator_items, node_items, declarations, binder_symbol_of, binder_end, body_items, binder_items, bind_items, items_step, items, with_items, items_of_formula}
+use Rattle.math_reread.specs.Items.{Items, Part, close_round, close_square, close_brace, dot, bar, denied_class_of, sign_token, denied_sign_token, opening_items, closing_items, right_items, type_items_step, type_items, in_round, operand_items, typed_items, constant_items, unary_items, second_items, comma_after, separated_after, separated, operator_items, node_items, declarations, binder_end, body_items, binder_items, bind_items, items_step, items, with_items, items_of_formula}
 use Rattle.math_reread.proofs.AnyLimit.{is_limited, IsUnlimited, AreUnlimited}
 
 joined : (s m : List Item) → AreUnlimited s → AreUnlimited m → AreUnlimited (s ++ m)
 joined [] m all others = others
 joined (x ∷ s) m all others = (all.0, joined s m all.1 others)
 
-sign_unlimited : (o : Op) → is_limited (symbol_of o) ≡ false
+sign_unlimited : (o : Op) → is_limited (class_of o) ≡ false
 sign_unlimited op.Top = refl
 sign_unlimited _ = refl
 
-denied_unlimited : (o : Op) → is_limited (denied_symbol_of o) ≡ false
+denied_unlimited : (o : Op) → is_limited (denied_class_of o) ≡ false
 denied_unlimited op.Top = refl
 denied_unlimited _ = refl
 
@@ -155,7 +156,7 @@ module _ (names : List (List ℕ)) where
   body (p ∷ e ∷ []) d all = joined (p.1 false d) (bar ∷ e.1 false d) (all.0 false d) (refl, all.1.0 false d)
   body (p ∷ e ∷ x ∷ parts) d all = tt
 
-  binder_sign : (b : Binder) → is_limited (binder_symbol_of b) ≡ false
+  binder_sign : (b : Binder) → is_limited (binder_class_of b) ≡ false
   binder_sign binder.ForAll = refl
   binder_sign _ = refl
 

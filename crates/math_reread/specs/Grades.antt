@@ -3,70 +3,38 @@ use Rattle.std.specs.Prelude.{if◌then◌else◌, None}
 use Rattle.formula_core.specs.Types.{is_value_type}
 use Rattle.formula_core.specs.Wellness.{type_of}
 use Rattle.formula_core.specs.declared.op.Op.{Op}
-use Rattle.formula_core.specs.declared.op.Op.TheVariants as op
 use Rattle.formula_core.specs.declared.op.Binder.{Binder}
 use Rattle.formula_core.specs.declared.op.Binder.TheVariants as binder
 use Rattle.formula_core.specs.declared.formula.Formula.{Formula, out-Formula}
 use Rattle.formula_core.specs.declared.formula.Formula.TheOpen.{Formula-F, Int, Free, Bound, Node, Bind}
+use Rattle.math_grammar.specs.declared.levels.Bracket.TheVariants as bracket
+use Rattle.math_grammar.specs.declared.operators.Form.{Form}
+use Rattle.math_grammar.specs.declared.operators.Form.TheVariants as form
 use Rattle.math_grammar.specs.declared.holes.Grade.{Grade}
 use Rattle.math_grammar.specs.declared.holes.Grade.TheVariants as grade
 use Rattle.math_grammar.specs.declared.holes.Hole.{Hole}
 use Rattle.math_grammar.specs.declared.holes.Hole.TheVariants as hole
+use Rattle.math_grammar.specs.Levels.{level, call_grade}
+use Rattle.math_grammar.specs.Operators.{op_form}
 use Rattle.math_grammar.specs.Grammar.{Spells}
 use Rattle.math_print.specs.Written.{raw_of}
 use Rattle.math_reread.specs.Items.{items_of_formula}
 
+-- the grade of a form with an operator, by how that stands to its operands
+abbrev pub form_grade : Form → Grade
+form_grade form.Truth = grade.Literal
+form_grade form.Constant = grade.Primary
+form_grade (form.Call c) = call_grade c
+form_grade form.Not = grade.Literal
+form_grade form.Negation = grade.Negative
+form_grade form.Minus = grade.Sum
+form_grade (form.Infix l) = level l grade.Primary
+form_grade form.Converse = grade.Suffixed
+form_grade (form.Open bracket.Brace) = grade.Primary
+form_grade (form.Open b) = grade.Suffixed
+
 abbrev pub operator_grade : Op → Grade
-operator_grade op.Top = grade.Literal
-operator_grade op.Bottom = grade.Literal
-operator_grade op.Not = grade.Literal
-operator_grade op.Finite = grade.Literal
-operator_grade op.Implies = grade.Implication
-operator_grade op.Equivalent = grade.Implication
-operator_grade op.And = grade.Conjunction
-operator_grade op.Or = grade.Disjunction
-operator_grade op.Equal = grade.Literal
-operator_grade op.Member = grade.Literal
-operator_grade op.ProperSubset = grade.Literal
-operator_grade op.Subset = grade.Literal
-operator_grade op.Less = grade.Literal
-operator_grade op.LessOrEqual = grade.Literal
-operator_grade op.Maplet = grade.Pair
-operator_grade op.Relations = grade.Arrow
-operator_grade op.TotalRelations = grade.Arrow
-operator_grade op.SurjectiveRelations = grade.Arrow
-operator_grade op.TotalSurjectiveRelations = grade.Arrow
-operator_grade op.PartialFunctions = grade.Arrow
-operator_grade op.TotalFunctions = grade.Arrow
-operator_grade op.PartialInjections = grade.Arrow
-operator_grade op.TotalInjections = grade.Arrow
-operator_grade op.PartialSurjections = grade.Arrow
-operator_grade op.TotalSurjections = grade.Arrow
-operator_grade op.Bijections = grade.Arrow
-operator_grade op.Union = grade.Set
-operator_grade op.Intersection = grade.Set
-operator_grade op.Difference = grade.Set
-operator_grade op.Product = grade.Set
-operator_grade op.DomainRestriction = grade.Set
-operator_grade op.DomainSubtraction = grade.Set
-operator_grade op.RangeRestriction = grade.Set
-operator_grade op.RangeSubtraction = grade.Set
-operator_grade op.Overriding = grade.Set
-operator_grade op.Composition = grade.Set
-operator_grade op.ParallelProduct = grade.Set
-operator_grade op.DirectProduct = grade.Set
-operator_grade op.Interval = grade.Interval
-operator_grade op.Plus = grade.Sum
-operator_grade op.Times = grade.Product
-operator_grade op.Divide = grade.Product
-operator_grade op.Modulo = grade.Product
-operator_grade op.Power = grade.Power
-operator_grade op.Minus = grade.Sum
-operator_grade op.Negate = grade.Negative
-operator_grade op.Converse = grade.Suffixed
-operator_grade op.Apply = grade.Suffixed
-operator_grade op.Image = grade.Suffixed
-operator_grade _ = grade.Primary
+operator_grade o = form_grade (op_form o)
 
 abbrev pub binder_grade : Binder → Grade
 binder_grade binder.ForAll = grade.Literal

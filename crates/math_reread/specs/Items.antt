@@ -15,19 +15,18 @@ use Rattle.formula_core.specs.declared.formula.Formula.TheFolds.{para-Formula}
 use Rattle.formula_core.specs.Types.{components}
 use Rattle.math_grammar.specs.declared.levels.Level.TheVariants as lev
 use Rattle.math_grammar.specs.declared.levels.Bracket.TheVariants as bracket
-use Rattle.math_grammar.specs.declared.levels.Call.TheVariants as call
-use Rattle.math_grammar.specs.declared.levels.Binding.TheVariants as binding
 use Rattle.math_grammar.specs.declared.symbols.Symbol.{Symbol}
 use Rattle.math_grammar.specs.declared.symbols.Symbol.TheVariants as sym
+use Rattle.math_grammar.specs.Operators.{sign_of, class_of, raw_class_of, binder_sign_of, binder_class_of}
 use Rattle.math_grammar.specs.Tokens.{Item}
 use Rattle.math_grammar.specs.Grammar.{item}
 use Rattle.math_print.specs.declared.levels.Side.{Side}
 use Rattle.math_print.specs.declared.levels.Side.TheVariants as side
 use Rattle.math_print.specs.Characters.{bytes}
-use Rattle.math_print.specs.Signs.{sign_of, denied_sign_of}
+use Rattle.math_print.specs.Signs.{denied_op, denied_sign_of}
 use Rattle.math_print.specs.Levels.{needs_parentheses}
 use Rattle.math_print.specs.Names.{bound_names}
-use Rattle.math_print.specs.Printing.{name_at, binder_sign_of}
+use Rattle.math_print.specs.Printing.{name_at}
 
 abbrev pub word : List ℕ → Item
 word name = item sym.Word 0 name
@@ -65,79 +64,15 @@ typing = item (sym.Infix lev.Typing rawop.OfType) 0 (bytes "⦂")
 abbrev pub not_sign : Item
 not_sign = item sym.Not 0 (bytes "¬")
 
--- the class of each operator's sign: of what is left here, a constant's
-abbrev pub symbol_of : Op → Symbol
-symbol_of op.Top = sym.Truth op.Top
-symbol_of op.Bottom = sym.Truth op.Bottom
-symbol_of op.Not = sym.Not
-symbol_of op.Implies = sym.Infix lev.Implication (rawop.Plain op.Implies)
-symbol_of op.Equivalent = sym.Infix lev.Implication (rawop.Plain op.Equivalent)
-symbol_of op.And = sym.Infix lev.Conjunction (rawop.Plain op.And)
-symbol_of op.Or = sym.Infix lev.Disjunction (rawop.Plain op.Or)
-symbol_of op.Equal = sym.Infix lev.Relation (rawop.Plain op.Equal)
-symbol_of op.Member = sym.Infix lev.Relation (rawop.Plain op.Member)
-symbol_of op.ProperSubset = sym.Infix lev.Relation (rawop.Plain op.ProperSubset)
-symbol_of op.Subset = sym.Infix lev.Relation (rawop.Plain op.Subset)
-symbol_of op.Less = sym.Infix lev.Relation (rawop.Plain op.Less)
-symbol_of op.LessOrEqual = sym.Infix lev.Relation (rawop.Plain op.LessOrEqual)
-symbol_of op.Maplet = sym.Infix lev.Maplet (rawop.Plain op.Maplet)
-symbol_of op.Relations = sym.Infix lev.Arrow (rawop.Plain op.Relations)
-symbol_of op.TotalRelations = sym.Infix lev.Arrow (rawop.Plain op.TotalRelations)
-symbol_of op.SurjectiveRelations = sym.Infix lev.Arrow (rawop.Plain op.SurjectiveRelations)
-symbol_of op.TotalSurjectiveRelations = sym.Infix lev.Arrow (rawop.Plain op.TotalSurjectiveRelations)
-symbol_of op.PartialFunctions = sym.Infix lev.Arrow (rawop.Plain op.PartialFunctions)
-symbol_of op.TotalFunctions = sym.Infix lev.Arrow (rawop.Plain op.TotalFunctions)
-symbol_of op.PartialInjections = sym.Infix lev.Arrow (rawop.Plain op.PartialInjections)
-symbol_of op.TotalInjections = sym.Infix lev.Arrow (rawop.Plain op.TotalInjections)
-symbol_of op.PartialSurjections = sym.Infix lev.Arrow (rawop.Plain op.PartialSurjections)
-symbol_of op.TotalSurjections = sym.Infix lev.Arrow (rawop.Plain op.TotalSurjections)
-symbol_of op.Bijections = sym.Infix lev.Arrow (rawop.Plain op.Bijections)
-symbol_of op.Union = sym.Infix lev.SetOperator (rawop.Plain op.Union)
-symbol_of op.Intersection = sym.Infix lev.SetOperator (rawop.Plain op.Intersection)
-symbol_of op.Difference = sym.Infix lev.SetOperator (rawop.Plain op.Difference)
-symbol_of op.Product = sym.Infix lev.SetOperator (rawop.Plain op.Product)
-symbol_of op.DomainRestriction = sym.Infix lev.SetOperator (rawop.Plain op.DomainRestriction)
-symbol_of op.DomainSubtraction = sym.Infix lev.SetOperator (rawop.Plain op.DomainSubtraction)
-symbol_of op.RangeRestriction = sym.Infix lev.SetOperator (rawop.Plain op.RangeRestriction)
-symbol_of op.RangeSubtraction = sym.Infix lev.SetOperator (rawop.Plain op.RangeSubtraction)
-symbol_of op.Overriding = sym.Infix lev.SetOperator (rawop.Plain op.Overriding)
-symbol_of op.Composition = sym.Infix lev.SetOperator (rawop.Plain op.Composition)
-symbol_of op.ParallelProduct = sym.Infix lev.SetOperator (rawop.Plain op.ParallelProduct)
-symbol_of op.DirectProduct = sym.Infix lev.SetOperator (rawop.Plain op.DirectProduct)
-symbol_of op.Interval = sym.Infix lev.Interval (rawop.Plain op.Interval)
-symbol_of op.Plus = sym.Infix lev.Additive (rawop.Plain op.Plus)
-symbol_of op.Times = sym.Infix lev.Multiplicative (rawop.Plain op.Times)
-symbol_of op.Divide = sym.Infix lev.Multiplicative (rawop.Plain op.Divide)
-symbol_of op.Modulo = sym.Infix lev.Multiplicative (rawop.Plain op.Modulo)
-symbol_of op.Power = sym.Infix lev.Power (rawop.Plain op.Power)
-symbol_of op.Minus = sym.Minus
-symbol_of op.Negate = sym.Minus
-symbol_of op.Converse = sym.Converse
-symbol_of op.Finite = sym.Call call.Finite (rawop.Plain op.Finite)
-symbol_of op.BoolOf = sym.Call call.Bool (rawop.Plain op.BoolOf)
-symbol_of op.PowerSet = sym.Call call.Function (rawop.Plain op.PowerSet)
-symbol_of op.NonEmptyPowerSet = sym.Call call.Function (rawop.Plain op.NonEmptyPowerSet)
-symbol_of op.Cardinality = sym.Call call.Function (rawop.Plain op.Cardinality)
-symbol_of op.Domain = sym.Call call.Function (rawop.Plain op.Domain)
-symbol_of op.Range = sym.Call call.Function (rawop.Plain op.Range)
-symbol_of op.GeneralUnion = sym.Call call.Function (rawop.Plain op.GeneralUnion)
-symbol_of op.GeneralIntersection = sym.Call call.Function (rawop.Plain op.GeneralIntersection)
-symbol_of op.Minimum = sym.Call call.Function (rawop.Plain op.Minimum)
-symbol_of op.Maximum = sym.Call call.Function (rawop.Plain op.Maximum)
-symbol_of o = sym.Constant o
-
-abbrev pub denied_symbol_of : Op → Symbol
-denied_symbol_of op.Equal = sym.Infix lev.Relation rawop.NotEqual
-denied_symbol_of op.Member = sym.Infix lev.Relation rawop.NotMember
-denied_symbol_of op.ProperSubset = sym.Infix lev.Relation rawop.NotProperSubset
-denied_symbol_of op.Subset = sym.Infix lev.Relation rawop.NotSubset
-denied_symbol_of o = symbol_of o
+-- the class of an operator that is denied
+abbrev pub denied_class_of : Op → Symbol
+denied_class_of o = raw_class_of (denied_op o)
 
 abbrev pub sign_token : Op → Item
-sign_token o = item (symbol_of o) 0 (sign_of o)
+sign_token o = item (class_of o) 0 (sign_of o)
 
 abbrev pub denied_sign_token : Op → Item
-denied_sign_token o = item (denied_symbol_of o) 0 (denied_sign_of o)
+denied_sign_token o = item (denied_class_of o) 0 (denied_sign_of o)
 
 -- what stands before a form that is denied ..
 abbrev pub opening_items : Op → List Item
@@ -246,13 +181,6 @@ abbrev pub declarations : List (List ℕ) → List Ty → ℕ → List (List Ite
 declarations names [] depth = []
 declarations names (t ∷ types) depth = (word (name_at names depth) ∷ typing ∷ type_items t) ∷ declarations names types (depth + 1)
 
-abbrev pub binder_symbol_of : Binder → Symbol
-binder_symbol_of binder.ForAll = sym.Binder (binding.Quantified binder.ForAll)
-binder_symbol_of binder.Exists = sym.Binder (binding.Quantified binder.Exists)
-binder_symbol_of binder.Comprehension = sym.Open bracket.Brace
-binder_symbol_of binder.QuantifiedUnion = sym.Binder (binding.Reaching binder.QuantifiedUnion)
-binder_symbol_of binder.QuantifiedIntersection = sym.Binder (binding.Reaching binder.QuantifiedIntersection)
-
 abbrev pub binder_end : Binder → List Item
 binder_end binder.Comprehension = close_brace ∷ []
 binder_end _ = []
@@ -265,7 +193,7 @@ body_items _ depth = []
 
 abbrev pub binder_items : List (List ℕ) → Binder → List Ty → List Part → ℕ → List Item
 binder_items names b types parts depth =
-    item (binder_symbol_of b) 0 (binder_sign_of b) ∷ (separated (declarations names types depth) ++ (dot ∷ (body_items parts (depth + length types) ++ binder_end b)))
+    item (binder_class_of b) 0 (binder_sign_of b) ∷ (separated (declarations names types depth) ++ (dot ∷ (body_items parts (depth + length types) ++ binder_end b)))
 
 abbrev pub bind_items : List (List ℕ) → Binder → List Ty → List Part → Bool → ℕ → List Item
 bind_items names b types parts denied depth =

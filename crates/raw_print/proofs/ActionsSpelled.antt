@@ -16,7 +16,8 @@ use Rattle.math_grammar.specs.Tokens.{Item}
 use Rattle.math_grammar.specs.Grammar.{item, Reads, Spells}
 use Rattle.math_grammar.specs.Actions.{ref, Targets, last_target, next_target, Values, last_value, next_value, SpellsAction, assigns, applies, chooses_in, chooses_such}
 use Rattle.math_places.specs.Places.{unplaced, unplaced_ref, unplaced_action}
-use Rattle.raw_print.specs.Pieces.{bytes, Blank, tokens_of, word, close_round, becomes, becomes_such, in_round, behind_commas, separated}
+use Rattle.math_grammar.specs.Characters.{bytes}
+use Rattle.raw_print.specs.Pieces.{Blank, tokens_of, word, close_round, becomes, becomes_such, in_round, behind_commas, separated}
 use Rattle.raw_print.specs.Printing.{pieces, target, targets, raw_tokens, action_tokens}
 use Rattle.raw_print.proofs.Grades.{is_predicate, place_sort, fits_expression, at_end, closing}
 use Rattle.raw_print.specs.Back.{AllProper}

@@ -17,7 +17,7 @@ use Rattle.math_grammar.specs.declared.symbols.Symbol.{Symbol}
 use Rattle.math_grammar.specs.declared.symbols.Symbol.TheVariants as sym
 use Rattle.math_grammar.specs.Levels.{infix_of, suffix_of, opens, binder_of}
 use Rattle.raw_print.specs.Pieces.{Piece, Blank, Token, between}
-use Rattle.raw_print.specs.Signs.{sign_of, symbol_of, binder_symbol_of}
+use Rattle.math_grammar.specs.Operators.{raw_sign_of, raw_class_of, raw_binder_class_of}
 use Rattle.raw_print.specs.Back.{IsProper}
 use Rattle.raw_print.specs.Printing.{Part, operand, form, is_atomic, declared, pattern, names_in}
 use Rattle.raw_print.proofs.Equations.{names_in-Node, pattern-Node}
@@ -37,152 +37,50 @@ is_infix sym.Minus = true
 is_infix _ = false
 
 pub infix_is : (x : Symbol) (l : Level) (o : RawOp) → infix_of x ≡ Some (l, o) → is_infix x ≡ true
-infix_is sym.Word l o e = cc
-infix_is (sym.Number n) l o e = cc
-infix_is (sym.Truth q) l o e = cc
-infix_is (sym.Constant q) l o e = cc
-infix_is (sym.Call d q) l o e = cc
-infix_is sym.Not l o e = cc
 infix_is sym.Minus l o e = refl
 infix_is (sym.Infix m q) l o e = refl
-infix_is (sym.Binder d) l o e = cc
-infix_is sym.Converse l o e = cc
-infix_is sym.Dot l o e = cc
-infix_is sym.Bar l o e = cc
-infix_is sym.Comma l o e = cc
-infix_is (sym.Open bracket.Round) l o e = cc
-infix_is (sym.Open bracket.Square) l o e = cc
-infix_is (sym.Open bracket.Brace) l o e = cc
-infix_is (sym.Close d) l o e = cc
-infix_is sym.Becomes l o e = cc
-infix_is sym.BecomesIn l o e = cc
-infix_is sym.BecomesSuch l o e = cc
+infix_is _ l o e = cc
 
 pub infix_stands : (x : Symbol) (l : Level) (o : RawOp) → infix_of x ≡ Some (l, o) → is_atomic x ≡ false
-infix_stands sym.Word l o e = cc
-infix_stands (sym.Number n) l o e = cc
-infix_stands (sym.Truth q) l o e = cc
-infix_stands (sym.Constant q) l o e = cc
-infix_stands (sym.Call d q) l o e = cc
-infix_stands sym.Not l o e = cc
 infix_stands sym.Minus l o e = refl
 infix_stands (sym.Infix m q) l o e = refl
-infix_stands (sym.Binder d) l o e = cc
-infix_stands sym.Converse l o e = cc
-infix_stands sym.Dot l o e = cc
-infix_stands sym.Bar l o e = cc
-infix_stands sym.Comma l o e = cc
-infix_stands (sym.Open bracket.Round) l o e = cc
-infix_stands (sym.Open bracket.Square) l o e = cc
-infix_stands (sym.Open bracket.Brace) l o e = cc
-infix_stands (sym.Close d) l o e = cc
-infix_stands sym.Becomes l o e = cc
-infix_stands sym.BecomesIn l o e = cc
-infix_stands sym.BecomesSuch l o e = cc
+infix_stands _ l o e = cc
 
 -- the class of an operator between two operands is the symbol
-pub own_symbol : (x : Symbol) (l : Level) (o : RawOp) → infix_of x ≡ Some (l, o) → IsProper x → symbol_of o ≡ x
-own_symbol sym.Word l o e is = cc
-own_symbol (sym.Number n) l o e is = cc
-own_symbol (sym.Truth q) l o e is = cc
-own_symbol (sym.Constant q) l o e is = cc
-own_symbol (sym.Call d q) l o e is = cc
-own_symbol sym.Not l o e is = cc
-own_symbol sym.Minus l o e is = ap symbol_of (back (ap op_of e))
-own_symbol (sym.Infix m q) l o e is = ap symbol_of (back (ap op_of e)) ∙ is
-own_symbol (sym.Binder d) l o e is = cc
-own_symbol sym.Converse l o e is = cc
-own_symbol sym.Dot l o e is = cc
-own_symbol sym.Bar l o e is = cc
-own_symbol sym.Comma l o e is = cc
-own_symbol (sym.Open bracket.Round) l o e is = cc
-own_symbol (sym.Open bracket.Square) l o e is = cc
-own_symbol (sym.Open bracket.Brace) l o e is = cc
-own_symbol (sym.Close d) l o e is = cc
-own_symbol sym.Becomes l o e is = cc
-own_symbol sym.BecomesIn l o e is = cc
-own_symbol sym.BecomesSuch l o e is = cc
+pub own_symbol : (x : Symbol) (l : Level) (o : RawOp) → infix_of x ≡ Some (l, o) → IsProper x → raw_class_of o ≡ x
+own_symbol sym.Minus l o e is = ap raw_class_of (back (ap op_of e))
+own_symbol (sym.Infix m q) l o e is = ap raw_class_of (back (ap op_of e)) ∙ is
+own_symbol _ l o e is = cc
 
 pub second_form : (x : Symbol) → is_infix x ≡ true → (sign : Piece) (a b : Part) → form x sign (a ∷ b ∷ []) ≡ operand a ++ (Blank ∷ sign ∷ Blank ∷ operand b)
-second_form sym.Word h sign a b = cc
-second_form (sym.Number n) h sign a b = cc
-second_form (sym.Truth q) h sign a b = cc
-second_form (sym.Constant q) h sign a b = cc
-second_form (sym.Call d q) h sign a b = cc
-second_form sym.Not h sign a b = cc
 second_form sym.Minus h sign a b = refl
 second_form (sym.Infix m q) h sign a b = refl
-second_form (sym.Binder d) h sign a b = cc
-second_form sym.Converse h sign a b = cc
-second_form sym.Dot h sign a b = cc
-second_form sym.Bar h sign a b = cc
-second_form sym.Comma h sign a b = cc
-second_form (sym.Open bracket.Round) h sign a b = cc
-second_form (sym.Open bracket.Square) h sign a b = cc
-second_form (sym.Open bracket.Brace) h sign a b = cc
-second_form (sym.Close d) h sign a b = cc
-second_form sym.Becomes h sign a b = cc
-second_form sym.BecomesIn h sign a b = cc
-second_form sym.BecomesSuch h sign a b = cc
+second_form _ h sign a b = cc
 
 pub suffix_symbol : (x : Symbol) (b : Bracket) (o : RawOp) → suffix_of x ≡ Some (b, o) → (o ≡ rawop.Plain op.Apply) ⊎ (o ≡ rawop.Plain op.Image)
-suffix_symbol sym.Word b o e = cc
-suffix_symbol (sym.Number n) b o e = cc
-suffix_symbol (sym.Truth q) b o e = cc
-suffix_symbol (sym.Constant q) b o e = cc
-suffix_symbol (sym.Call d q) b o e = cc
-suffix_symbol sym.Not b o e = cc
-suffix_symbol sym.Minus b o e = cc
-suffix_symbol (sym.Infix m q) b o e = cc
-suffix_symbol (sym.Binder d) b o e = cc
-suffix_symbol sym.Converse b o e = cc
-suffix_symbol sym.Dot b o e = cc
-suffix_symbol sym.Bar b o e = cc
-suffix_symbol sym.Comma b o e = cc
 suffix_symbol (sym.Open bracket.Round) b o e = inl (back (ap op_of e))
 suffix_symbol (sym.Open bracket.Square) b o e = inr (back (ap op_of e))
-suffix_symbol (sym.Open bracket.Brace) b o e = cc
-suffix_symbol (sym.Close d) b o e = cc
-suffix_symbol sym.Becomes b o e = cc
-suffix_symbol sym.BecomesIn b o e = cc
-suffix_symbol sym.BecomesSuch b o e = cc
+suffix_symbol _ b o e = cc
 
 -- the sign of a form with bound names
 abbrev pub IsForm : Binding → Type 0
 IsForm binding.Set = Unit {0}
-IsForm c = binder_symbol_of (binder_of c) ≡ sym.Binder c
+IsForm c = raw_binder_class_of (binder_of c) ≡ sym.Binder c
 
-own_form : (d : Binding) → binder_symbol_of (binder_of d) ≡ sym.Binder d → IsForm d
+own_form : (d : Binding) → raw_binder_class_of (binder_of d) ≡ sym.Binder d → IsForm d
 own_form binding.Set k = tt
 own_form (binding.Quantified b) k = k
 own_form (binding.Reaching b) k = k
 own_form binding.Lambda k = k
 
 pub form_symbol : (x : Symbol) (c : Binding) → opens x ≡ Some c → IsProper x → IsForm c
-form_symbol sym.Word c e is = cc
-form_symbol (sym.Number n) c e is = cc
-form_symbol (sym.Truth q) c e is = cc
-form_symbol (sym.Constant q) c e is = cc
-form_symbol (sym.Call d q) c e is = cc
-form_symbol sym.Not c e is = cc
-form_symbol sym.Minus c e is = cc
-form_symbol (sym.Infix m q) c e is = cc
 form_symbol (sym.Binder d) c e is = let same : d ≡ c = cc in subst IsForm same (own_form d is)
-form_symbol sym.Converse c e is = cc
-form_symbol sym.Dot c e is = cc
-form_symbol sym.Bar c e is = cc
-form_symbol sym.Comma c e is = cc
-form_symbol (sym.Open bracket.Round) c e is = cc
-form_symbol (sym.Open bracket.Square) c e is = cc
 form_symbol (sym.Open bracket.Brace) c e is = let same : binding.Set ≡ c = cc in subst IsForm same tt
-form_symbol (sym.Close d) c e is = cc
-form_symbol sym.Becomes c e is = cc
-form_symbol sym.BecomesIn c e is = cc
-form_symbol sym.BecomesSuch c e is = cc
+form_symbol _ c e is = cc
 
 -- patterns
 pub pattern-pair : (o : RawOp) (l r : Raw) (place : ℕ) (names : List (List Piece)) → pattern (raw.Node o (l ∷ r ∷ []) place) names
-    ≡ between (operand (l, pattern l names)) (Token (symbol_of (rawop.Plain op.Maplet)) (sign_of (rawop.Plain op.Maplet))) (operand (r, pattern r (drop (names_in l) names)))
+    ≡ between (operand (l, pattern l names)) (Token (raw_class_of (rawop.Plain op.Maplet)) (raw_sign_of (rawop.Plain op.Maplet))) (operand (r, pattern r (drop (names_in l) names)))
 pattern-pair o l r place names = pattern-Node o (l ∷ r ∷ []) place names
 
 pub names_in-pair : (o : RawOp) (l r : Raw) (place : ℕ) → names_in (raw.Node o (l ∷ r ∷ []) place) ≡ names_in l + names_in r

@@ -36,8 +36,9 @@ use Rattle.math_grammar.specs.Tokens.{Item}
 use Rattle.math_grammar.specs.Grammar.{item, place_at, place_of, bound, lone, joined, type_with, between as node_between, Reads, a_name, a_number, a_truth, a_constant, prefixed, two_sides, in_parentheses, called, applied, converted, set_by_members, by_names, by_shape, lambda, Parts, last_one, next_one, TypeOf, last_side, first_side, Bound, bare, of_type, Declares, last_name, next_name, Body, a_predicate, a_value, LastPart, up_to_brace, reaching, Pattern, last_atom, next_atom, Atom, bare_atom, typed_atom, grouped_atom, Spells}
 use Rattle.math_places.specs.Places.{unplaced, unplaced_bound}
 use Rattle.math_places.proofs.Equations.{unplaced-Int, unplaced-Name, unplaced-Node, unplaced-Bind}
-use Rattle.raw_print.specs.Pieces.{bytes, Piece, Blank, Token, tokens_of, close_round, close_brace, dot, bar, in_round, in_square, close_square, between, behind_commas, separated}
-use Rattle.raw_print.specs.Signs.{sign_of, symbol_of, binder_sign_of, binder_symbol_of}
+use Rattle.math_grammar.specs.Characters.{bytes}
+use Rattle.raw_print.specs.Pieces.{Piece, Blank, Token, tokens_of, close_round, close_brace, dot, bar, in_round, in_square, close_square, between, behind_commas, separated}
+use Rattle.math_grammar.specs.Operators.{raw_sign_of, raw_class_of, raw_binder_sign_of, raw_binder_class_of}
 use Rattle.raw_print.specs.Printing as printing
 use Rattle.raw_print.specs.Printing.{operand, bare as bare_parts, form, stands_alone, stands_alone_at, is_atomic, pieces, with_pieces, declared, body, raw_tokens, pattern, names_in}
 use Rattle.raw_print.specs.Back.{AllProper, is_whole}
@@ -58,10 +59,10 @@ place-Name x = ap place_at (outs-Name x 0)
 place-Int : (n : ℤ) → place_of (raw.Int n 0) ≡ 0
 place-Int n = ap place_at (outs-Int n 0)
 
-alone-Node : (o : RawOp) (parts : List Raw) (p : ℕ) → stands_alone (raw.Node o parts p) ≡ is_atomic (symbol_of o)
+alone-Node : (o : RawOp) (parts : List Raw) (p : ℕ) → stands_alone (raw.Node o parts p) ≡ is_atomic (raw_class_of o)
 alone-Node o parts p = ap stands_alone_at (outs-Node o parts p)
 
-alone-Bind : (b : RawBinder) (names : List RawBound) (parts : List Raw) (p : ℕ) → stands_alone (raw.Bind b names parts p) ≡ is_atomic (binder_symbol_of b)
+alone-Bind : (b : RawBinder) (names : List RawBound) (parts : List Raw) (p : ℕ) → stands_alone (raw.Bind b names parts p) ≡ is_atomic (raw_binder_class_of b)
 alone-Bind b names parts p = ap stands_alone_at (outs-Bind b names parts p)
 
 alone-Name : (x : List ℕ) (p : ℕ) → stands_alone (raw.Name x p) ≡ true
@@ -207,21 +208,21 @@ module _ (limit : Option ℕ) where
   }
 
   -- the tokens of a node, by the class of its operator
-  node_tokens : (o : RawOp) (parts : List Raw) (p : ℕ) (x : Symbol) → symbol_of o ≡ x → tokens_of (pieces (raw.Node o parts p)) ≡ tokens_of (form x (Token x (sign_of o)) (map with_pieces parts))
-  node_tokens o parts p x e = ap tokens_of (pieces-Node o parts p ∙ ap (λ y. form y (Token y (sign_of o)) (map with_pieces parts)) e)
+  node_tokens : (o : RawOp) (parts : List Raw) (p : ℕ) (x : Symbol) → raw_class_of o ≡ x → tokens_of (pieces (raw.Node o parts p)) ≡ tokens_of (form x (Token x (raw_sign_of o)) (map with_pieces parts))
+  node_tokens o parts p x e = ap tokens_of (pieces-Node o parts p ∙ ap (λ y. form y (Token y (raw_sign_of o)) (map with_pieces parts)) e)
 
-  node_reads : (g : Grade) (o : RawOp) (parts : List Raw) (p : ℕ) (x : Symbol) (u : Raw) (rest : List Item) → symbol_of o ≡ x → Reads limit g (tokens_of (form x (Token x (sign_of o)) (map with_pieces parts)) ++ rest) u rest →
+  node_reads : (g : Grade) (o : RawOp) (parts : List Raw) (p : ℕ) (x : Symbol) (u : Raw) (rest : List Item) → raw_class_of o ≡ x → Reads limit g (tokens_of (form x (Token x (raw_sign_of o)) (map with_pieces parts)) ++ rest) u rest →
       Reads limit g (tokens_of (pieces (raw.Node o parts p)) ++ rest) u rest
   node_reads g o parts p x u rest e r = subst (λ s. Reads limit g (s ++ rest) u rest) (back (node_tokens o parts p x e)) r
 
   -- a sign between two operands
-  two_again : (l : Level) (o : RawOp) (x : Symbol) → infix_of x ≡ Some (l, o) → symbol_of o ≡ x → (a b : Raw) (p : ℕ) → Again (joins_predicates l) a → Again (joins_predicates l) b → Again (is_predicate (level l grade.Name)) (raw.Node o (a ∷ b ∷ []) p)
+  two_again : (l : Level) (o : RawOp) (x : Symbol) → infix_of x ≡ Some (l, o) → raw_class_of o ≡ x → (a b : Raw) (p : ℕ) → Again (joins_predicates l) a → Again (joins_predicates l) b → Again (is_predicate (level l grade.Name)) (raw.Node o (a ∷ b ∷ []) p)
   two_again l o x ix own a b p left right =
       let tree : Raw = raw.Node o (left.tree ∷ right.tree ∷ []) 0 in
       bracketed (is_predicate (level l grade.Name)) (raw.Node o (a ∷ b ∷ []) p) tree (unplaced-Node o (a ∷ b ∷ []) p ∙ (λ i. raw.Node o (left.is i ∷ right.is i ∷ []) 0)) (place-Node o (left.tree ∷ right.tree ∷ [])) (alone-Node o (a ∷ b ∷ []) p ∙ ap is_atomic own ∙ infix_stands x l o ix)
       (level l left.grade_closed) (level_sort l left.grade_closed grade.Name)
       (λ rest c.
-      let mine : Item = item x 0 (sign_of o) in
+      let mine : Item = item x 0 (raw_sign_of o) in
       let second : Reads limit right.grade_closed (tokens_of (operand (b, pieces b)) ++ rest) right.tree rest = right.as_operand rest in
       let first : Reads limit left.grade_closed (tokens_of (operand (a, pieces a)) ++ (mine ∷ (tokens_of (operand (b, pieces b)) ++ rest))) left.tree (mine ∷ (tokens_of (operand (b, pieces b)) ++ rest)) = left.as_operand _ in
       let both : Reads limit (level l left.grade_closed) (tokens_of (operand (a, pieces a)) ++ (mine ∷ (tokens_of (operand (b, pieces b)) ++ rest))) (node_between o left.tree right.tree) rest =
@@ -229,13 +230,13 @@ module _ (limit : Option ℕ) where
       (place_closed (right_of l) right.grade_closed (right_operand l) (subst (λ v. Closed v right.grade_closed) (back (right_sort l)) right.closed)) (ends_there (right_of l) right.grade_closed rest c) refl in
       let placed : Reads limit (level l left.grade_closed) (tokens_of (operand (a, pieces a)) ++ (mine ∷ (tokens_of (operand (b, pieces b)) ++ rest))) tree rest =
       subst (λ q. Reads limit (level l left.grade_closed) (tokens_of (operand (a, pieces a)) ++ (mine ∷ (tokens_of (operand (b, pieces b)) ++ rest))) (raw.Node o (left.tree ∷ right.tree ∷ []) q) rest) left.starts both in
-      let text : tokens_of (form x (Token x (sign_of o)) (map with_pieces (a ∷ b ∷ []))) ++ rest ≡ tokens_of (operand (a, pieces a)) ++ (mine ∷ (tokens_of (operand (b, pieces b)) ++ rest)) =
-      ap (λ ps. tokens_of ps ++ rest) (second_form x (infix_is x l o ix) (Token x (sign_of o)) (with_pieces a) (with_pieces b)) ∙ behind (operand (a, pieces a)) (Blank ∷ Token x (sign_of o) ∷ Blank ∷ operand (b, pieces b)) rest in
+      let text : tokens_of (form x (Token x (raw_sign_of o)) (map with_pieces (a ∷ b ∷ []))) ++ rest ≡ tokens_of (operand (a, pieces a)) ++ (mine ∷ (tokens_of (operand (b, pieces b)) ++ rest)) =
+      ap (λ ps. tokens_of ps ++ rest) (second_form x (infix_is x l o ix) (Token x (raw_sign_of o)) (with_pieces a) (with_pieces b)) ∙ behind (operand (a, pieces a)) (Blank ∷ Token x (raw_sign_of o) ∷ Blank ∷ operand (b, pieces b)) rest in
       node_reads (level l left.grade_closed) o (a ∷ b ∷ []) p x tree rest own (subst (λ s. Reads limit (level l left.grade_closed) s tree rest) (back text) placed))
 
   -- a constant
-  constant_again : (v : Bool) (o : RawOp) (p : ℕ) (x : Symbol) → symbol_of o ≡ x → is_atomic x ≡ true → form x (Token x (sign_of o)) [] ≡ Token x (sign_of o) ∷ [] → (g : Grade) → Closed v g →
-      ((rest : List Item) → Reads limit g (item x 0 (sign_of o) ∷ rest) (raw.Node o [] 0) rest) → Again v (raw.Node o [] p)
+  constant_again : (v : Bool) (o : RawOp) (p : ℕ) (x : Symbol) → raw_class_of o ≡ x → is_atomic x ≡ true → form x (Token x (raw_sign_of o)) [] ≡ Token x (raw_sign_of o) ∷ [] → (g : Grade) → Closed v g →
+      ((rest : List Item) → Reads limit g (item x 0 (raw_sign_of o) ∷ rest) (raw.Node o [] 0) rest) → Again v (raw.Node o [] p)
   constant_again v o p x own atomic text g closed reads =
       alone v (raw.Node o [] p) (raw.Node o [] 0) (unplaced-Node o [] p) (place-Node o []) (alone-Node o [] p ∙ ap is_atomic own ∙ atomic) g closed
       (λ rest. node_reads g o [] p x (raw.Node o [] 0) rest own (subst (λ ps. Reads limit g (tokens_of ps ++ rest) (raw.Node o [] 0) rest) (back text) (reads rest)))
@@ -363,13 +364,13 @@ module _ (limit : Option ℕ) where
       subst (λ ps. Parts limit h many b [] (tokens_of (separated (map pieces ps)) ++ (item (sym.Close b) 0 w ∷ m)) (map unplaced ps) m) (back a.is) own in
       subst (λ ps. Parts limit h many b [] (tokens_of (separated ps) ++ (item (sym.Close b) 0 w ∷ m)) (map unplaced parts) m) (back (bare_pieces parts)) whole
 
-  call_again : (c : Call) (o : RawOp) (parts : List Raw) (p : ℕ) (rest : List Item) → symbol_of o ≡ sym.Call c o → PartsAgain (call_hole c) (call_parts limit c) bracket.Round [] parts rest → Again (is_predicate (call_grade c)) (raw.Node o parts p)
+  call_again : (c : Call) (o : RawOp) (parts : List Raw) (p : ℕ) (rest : List Item) → raw_class_of o ≡ sym.Call c o → PartsAgain (call_hole c) (call_parts limit c) bracket.Round [] parts rest → Again (is_predicate (call_grade c)) (raw.Node o parts p)
   call_again c o parts p behind_it own a =
       let tree : Raw = raw.Node o (map unplaced parts) 0 in
       alone (is_predicate (call_grade c)) (raw.Node o parts p) tree (unplaced-Node o parts p) (place-Node o (map unplaced parts)) (alone-Node o parts p ∙ ap is_atomic own) (call_grade c) (call_closed c)
       (λ rest.
       let inner = all_parts (call_hole c) (call_parts limit c) bracket.Round parts behind_it a (bytes ")") rest in
-      let text = ap (λ u. item (sym.Call c o) 0 (sign_of o) ∷ (item (sym.Open bracket.Round) 0 (bytes "(") ∷ u)) (behind (separated (bare_parts (map with_pieces parts))) (close_round ∷ []) rest) in
+      let text = ap (λ u. item (sym.Call c o) 0 (raw_sign_of o) ∷ (item (sym.Open bracket.Round) 0 (bytes "(") ∷ u)) (behind (separated (bare_parts (map with_pieces parts))) (close_round ∷ []) rest) in
       node_reads (call_grade c) o parts p (sym.Call c o) tree rest own (subst (λ s. Reads limit (call_grade c) s tree rest) (back text) (called inner refl)))
 
   members_again : (members : List Raw) (p : ℕ) (rest : List Item) → PartsAgain hole.Expression None bracket.Brace [] members rest → Again false (raw.Node (rawop.Plain op.SetExtension) members p)
@@ -469,16 +470,16 @@ module _ (limit : Option ℕ) where
 
   -- names with a dot behind them, where this is the sign, and this ends the form
   named_reads : (c : Binding) (x : Symbol) (back_end : List Piece) → opens x ≡ Some c → takes_names c ≡ true → (names : List RawBound) (parts : List Raw) (p : ℕ) →
-      pieces (raw.Bind (binder_of c) names parts p) ≡ Token x (binder_sign_of (binder_of c)) ∷ ((separated (map declared names) ++ (dot ∷ body (map with_pieces parts))) ++ back_end) →
+      pieces (raw.Bind (binder_of c) names parts p) ≡ Token x (raw_binder_sign_of (binder_of c)) ∷ ((separated (map declared names) ++ (dot ∷ body (map with_pieces parts))) ++ back_end) →
       (r : List Item) → NamesAgain [] names r → (q : List Item) → BodyAgain c [] parts q → (rest : List Item) → tokens_of back_end ++ rest ≡ tail c rest → MayEnd c rest →
       Reads limit (binding_grade c) (tokens_of (pieces (raw.Bind (binder_of c) names parts p)) ++ rest) (raw.Bind (binder_of c) (map unplaced_bound names) (map unplaced parts) 0) rest
   named_reads c x back_end ox tn names parts p text r ns q bs rest ends may =
       let inside : Body limit c [] (tokens_of (body (map with_pieces parts)) ++ tail c rest) (map unplaced parts) rest =
       subst (λ ps. Body limit c [] (tokens_of (body (map with_pieces ps)) ++ tail c rest) (map unplaced ps) rest) (back bs.is) (bs.reads [] rest may) in
-      let whole : Reads limit (binding_grade c) (item x 0 (binder_sign_of (binder_of c)) ∷ (tokens_of (separated (map declared names)) ++ (item sym.Dot 0 (bytes "·") ∷ (tokens_of (body (map with_pieces parts)) ++ tail c rest)))) (raw.Bind (binder_of c) (map unplaced_bound names) (map unplaced parts) 0) rest =
+      let whole : Reads limit (binding_grade c) (item x 0 (raw_binder_sign_of (binder_of c)) ∷ (tokens_of (separated (map declared names)) ++ (item sym.Dot 0 (bytes "·") ∷ (tokens_of (body (map with_pieces parts)) ++ tail c rest)))) (raw.Bind (binder_of c) (map unplaced_bound names) (map unplaced parts) 0) rest =
       by_names ox tn (all_names names r ns _) inside refl in
       let tokens = ap (λ ps. tokens_of ps ++ rest) text
-      ∙ ap (λ u. item x 0 (binder_sign_of (binder_of c)) ∷ u) (scope_tokens (separated (map declared names)) (body (map with_pieces parts)) back_end rest ∙ ap (λ u. tokens_of (separated (map declared names)) ++ (item sym.Dot 0 (bytes "·") ∷ (tokens_of (body (map with_pieces parts)) ++ u))) ends) in
+      ∙ ap (λ u. item x 0 (raw_binder_sign_of (binder_of c)) ∷ u) (scope_tokens (separated (map declared names)) (body (map with_pieces parts)) back_end rest ∙ ap (λ u. tokens_of (separated (map declared names)) ++ (item sym.Dot 0 (bytes "·") ∷ (tokens_of (body (map with_pieces parts)) ++ u))) ends) in
       subst (λ s. Reads limit (binding_grade c) s (raw.Bind (binder_of c) (map unplaced_bound names) (map unplaced parts) 0) rest) (back tokens) whole
 
   named_again : (c : Binding) → takes_names c ≡ true → IsForm c → (names : List RawBound) (parts : List Raw) (p : ℕ) (r : List Item) → NamesAgain [] names r → (q : List Item) → BodyAgain c [] parts q →
@@ -517,16 +518,16 @@ module _ (limit : Option ℕ) where
 
   -- an expression with a bar behind it
   shape_reads : (c : Binding) (x : Symbol) (back_end : List Piece) → opens x ≡ Some c → takes_shape c ≡ true → (e t : Raw) (p : ℕ) →
-      pieces (raw.Bind (implicit_of c) [] (e ∷ t ∷ []) p) ≡ Token x (binder_sign_of (implicit_of c)) ∷ (between (pieces e) bar (pieces t) ++ back_end) →
+      pieces (raw.Bind (implicit_of c) [] (e ∷ t ∷ []) p) ≡ Token x (raw_binder_sign_of (implicit_of c)) ∷ (between (pieces e) bar (pieces t) ++ back_end) →
       (a : Again false e) (d : Again true t) (rest : List Item) → tokens_of back_end ++ rest ≡ tail c rest → MayEnd c rest →
       Reads limit (binding_grade c) (tokens_of (pieces (raw.Bind (implicit_of c) [] (e ∷ t ∷ []) p)) ++ rest) (raw.Bind (implicit_of c) [] (a.tree ∷ d.tree ∷ []) 0) rest
   shape_reads c x back_end ox ts e t p text a d rest ends may =
       let behind_it : List Item = tokens_of (pieces t) ++ tail c rest in
       let first : Reads limit a.bare_grade (tokens_of (pieces e) ++ (item sym.Bar 0 (bytes "∣") ∷ behind_it)) a.tree (item sym.Bar 0 (bytes "∣") ∷ behind_it) = a.bare _ (closing refl) in
-      let whole : Reads limit (binding_grade c) (item x 0 (binder_sign_of (implicit_of c)) ∷ (tokens_of (pieces e) ++ (item sym.Bar 0 (bytes "∣") ∷ behind_it))) (raw.Bind (implicit_of c) [] (a.tree ∷ d.tree ∷ []) 0) rest =
+      let whole : Reads limit (binding_grade c) (item x 0 (raw_binder_sign_of (implicit_of c)) ∷ (tokens_of (pieces e) ++ (item sym.Bar 0 (bytes "∣") ∷ behind_it))) (raw.Bind (implicit_of c) [] (a.tree ∷ d.tree ∷ []) 0) rest =
       by_shape ox ts first (fits_expression a.bare_grade a.sort) (last_reads c hole.Predicate true t d (fits_predicate d.bare_grade d.sort) rest may) refl in
       let tokens = ap (λ ps. tokens_of ps ++ rest) text
-      ∙ ap (λ u. item x 0 (binder_sign_of (implicit_of c)) ∷ u) (behind (between (pieces e) bar (pieces t)) back_end rest ∙ behind (pieces e) (Blank ∷ bar ∷ Blank ∷ pieces t) (tokens_of back_end ++ rest) ∙ ap (λ u. tokens_of (pieces e) ++ (item sym.Bar 0 (bytes "∣") ∷ (tokens_of (pieces t) ++ u))) ends) in
+      ∙ ap (λ u. item x 0 (raw_binder_sign_of (implicit_of c)) ∷ u) (behind (between (pieces e) bar (pieces t)) back_end rest ∙ behind (pieces e) (Blank ∷ bar ∷ Blank ∷ pieces t) (tokens_of back_end ++ rest) ∙ ap (λ u. tokens_of (pieces e) ++ (item sym.Bar 0 (bytes "∣") ∷ (tokens_of (pieces t) ++ u))) ends) in
       subst (λ s. Reads limit (binding_grade c) s (raw.Bind (implicit_of c) [] (a.tree ∷ d.tree ∷ []) 0) rest) (back tokens) whole
 
   shape_again : (c : Binding) → takes_shape c ≡ true → IsForm c → (e t : Raw) (p : ℕ) → Again false e → Again true t → Again (is_predicate (binding_grade c)) (raw.Bind (implicit_of c) [] (e ∷ t ∷ []) p)
@@ -561,12 +562,12 @@ module _ (limit : Option ℕ) where
     starts : place_of to.tree ≡ 0
     bare_pattern : (rest : List Item) → Closes rest → Pattern limit None (tokens_of qs ++ rest) to rest
     closed : (rest : List Item) → Closes rest → Atom limit (tokens_of (operand (shape.tree, qs)) ++ rest) to rest
-    at_maplet : (rest : List Item) → Atom limit (tokens_of (operand (shape.tree, qs)) ++ (item (sym.Infix lev.Maplet (rawop.Plain op.Maplet)) 0 (sign_of (rawop.Plain op.Maplet)) ∷ rest)) to (item (sym.Infix lev.Maplet (rawop.Plain op.Maplet)) 0 (sign_of (rawop.Plain op.Maplet)) ∷ rest)
+    at_maplet : (rest : List Item) → Atom limit (tokens_of (operand (shape.tree, qs)) ++ (item (sym.Infix lev.Maplet (rawop.Plain op.Maplet)) 0 (raw_sign_of (rawop.Plain op.Maplet)) ∷ rest)) to (item (sym.Infix lev.Maplet (rawop.Plain op.Maplet)) 0 (raw_sign_of (rawop.Plain op.Maplet)) ∷ rest)
 
   -- a name, with or without a type
   lone_again : (n : List ℕ) (p : ℕ) (t : Option Raw) (u : Option Raw) → option_map unplaced t ≡ u →
       ((rest : List Item) → Closes rest → Atom limit (tokens_of (declared (bound n p t)) ++ rest) (lone n 0 u) rest) →
-      ((rest : List Item) → Atom limit (tokens_of (declared (bound n p t)) ++ (item (sym.Infix lev.Maplet (rawop.Plain op.Maplet)) 0 (sign_of (rawop.Plain op.Maplet)) ∷ rest)) (lone n 0 u) (item (sym.Infix lev.Maplet (rawop.Plain op.Maplet)) 0 (sign_of (rawop.Plain op.Maplet)) ∷ rest)) →
+      ((rest : List Item) → Atom limit (tokens_of (declared (bound n p t)) ++ (item (sym.Infix lev.Maplet (rawop.Plain op.Maplet)) 0 (raw_sign_of (rawop.Plain op.Maplet)) ∷ rest)) (lone n 0 u) (item (sym.Infix lev.Maplet (rawop.Plain op.Maplet)) 0 (raw_sign_of (rawop.Plain op.Maplet)) ∷ rest)) →
       PatternAgain (lone n p t)
   lone_again n p t u e before_end before_maplet =
       let own : operand (raw.Name n p, declared (bound n p t)) ≡ declared (bound n p t) = rw (alone-Name n p) refl in
@@ -580,13 +581,13 @@ module _ (limit : Option ℕ) where
         starts = place-Name n;
         bare_pattern = λ rest c. last_atom {before = None} (before_end rest c);
         closed = λ rest c. subst (λ ps. Atom limit (tokens_of ps ++ rest) (lone n 0 u) rest) (back own) (before_end rest c);
-        at_maplet = λ rest. subst (λ ps. Atom limit (tokens_of ps ++ (item (sym.Infix lev.Maplet (rawop.Plain op.Maplet)) 0 (sign_of (rawop.Plain op.Maplet)) ∷ rest)) (lone n 0 u) (item (sym.Infix lev.Maplet (rawop.Plain op.Maplet)) 0 (sign_of (rawop.Plain op.Maplet)) ∷ rest)) (back own) (before_maplet rest);
+        at_maplet = λ rest. subst (λ ps. Atom limit (tokens_of ps ++ (item (sym.Infix lev.Maplet (rawop.Plain op.Maplet)) 0 (raw_sign_of (rawop.Plain op.Maplet)) ∷ rest)) (lone n 0 u) (item (sym.Infix lev.Maplet (rawop.Plain op.Maplet)) 0 (raw_sign_of (rawop.Plain op.Maplet)) ∷ rest)) (back own) (before_maplet rest);
       }
 
   typed_lone : (n : List ℕ) (p : ℕ) (t : Raw) → is_name n ≡ true → Again false t → PatternAgain (lone n p (Some t))
   typed_lone n p t is a = lone_again n p (Some t) (Some a.tree) (ap Some a.is)
       (λ rest c. typed_atom is (a.as_operand rest) (place_closed hole.Arrow a.grade_closed refl a.closed) (ends_there hole.Arrow a.grade_closed rest c))
-      (λ rest. typed_atom is (a.as_operand _) (place_closed hole.Arrow a.grade_closed refl a.closed) (ends_at_maplet a.grade_closed (rawop.Plain op.Maplet) 0 (sign_of (rawop.Plain op.Maplet)) rest a.closed))
+      (λ rest. typed_atom is (a.as_operand _) (place_closed hole.Arrow a.grade_closed refl a.closed) (ends_at_maplet a.grade_closed (rawop.Plain op.Maplet) 0 (raw_sign_of (rawop.Plain op.Maplet)) rest a.closed))
 
   map_unplaced : (bs cs : List RawBound) → map unplaced_bound (bs ++ cs) ≡ map unplaced_bound bs ++ map unplaced_bound cs
   map_unplaced [] cs = refl
@@ -595,11 +596,11 @@ module _ (limit : Option ℕ) where
   maplet_again : (b a : Shape) → PatternAgain b → PatternAgain a → PatternAgain (joined (Some b) a)
   maplet_again b a left right =
       let o : RawOp = rawop.Plain op.Maplet in
-      let qs : List Piece = between (operand (b.tree, left.qs)) (Token (symbol_of o) (sign_of o)) (operand (a.tree, right.qs)) in
+      let qs : List Piece = between (operand (b.tree, left.qs)) (Token (raw_class_of o) (raw_sign_of o)) (operand (a.tree, right.qs)) in
       let to : Shape = joined (Some left.to) right.to in
       let own : operand ((joined (Some b) a).tree, qs) ≡ in_round qs = rw (alone-Node o (b.tree ∷ a.tree ∷ []) (place_of b.tree)) refl in
       let reads : (rest : List Item) → Closes rest → Pattern limit None (tokens_of qs ++ rest) to rest =
-      (λ rest c. subst (λ s. Pattern limit None s to rest) (back (behind (operand (b.tree, left.qs)) (Blank ∷ Token (symbol_of o) (sign_of o) ∷ Blank ∷ operand (a.tree, right.qs)) rest))
+      (λ rest c. subst (λ s. Pattern limit None s to rest) (back (behind (operand (b.tree, left.qs)) (Blank ∷ Token (raw_class_of o) (raw_sign_of o) ∷ Blank ∷ operand (a.tree, right.qs)) rest))
       (next_atom {before = None} (left.at_maplet (tokens_of (operand (a.tree, right.qs)) ++ rest)) (last_atom {before = Some left.to} (right.closed rest c)))) in
       let round : (rest : List Item) → Atom limit (tokens_of (in_round qs) ++ rest) to rest =
       (λ rest. subst (λ s. Atom limit (item (sym.Open bracket.Round) 0 (bytes "(") ∷ s) to rest) (back (behind qs (close_round ∷ []) rest)) (grouped_atom (reads (item (sym.Close bracket.Round) 0 (bytes ")") ∷ rest) (closing refl)))) in
@@ -611,7 +612,7 @@ module _ (limit : Option ℕ) where
             let first : pattern b.tree all ≡ left.qs = ap (pattern b.tree) names ∙ left.prints (map declared a.names ++ more) in
             let behind_it : drop (names_in b.tree) all ≡ map declared a.names ++ more = (λ i. drop (left.counts i) (names i)) ∙ drop-append_seam (map declared b.names) (map declared a.names ++ more) in
             let second : pattern a.tree (drop (names_in b.tree) all) ≡ right.qs = ap (pattern a.tree) behind_it ∙ right.prints more in
-            pattern-pair o b.tree a.tree (place_of b.tree) all ∙ (λ i. between (operand (b.tree, first i)) (Token (symbol_of o) (sign_of o)) (operand (a.tree, second i)));
+            pattern-pair o b.tree a.tree (place_of b.tree) all ∙ (λ i. between (operand (b.tree, first i)) (Token (raw_class_of o) (raw_sign_of o)) (operand (a.tree, second i)));
         counts = names_in-pair o b.tree a.tree (place_of b.tree) ∙ (λ i. left.counts i + right.counts i) ∙ back (length-append (map declared b.names) (map declared a.names)) ∙ ap length (back (map_declared b.names a.names));
         to = to;
         names = map_unplaced b.names a.names ∙ (λ i. left.names i ++ right.names i);
@@ -619,7 +620,7 @@ module _ (limit : Option ℕ) where
         starts = ap (λ q. place_of (raw.Node o (left.to.tree ∷ right.to.tree ∷ []) q)) left.starts ∙ place-Node o (left.to.tree ∷ right.to.tree ∷ []);
         bare_pattern = reads;
         closed = λ rest c. subst (λ ps. Atom limit (tokens_of ps ++ rest) to rest) (back own) (round rest);
-        at_maplet = λ rest. subst (λ ps. Atom limit (tokens_of ps ++ (item (sym.Infix lev.Maplet o) 0 (sign_of o) ∷ rest)) to (item (sym.Infix lev.Maplet o) 0 (sign_of o) ∷ rest)) (back own) (round (item (sym.Infix lev.Maplet o) 0 (sign_of o) ∷ rest));
+        at_maplet = λ rest. subst (λ ps. Atom limit (tokens_of ps ++ (item (sym.Infix lev.Maplet o) 0 (raw_sign_of o) ∷ rest)) to (item (sym.Infix lev.Maplet o) 0 (raw_sign_of o) ∷ rest)) (back own) (round (item (sym.Infix lev.Maplet o) 0 (raw_sign_of o) ∷ rest));
       }
 
   lambda_again : (shape : Shape) (parts : List Raw) (p : ℕ) → PatternAgain shape → (q : List Item) → BodyAgain binding.Lambda (shape.tree ∷ []) parts q → Again false (raw.Bind rawbinder.Lambda shape.names parts p)

@@ -8,16 +8,16 @@ use Rattle.math_grammar.specs.declared.symbols.Symbol.{Symbol}
 use Rattle.math_grammar.specs.declared.symbols.Symbol.TheVariants as sym
 use Rattle.math_grammar.specs.Levels.{binder_of}
 use Rattle.math_grammar.specs.Tokens.{Item}
-use Rattle.raw_print.specs.Signs.{symbol_of, binder_symbol_of}
+use Rattle.math_grammar.specs.Operators.{raw_class_of, raw_binder_class_of}
 
 -- a symbol that the tables of signs and words give, or a number that is no larger than a literal
 abbrev pub IsProper : Symbol → Type 0
 IsProper (sym.Number n) = (m : ℕ) × (n ≡ pos m) × (m < 2 ^ 127)
-IsProper (sym.Truth o) = symbol_of (rawop.Plain o) ≡ sym.Truth o
-IsProper (sym.Constant o) = symbol_of (rawop.Plain o) ≡ sym.Constant o
-IsProper (sym.Call c o) = symbol_of o ≡ sym.Call c o
-IsProper (sym.Infix l o) = symbol_of o ≡ sym.Infix l o
-IsProper (sym.Binder c) = binder_symbol_of (binder_of c) ≡ sym.Binder c
+IsProper (sym.Truth o) = raw_class_of (rawop.Plain o) ≡ sym.Truth o
+IsProper (sym.Constant o) = raw_class_of (rawop.Plain o) ≡ sym.Constant o
+IsProper (sym.Call c o) = raw_class_of o ≡ sym.Call c o
+IsProper (sym.Infix l o) = raw_class_of o ≡ sym.Infix l o
+IsProper (sym.Binder c) = raw_binder_class_of (binder_of c) ≡ sym.Binder c
 IsProper _ = Unit {0}
 
 abbrev pub IsProperItem : Item → Type 0

@@ -1,4 +1,3 @@
-pub mod Signs
 pub mod Pieces
 pub mod Printing
 pub mod Back

@@ -1,25 +1,13 @@
 -- What is printed: tokens, and blanks between some of them.
-use Prim.Native.String.{String}
-use Rattle.std.specs.Prelude.{ℕ, ◌+◌, ◌/◌, ◌%◌, nat_lt, List, [], ◌∷◌, ◌++◌, map, codes, if◌then◌else◌}
-use Rattle.formula_core.specs.Formulas.{joined}
+use Rattle.std.specs.Prelude.{ℕ, List, [], ◌∷◌, ◌++◌}
 use Rattle.formula_core.specs.declared.raw.RawOp.TheVariants as rawop
 use Rattle.math_grammar.specs.declared.levels.Level.TheVariants as lev
 use Rattle.math_grammar.specs.declared.levels.Bracket.TheVariants as bracket
 use Rattle.math_grammar.specs.declared.symbols.Symbol.{Symbol}
 use Rattle.math_grammar.specs.declared.symbols.Symbol.TheVariants as sym
+use Rattle.math_grammar.specs.Characters.{bytes}
 use Rattle.math_grammar.specs.Tokens.{Item}
 use Rattle.math_grammar.specs.Grammar.{item}
-
--- the bytes of a character below U+10000
-abbrev pub utf8 : ℕ → List ℕ
-utf8 c =
-    if nat_lt c 0x80 then (c ∷ [])
-    else (if nat_lt c 0x800 then ((0xc0 + c / 0x40) ∷ (0x80 + c % 0x40) ∷ [])
-    else ((0xe0 + c / 0x1000) ∷ (0x80 + c / 0x40 % 0x40) ∷ (0x80 + c % 0x40) ∷ []))
-
--- the bytes of a text
-abbrev pub bytes : String → List ℕ
-bytes text = joined (map utf8 (codes text))
 
 pub data Piece : Type 0 where
   Blank : Piece

@@ -18,7 +18,7 @@ use Rattle.math_grammar.specs.declared.levels.Bracket.TheVariants as bracket
 use Rattle.math_grammar.specs.declared.symbols.Symbol.{Symbol}
 use Rattle.math_grammar.specs.declared.symbols.Symbol.TheVariants as sym
 use Rattle.math_grammar.specs.Tokens.{Item}
-use Rattle.raw_print.specs.Signs.{sign_of, symbol_of, binder_sign_of, binder_symbol_of}
+use Rattle.math_grammar.specs.Operators.{raw_sign_of, raw_class_of, raw_binder_sign_of, raw_binder_class_of}
 use Rattle.raw_print.specs.Pieces.{Piece, Blank, Token, text_of, tokens_of, word, close_brace, dot, bar, typing, becomes, becomes_in, becomes_such, in_round, in_square, in_braces, between, separated}
 
 -- a sign that is a form of its own, or one that brackets close
@@ -32,8 +32,8 @@ is_atomic _ = false
 abbrev pub stands_alone_at : Raw-F Raw RawBound → Bool
 stands_alone_at (Int n place) = true
 stands_alone_at (Name x place) = true
-stands_alone_at (Node o parts place) = is_atomic (symbol_of o)
-stands_alone_at (Bind b names parts place) = is_atomic (binder_symbol_of b)
+stands_alone_at (Node o parts place) = is_atomic (raw_class_of o)
+stands_alone_at (Bind b names parts place) = is_atomic (raw_binder_class_of b)
 
 -- a name, a number, a constant or a bracketed form
 abbrev pub stands_alone : Raw → Bool
@@ -75,7 +75,7 @@ form (sym.Open bracket.Brace) sign parts = in_braces (separated (bare parts))
 form x sign parts = operands x sign parts
 
 abbrev pub node_pieces : RawOp → List Part → List Piece
-node_pieces o parts = form (symbol_of o) (Token (symbol_of o) (sign_of o)) parts
+node_pieces o parts = form (raw_class_of o) (Token (raw_class_of o) (raw_sign_of o)) parts
 
 -- the type behind a name
 abbrev pub type_pieces : Option Part → List Piece
@@ -111,7 +111,7 @@ abbrev pub side : Raw × Pattern → Pattern
 side p names = operand (p.0, p.1 names)
 
 abbrev pub maplet : Piece
-maplet = Token (symbol_of (rawop.Plain op.Maplet)) (sign_of (rawop.Plain op.Maplet))
+maplet = Token (raw_class_of (rawop.Plain op.Maplet)) (raw_sign_of (rawop.Plain op.Maplet))
 
 abbrev pub pattern_of_parts : List (Raw × Pattern) → Pattern
 pattern_of_parts (l ∷ r ∷ []) names = between (side l names) maplet (side r (drop (names_in l.0) names))
@@ -152,7 +152,7 @@ scope rawbinder.Lambda names parts = lambda names parts
 scope (rawbinder.Implicit b) names parts = body parts
 
 abbrev pub bind_pieces : RawBinder → List (List Piece) → List Part → List Piece
-bind_pieces b names parts = Token (binder_symbol_of b) (binder_sign_of b) ∷ (scope b names parts ++ ending (binder_symbol_of b))
+bind_pieces b names parts = Token (raw_binder_class_of b) (raw_binder_sign_of b) ∷ (scope b names parts ++ ending (raw_binder_class_of b))
 
 abbrev pub pieces_step : Raw-F Part (RawBound-F Raw (Unit {0}) × List Piece) → List Piece
 pieces_step (Int n place) = Token (sym.Number n) (signed_decimal n) ∷ []

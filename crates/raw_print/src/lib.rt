@@ -4,7 +4,6 @@
 mod actions;
 mod laws;
 mod printing;
-mod signs;
 
 pub use actions::print_action;
 pub use laws::{printed_action_is_spelled, printed_is_spelled};

@@ -7,9 +7,10 @@ ghost use Rattle.std.specs.Option.{option_map};
 ghost use Rattle.raw_print.specs.Pieces.{Token, text_of, behind_commas, separated};
 ghost use Rattle.raw_print.specs.Printing.{Part, is_atomic, stands_alone, operand, unary, second, operands, node_pieces, declaration, names_in, side, pattern, with_pattern, body, ending, scope, bind_pieces, pieces, with_pieces, declared, raw_text};
 
-use crate::signs::{binder_sign_of, binder_symbol_of, sign_of, symbol_of};
 use formula_core::{OutOfMemory, Raw, RawBinder, RawBound, RawOp};
-use math_grammar::{Bracket, Symbol};
+use math_grammar::{
+    Bracket, Symbol, raw_binder_class_of, raw_binder_sign_of, raw_class_of, raw_sign_of,
+};
 
 /// Adds the printed text of a formula.
 #[cycle(printing)]
@@ -21,9 +22,9 @@ pub fn print_formula(out: &mut String, formula: &Raw) -> Result<(), OutOfMemory>
         Raw::Name(name, _) => print_text(out, name.as_text()),
         Raw::Node(op, parts, _) => print_node(out, *op, parts.items()),
         Raw::Bind(binder, names, parts, _) => {
-            out.push_str(binder_sign_of(*binder))?;
+            out.push_str(raw_binder_sign_of(*binder))?;
             print_scope(out, *binder, names.items(), parts.items())?;
-            print_ending(out, binder_symbol_of(*binder))
+            print_ending(out, raw_binder_class_of(*binder))
         }
     }
 }
@@ -67,8 +68,8 @@ fn stands_alone(formula: &Raw) -> bool
 {
     match formula {
         Raw::Int(_, _) | Raw::Name(_, _) => true,
-        Raw::Node(op, _, _) => is_atomic(symbol_of(*op)),
-        Raw::Bind(binder, _, _, _) => is_atomic(binder_symbol_of(*binder)),
+        Raw::Node(op, _, _) => is_atomic(raw_class_of(*op)),
+        Raw::Bind(binder, _, _, _) => is_atomic(raw_binder_class_of(*binder)),
     }
 }
 
@@ -76,13 +77,13 @@ fn stands_alone(formula: &Raw) -> bool
 fn print_node(out: &mut String, op: RawOp, parts: &[Raw]) -> Result<(), OutOfMemory>
     ensures { OnOk result (string_bytes out.new ≡ string_bytes out.old ++ text_of (node_pieces op (map with_pieces parts.now))) }
 {
-    match symbol_of(op) {
+    match raw_class_of(op) {
         Symbol::Call(_, _) => {
-            out.push_str(sign_of(op))?;
+            out.push_str(raw_sign_of(op))?;
             print_list(out, "(", parts, ")")
         }
         Symbol::Open(Bracket::Brace) => print_list(out, "{", parts, "}"),
-        symbol => print_operands(out, symbol, sign_of(op), parts),
+        symbol => print_operands(out, symbol, raw_sign_of(op), parts),
     }
 }
 

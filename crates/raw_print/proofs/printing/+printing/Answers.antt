@@ -2,9 +2,10 @@ use Rattle.std.proofs.Common.{rules, arith, ◌≡◌, ◌∙◌, ap, sym, subst
 use Rattle.std.proofs.lemmas.List.{append-nil, drop-drop}
 use Rattle.formula_core.specs.declared.raw.Raw.{Raw}
 use Rattle.math_grammar.specs.declared.symbols.Symbol.TheVariants as symbol
-use Rattle.raw_print.specs.Pieces.{Token, bytes, text_of}
+use Rattle.math_grammar.specs.Characters.{bytes}
+use Rattle.raw_print.specs.Pieces.{Token, text_of}
 use Rattle.raw_print.specs.Printing.{pieces, with_pieces, declared, body, operands, operand, second, side, names_in, with_pattern}
-use Rattle.raw_print.specs.Signs.{sign_of, symbol_of}
+use Rattle.math_grammar.specs.Operators.{raw_sign_of, raw_class_of}
 use Rattle.raw_print.proofs.Texts.{on_ok, two_pieces, three_pieces, one_more, all_parts, two_parts, if_ok, call_text, set_text, names_in-pair, none_named, pattern_text, names_in-other, pattern-other}
 use Rattle.raw_print.proofs.Equations.{text-append}
 use Rattle.raw_print.proofs.Weights.{weight, weights, bound_weight, bound_weights, weight_of_part, weight_of_name, weight_of_rest, weight-Node}
@@ -70,16 +71,16 @@ print_operands-returns-in_ok-print_operand-in-len2 t c =
 
 pub print_node-returns-in_ok-push_str-in-Call : goal.print_node-returns-in_ok-push_str-in-Call
 print_node-returns-in_ok-push_str-in-Call t c =
-    let one : string_bytes c.push_str.new.self ≡ string_bytes c.args.out.now ++ sign_of c.args.op = search rules in
+    let one : string_bytes c.push_str.new.self ≡ string_bytes c.args.out.now ++ raw_sign_of c.args.op = search rules in
     on_ok c.print_list.result
-    (λ two. two_pieces _ _ _ (sign_of c.args.op) _ one two
-    ∙ ap (λ t. string_bytes c.args.out.now ++ t) (sym (call_text (symbol_of c.args.op) _ _ _ (sign_of c.args.op) c.args.parts.now (sym c.symbol_of.ensures ∙ c.in-Call.is))))
+    (λ two. two_pieces _ _ _ (raw_sign_of c.args.op) _ one two
+    ∙ ap (λ t. string_bytes c.args.out.now ++ t) (sym (call_text (raw_class_of c.args.op) _ _ _ (raw_sign_of c.args.op) c.args.parts.now (sym c.raw_class_of.ensures ∙ c.in-Call.is))))
     c.print_list.ensures
 
 pub print_node-returns-in-Open-Brace : goal.print_node-returns-in-Open-Brace
 print_node-returns-in-Open-Brace t c =
     on_ok c.print_list-in-Open-Brace.result
-    (λ one. one ∙ ap (λ t. string_bytes c.args.out.now ++ t) (sym (set_text (symbol_of c.args.op) _ (sign_of c.args.op) c.args.parts.now (sym c.symbol_of.ensures ∙ c.in-Open-Brace.is ∙ ap symbol.Open c.in-Open-Brace.field-0-is))))
+    (λ one. one ∙ ap (λ t. string_bytes c.args.out.now ++ t) (sym (set_text (raw_class_of c.args.op) _ (raw_sign_of c.args.op) c.args.parts.now (sym c.raw_class_of.ensures ∙ c.in-Open-Brace.is ∙ ap symbol.Open c.in-Open-Brace.field-0-is))))
     c.print_list-in-Open-Brace.ensures
 
 pub print_pattern-returns-then-parts-ne2-clause-text : goal.print_pattern-returns-then-parts-ne2-clause-text
