@@ -1,12 +1,14 @@
 -- The operators between two operands that are printed with a sign, and what they read.
-use Rattle.std.proofs.Common.{◌≡◌, ◌∙◌, sym as back, ap, subst, refl, ℕ, Bool, true, false, ◌&&◌, List, [], ◌∷◌, ◌++◌, nat_le, nat_lt, Some, None}
+use Rattle.std.proofs.Common.{◌≡◌, ◌∙◌, sym as back, ap, subst, refl, ℕ, Bool, true, false, ◌&&◌, ◌||◌, List, [], ◌∷◌, ◌++◌, nat_le, nat_lt, Some, None}
 use Rattle.std.specs.Prelude.{not}
+use Rattle.std.specs.List.{list_all}
 use Rattle.formula_core.specs.declared.ty.Ty.{Ty}
 use Rattle.formula_core.specs.declared.op.Op.{Op}
 use Rattle.formula_core.specs.declared.op.Op.TheVariants as op
+use Rattle.formula_core.specs.declared.op.TheConstants.{OPERATORS}
+use Rattle.formula_core.specs.declared.row.Row.{Row}
 use Rattle.formula_core.specs.declared.row.Row.TheVariants as row
 use Rattle.formula_core.specs.declared.row.BinaryRow.{BinaryRow}
-use Rattle.formula_core.specs.declared.row.BinaryRow.TheVariants as binary
 use Rattle.formula_core.specs.declared.formula.Formula.{Formula, out-Formula}
 use Rattle.formula_core.specs.declared.raw.RawOp.TheVariants as rawop
 use Rattle.formula_core.specs.declared.raw.Raw.{Raw}
@@ -19,17 +21,20 @@ use Rattle.math_grammar.specs.declared.holes.Grade.{Grade}
 use Rattle.math_grammar.specs.declared.holes.Grade.TheVariants as grade
 use Rattle.math_grammar.specs.declared.levels.Level.{Level as Sort}
 use Rattle.math_grammar.specs.declared.levels.Level.TheVariants as sort
+use Rattle.math_grammar.specs.declared.operators.Form.{Form}
+use Rattle.math_grammar.specs.declared.operators.Form.TheVariants as form
 use Rattle.math_grammar.specs.Levels.{rank, level, right_of, left_of, agrees, takes_left, least, most, fits, grouped, infix_of}
 use Rattle.math_grammar.specs.Tokens.{Item}
 use Rattle.math_grammar.specs.Grammar.{place_of, between, Reads}
-use Rattle.math_grammar.specs.Operators.{sign_of, class_of}
+use Rattle.math_grammar.specs.Operators.{sign_of, op_form, form_class, class_of}
+use Rattle.token_text.proofs.Operators.{passed}
 use Rattle.math_print.specs.declared.levels.Side.{Side}
 use Rattle.math_print.specs.declared.levels.Side.TheVariants as side
 use Rattle.math_print.specs.Levels.{level_of, formula_level, is_relation, is_same_connective, is_enclosed, goes_on as goes_on_left, needs_parentheses}
 use Rattle.math_print.specs.Written.{written, denied, operator_raw}
 use Rattle.math_reread.specs.Items.{sign_token, operand_items, operator_items, Part, items}
-use Rattle.math_reread.specs.Grades.{operator_grade, grade_of}
-use Rattle.math_reread.proofs.Tables.{top, ends, le_through, quieter, least_value, quiet, left_value, right_value, sign_rank, value_at, left_is_tight, right_is_tight, left_is_quiet, right_is_quiet, goes_on_chained}
+use Rattle.math_reread.specs.Grades.{form_grade, operator_grade, grade_of}
+use Rattle.math_reread.proofs.Tables.{sort_rank, top, ends, le_through, quieter, least_value, quiet, left_value, right_value, sign_rank, value_at, left_is_tight, right_is_tight, left_is_quiet, right_is_quiet, goes_on_chained}
 use Rattle.math_reread.proofs.Readings.{Whole, round_grade, rounded, infix_form}
 
 -- How the tokens of a formula are read, as it stands and denied.
@@ -150,95 +155,113 @@ module _ (names : List (List ℕ)) (d : ℕ) (o : Op) (i : IsInfix o) where
       = subst (λ r. P (operator_grade o) (left_items a ++ (sign_token o ∷ right_items b)) r) tree one in
       subst (λ s. P (operator_grade o) s (operator_raw o (written names a d ∷ written names b d ∷ []) t)) (back (i.tokens (a, items names a) (b, items names b) t d)) two
 
-pub infix-Maplet : IsInfix op.Maplet
-infix-Maplet = record { l = sort.Maplet; r = binary.Maplet; its_row = refl; first = refl; second = refl; result = refl; of_value = refl; graded = λ g. refl; sign = refl; agreeing = λ g. refl; left = refl; left_grouped = refl; right = refl; right_grouped = refl; all = refl; calm = refl; reached = refl; unrelated = refl; alone = λ left. refl; tokens = λ a b t d. refl; tree = λ a b t. refl }
+-- the operators on values, by how they stand to their operands
+abbrev pub joins_values : Form → Bool
+joins_values (form.Infix l) = nat_le 5 (sort_rank l)
+joins_values form.Minus = true
+joins_values _ = false
 
-pub infix-Relations : IsInfix op.Relations
-infix-Relations = record { l = sort.Arrow; r = binary.RelationSet; its_row = refl; first = refl; second = refl; result = refl; of_value = refl; graded = λ g. refl; sign = refl; agreeing = λ g. refl; left = refl; left_grouped = refl; right = refl; right_grouped = refl; all = refl; calm = refl; reached = refl; unrelated = refl; alone = λ left. refl; tokens = λ a b t d. refl; tree = λ a b t. refl }
+abbrev sort_of : Form → Sort
+sort_of (form.Infix l) = l
+sort_of _ = sort.Additive
 
-pub infix-TotalRelations : IsInfix op.TotalRelations
-infix-TotalRelations = record { l = sort.Arrow; r = binary.RelationSet; its_row = refl; first = refl; second = refl; result = refl; of_value = refl; graded = λ g. refl; sign = refl; agreeing = λ g. refl; left = refl; left_grouped = refl; right = refl; right_grouped = refl; all = refl; calm = refl; reached = refl; unrelated = refl; alone = λ left. refl; tokens = λ a b t d. refl; tree = λ a b t. refl }
+graded_so : (f : Form) → joins_values f ≡ true → (g : Grade) → level (sort_of f) g ≡ form_grade f
+graded_so (form.Infix sort.Typing) h g = cc
+graded_so (form.Infix _) h g = refl
+graded_so form.Minus h g = refl
+graded_so _ h g = cc
 
-pub infix-SurjectiveRelations : IsInfix op.SurjectiveRelations
-infix-SurjectiveRelations = record { l = sort.Arrow; r = binary.RelationSet; its_row = refl; first = refl; second = refl; result = refl; of_value = refl; graded = λ g. refl; sign = refl; agreeing = λ g. refl; left = refl; left_grouped = refl; right = refl; right_grouped = refl; all = refl; calm = refl; reached = refl; unrelated = refl; alone = λ left. refl; tokens = λ a b t d. refl; tree = λ a b t. refl }
+agreeing_so : (f : Form) → joins_values f ≡ true → (g : Grade) → agrees (sort_of f) g ≡ true
+agreeing_so (form.Infix sort.Implication) h g = cc
+agreeing_so (form.Infix sort.Conjunction) h g = cc
+agreeing_so (form.Infix sort.Disjunction) h g = cc
+agreeing_so (form.Infix _) h g = refl
+agreeing_so form.Minus h g = refl
+agreeing_so _ h g = cc
 
-pub infix-TotalSurjectiveRelations : IsInfix op.TotalSurjectiveRelations
-infix-TotalSurjectiveRelations = record { l = sort.Arrow; r = binary.RelationSet; its_row = refl; first = refl; second = refl; result = refl; of_value = refl; graded = λ g. refl; sign = refl; agreeing = λ g. refl; left = refl; left_grouped = refl; right = refl; right_grouped = refl; all = refl; calm = refl; reached = refl; unrelated = refl; alone = λ left. refl; tokens = λ a b t d. refl; tree = λ a b t. refl }
+all_so : (f : Form) → joins_values f ≡ true → most (right_of (sort_of f)) ≡ 16
+all_so (form.Infix sort.Implication) h = cc
+all_so (form.Infix sort.Conjunction) h = cc
+all_so (form.Infix sort.Disjunction) h = cc
+all_so (form.Infix _) h = refl
+all_so form.Minus h = refl
+all_so _ h = cc
 
-pub infix-PartialFunctions : IsInfix op.PartialFunctions
-infix-PartialFunctions = record { l = sort.Arrow; r = binary.RelationSet; its_row = refl; first = refl; second = refl; result = refl; of_value = refl; graded = λ g. refl; sign = refl; agreeing = λ g. refl; left = refl; left_grouped = refl; right = refl; right_grouped = refl; all = refl; calm = refl; reached = refl; unrelated = refl; alone = λ left. refl; tokens = λ a b t d. refl; tree = λ a b t. refl }
+minus_is : (o : Op) → op_form o ≡ form.Minus → op.Minus ≡ o
+minus_is op.Minus e = refl
+minus_is _ e = cc
 
-pub infix-TotalFunctions : IsInfix op.TotalFunctions
-infix-TotalFunctions = record { l = sort.Arrow; r = binary.RelationSet; its_row = refl; first = refl; second = refl; result = refl; of_value = refl; graded = λ g. refl; sign = refl; agreeing = λ g. refl; left = refl; left_grouped = refl; right = refl; right_grouped = refl; all = refl; calm = refl; reached = refl; unrelated = refl; alone = λ left. refl; tokens = λ a b t d. refl; tree = λ a b t. refl }
+sign_so : (o : Op) → joins_values (op_form o) ≡ true → infix_of (class_of o) ≡ Some (sort_of (op_form o), rawop.Plain o)
+sign_so o h = go (op_form o) refl h
+  where
+    go : (f : Form) → op_form o ≡ f → joins_values f ≡ true → infix_of (form_class (op_form o) o) ≡ Some (sort_of (op_form o), rawop.Plain o)
+    go (form.Infix l) e h = let P : Form → Type 0 = λ f. infix_of (form_class f o) ≡ Some (sort_of f, rawop.Plain o) in subst P (back e) refl
+    go form.Minus e h =
+        let P : Form → Type 0 = λ f. infix_of (form_class f o) ≡ Some (sort_of f, rawop.Plain o) in
+        subst P (back e) (ap (λ q. Some (sort.Additive, rawop.Plain q)) (minus_is o e))
+    go _ e h = cc
 
-pub infix-PartialInjections : IsInfix op.PartialInjections
-infix-PartialInjections = record { l = sort.Arrow; r = binary.RelationSet; its_row = refl; first = refl; second = refl; result = refl; of_value = refl; graded = λ g. refl; sign = refl; agreeing = λ g. refl; left = refl; left_grouped = refl; right = refl; right_grouped = refl; all = refl; calm = refl; reached = refl; unrelated = refl; alone = λ left. refl; tokens = λ a b t d. refl; tree = λ a b t. refl }
+abbrev values_row : Row → Bool
+values_row (row.Binary r) = is_of_values (binary_scheme r).0 && (is_of_values (binary_scheme r).1 && is_of_values (binary_scheme r).2)
+values_row _ = false
 
-pub infix-TotalInjections : IsInfix op.TotalInjections
-infix-TotalInjections = record { l = sort.Arrow; r = binary.RelationSet; its_row = refl; first = refl; second = refl; result = refl; of_value = refl; graded = λ g. refl; sign = refl; agreeing = λ g. refl; left = refl; left_grouped = refl; right = refl; right_grouped = refl; all = refl; calm = refl; reached = refl; unrelated = refl; alone = λ left. refl; tokens = λ a b t d. refl; tree = λ a b t. refl }
+split : (a b : Bool) → (a && b) ≡ true → (a ≡ true) × (b ≡ true)
+split true b h = (refl, h)
+split false b h = cc
 
-pub infix-PartialSurjections : IsInfix op.PartialSurjections
-infix-PartialSurjections = record { l = sort.Arrow; r = binary.RelationSet; its_row = refl; first = refl; second = refl; result = refl; of_value = refl; graded = λ g. refl; sign = refl; agreeing = λ g. refl; left = refl; left_grouped = refl; right = refl; right_grouped = refl; all = refl; calm = refl; reached = refl; unrelated = refl; alone = λ left. refl; tokens = λ a b t d. refl; tree = λ a b t. refl }
+row_so : (o : Op) → joins_values (op_form o) ≡ true → (r : BinaryRow) × (row_of o ≡ row.Binary r) × (is_of_values (binary_scheme r).0 ≡ true) × (is_of_values (binary_scheme r).1 ≡ true) × (is_of_values (binary_scheme r).2 ≡ true)
+row_so o h = go (row_of o) refl (passed (λ o. joins_values (op_form o)) (λ o. values_row (row_of o)) refl o h)
+  where
+    go : (x : Row) → row_of o ≡ x → values_row x ≡ true → (r : BinaryRow) × (row_of o ≡ row.Binary r) × (is_of_values (binary_scheme r).0 ≡ true) × (is_of_values (binary_scheme r).1 ≡ true) × (is_of_values (binary_scheme r).2 ≡ true)
+    go (row.Binary r) e k =
+        let first : (is_of_values (binary_scheme r).0 ≡ true) × ((is_of_values (binary_scheme r).1 && is_of_values (binary_scheme r).2) ≡ true) = split (is_of_values (binary_scheme r).0) _ k in
+        let second : (is_of_values (binary_scheme r).1 ≡ true) × (is_of_values (binary_scheme r).2 ≡ true) = split (is_of_values (binary_scheme r).1) _ first.1 in
+        (r, e, first.0, second.0, second.1)
+    go _ e k = cc
 
-pub infix-TotalSurjections : IsInfix op.TotalSurjections
-infix-TotalSurjections = record { l = sort.Arrow; r = binary.RelationSet; its_row = refl; first = refl; second = refl; result = refl; of_value = refl; graded = λ g. refl; sign = refl; agreeing = λ g. refl; left = refl; left_grouped = refl; right = refl; right_grouped = refl; all = refl; calm = refl; reached = refl; unrelated = refl; alone = λ left. refl; tokens = λ a b t d. refl; tree = λ a b t. refl }
+alone_so : (o : Op) → joins_values (op_form o) ≡ true → (left : Op) → is_same_connective o left ≡ false
+alone_so op.And h left = cc
+alone_so op.Or h left = cc
+alone_so _ h left = refl
 
-pub infix-Bijections : IsInfix op.Bijections
-infix-Bijections = record { l = sort.Arrow; r = binary.RelationSet; its_row = refl; first = refl; second = refl; result = refl; of_value = refl; graded = λ g. refl; sign = refl; agreeing = λ g. refl; left = refl; left_grouped = refl; right = refl; right_grouped = refl; all = refl; calm = refl; reached = refl; unrelated = refl; alone = λ left. refl; tokens = λ a b t d. refl; tree = λ a b t. refl }
+tokens_so : (o : Op) → joins_values (op_form o) ≡ true → (a b : Part) (t : Ty) (d : ℕ) → operator_items o (sign_token o) (a ∷ b ∷ []) t d ≡ operand_items o side.Left a d ++ (sign_token o ∷ operand_items o side.Right b d)
+tokens_so op.Apply h a b t d = cc
+tokens_so op.Image h a b t d = cc
+tokens_so op.SetExtension h a b t d = cc
+tokens_so _ h a b t d = refl
 
-pub infix-Union : IsInfix op.Union
-infix-Union = record { l = sort.SetOperator; r = binary.SetOperation; its_row = refl; first = refl; second = refl; result = refl; of_value = refl; graded = λ g. refl; sign = refl; agreeing = λ g. refl; left = refl; left_grouped = refl; right = refl; right_grouped = refl; all = refl; calm = refl; reached = refl; unrelated = refl; alone = λ left. refl; tokens = λ a b t d. refl; tree = λ a b t. refl }
+tree_so : (o : Op) (a b : Raw) (t : Ty) → operator_raw o (a ∷ b ∷ []) t ≡ raw.Node (rawop.Plain o) (a ∷ b ∷ []) 0
+tree_so op.Top a b t = refl
+tree_so _ a b t = refl
 
-pub infix-Intersection : IsInfix op.Intersection
-infix-Intersection = record { l = sort.SetOperator; r = binary.SetOperation; its_row = refl; first = refl; second = refl; result = refl; of_value = refl; graded = λ g. refl; sign = refl; agreeing = λ g. refl; left = refl; left_grouped = refl; right = refl; right_grouped = refl; all = refl; calm = refl; reached = refl; unrelated = refl; alone = λ left. refl; tokens = λ a b t d. refl; tree = λ a b t. refl }
+of_values : (test : Op → Bool) → list_all (λ o. not (joins_values (op_form o)) || test o) OPERATORS ≡ true → (o : Op) → joins_values (op_form o) ≡ true → test o ≡ true
+of_values test = passed (λ o. joins_values (op_form o)) test
 
-pub infix-Difference : IsInfix op.Difference
-infix-Difference = record { l = sort.SetOperator; r = binary.SetOperation; its_row = refl; first = refl; second = refl; result = refl; of_value = refl; graded = λ g. refl; sign = refl; agreeing = λ g. refl; left = refl; left_grouped = refl; right = refl; right_grouped = refl; all = refl; calm = refl; reached = refl; unrelated = refl; alone = λ left. refl; tokens = λ a b t d. refl; tree = λ a b t. refl }
+denied_test : (b : Bool) → not b ≡ true → b ≡ false
+denied_test true h = cc
+denied_test false h = refl
 
-pub infix-Product : IsInfix op.Product
-infix-Product = record { l = sort.SetOperator; r = binary.Product; its_row = refl; first = refl; second = refl; result = refl; of_value = refl; graded = λ g. refl; sign = refl; agreeing = λ g. refl; left = refl; left_grouped = refl; right = refl; right_grouped = refl; all = refl; calm = refl; reached = refl; unrelated = refl; alone = λ left. refl; tokens = λ a b t d. refl; tree = λ a b t. refl }
-
-pub infix-DomainRestriction : IsInfix op.DomainRestriction
-infix-DomainRestriction = record { l = sort.SetOperator; r = binary.DomainFilter; its_row = refl; first = refl; second = refl; result = refl; of_value = refl; graded = λ g. refl; sign = refl; agreeing = λ g. refl; left = refl; left_grouped = refl; right = refl; right_grouped = refl; all = refl; calm = refl; reached = refl; unrelated = refl; alone = λ left. refl; tokens = λ a b t d. refl; tree = λ a b t. refl }
-
-pub infix-DomainSubtraction : IsInfix op.DomainSubtraction
-infix-DomainSubtraction = record { l = sort.SetOperator; r = binary.DomainFilter; its_row = refl; first = refl; second = refl; result = refl; of_value = refl; graded = λ g. refl; sign = refl; agreeing = λ g. refl; left = refl; left_grouped = refl; right = refl; right_grouped = refl; all = refl; calm = refl; reached = refl; unrelated = refl; alone = λ left. refl; tokens = λ a b t d. refl; tree = λ a b t. refl }
-
-pub infix-RangeRestriction : IsInfix op.RangeRestriction
-infix-RangeRestriction = record { l = sort.SetOperator; r = binary.RangeFilter; its_row = refl; first = refl; second = refl; result = refl; of_value = refl; graded = λ g. refl; sign = refl; agreeing = λ g. refl; left = refl; left_grouped = refl; right = refl; right_grouped = refl; all = refl; calm = refl; reached = refl; unrelated = refl; alone = λ left. refl; tokens = λ a b t d. refl; tree = λ a b t. refl }
-
-pub infix-RangeSubtraction : IsInfix op.RangeSubtraction
-infix-RangeSubtraction = record { l = sort.SetOperator; r = binary.RangeFilter; its_row = refl; first = refl; second = refl; result = refl; of_value = refl; graded = λ g. refl; sign = refl; agreeing = λ g. refl; left = refl; left_grouped = refl; right = refl; right_grouped = refl; all = refl; calm = refl; reached = refl; unrelated = refl; alone = λ left. refl; tokens = λ a b t d. refl; tree = λ a b t. refl }
-
-pub infix-Overriding : IsInfix op.Overriding
-infix-Overriding = record { l = sort.SetOperator; r = binary.Overriding; its_row = refl; first = refl; second = refl; result = refl; of_value = refl; graded = λ g. refl; sign = refl; agreeing = λ g. refl; left = refl; left_grouped = refl; right = refl; right_grouped = refl; all = refl; calm = refl; reached = refl; unrelated = refl; alone = λ left. refl; tokens = λ a b t d. refl; tree = λ a b t. refl }
-
-pub infix-Composition : IsInfix op.Composition
-infix-Composition = record { l = sort.SetOperator; r = binary.Composition; its_row = refl; first = refl; second = refl; result = refl; of_value = refl; graded = λ g. refl; sign = refl; agreeing = λ g. refl; left = refl; left_grouped = refl; right = refl; right_grouped = refl; all = refl; calm = refl; reached = refl; unrelated = refl; alone = λ left. refl; tokens = λ a b t d. refl; tree = λ a b t. refl }
-
-pub infix-ParallelProduct : IsInfix op.ParallelProduct
-infix-ParallelProduct = record { l = sort.SetOperator; r = binary.ParallelProduct; its_row = refl; first = refl; second = refl; result = refl; of_value = refl; graded = λ g. refl; sign = refl; agreeing = λ g. refl; left = refl; left_grouped = refl; right = refl; right_grouped = refl; all = refl; calm = refl; reached = refl; unrelated = refl; alone = λ left. refl; tokens = λ a b t d. refl; tree = λ a b t. refl }
-
-pub infix-DirectProduct : IsInfix op.DirectProduct
-infix-DirectProduct = record { l = sort.SetOperator; r = binary.DirectProduct; its_row = refl; first = refl; second = refl; result = refl; of_value = refl; graded = λ g. refl; sign = refl; agreeing = λ g. refl; left = refl; left_grouped = refl; right = refl; right_grouped = refl; all = refl; calm = refl; reached = refl; unrelated = refl; alone = λ left. refl; tokens = λ a b t d. refl; tree = λ a b t. refl }
-
-pub infix-Interval : IsInfix op.Interval
-infix-Interval = record { l = sort.Interval; r = binary.Interval; its_row = refl; first = refl; second = refl; result = refl; of_value = refl; graded = λ g. refl; sign = refl; agreeing = λ g. refl; left = refl; left_grouped = refl; right = refl; right_grouped = refl; all = refl; calm = refl; reached = refl; unrelated = refl; alone = λ left. refl; tokens = λ a b t d. refl; tree = λ a b t. refl }
-
-pub infix-Plus : IsInfix op.Plus
-infix-Plus = record { l = sort.Additive; r = binary.Arithmetic; its_row = refl; first = refl; second = refl; result = refl; of_value = refl; graded = λ g. refl; sign = refl; agreeing = λ g. refl; left = refl; left_grouped = refl; right = refl; right_grouped = refl; all = refl; calm = refl; reached = refl; unrelated = refl; alone = λ left. refl; tokens = λ a b t d. refl; tree = λ a b t. refl }
-
-pub infix-Times : IsInfix op.Times
-infix-Times = record { l = sort.Multiplicative; r = binary.Arithmetic; its_row = refl; first = refl; second = refl; result = refl; of_value = refl; graded = λ g. refl; sign = refl; agreeing = λ g. refl; left = refl; left_grouped = refl; right = refl; right_grouped = refl; all = refl; calm = refl; reached = refl; unrelated = refl; alone = λ left. refl; tokens = λ a b t d. refl; tree = λ a b t. refl }
-
-pub infix-Divide : IsInfix op.Divide
-infix-Divide = record { l = sort.Multiplicative; r = binary.Arithmetic; its_row = refl; first = refl; second = refl; result = refl; of_value = refl; graded = λ g. refl; sign = refl; agreeing = λ g. refl; left = refl; left_grouped = refl; right = refl; right_grouped = refl; all = refl; calm = refl; reached = refl; unrelated = refl; alone = λ left. refl; tokens = λ a b t d. refl; tree = λ a b t. refl }
-
-pub infix-Modulo : IsInfix op.Modulo
-infix-Modulo = record { l = sort.Multiplicative; r = binary.Arithmetic; its_row = refl; first = refl; second = refl; result = refl; of_value = refl; graded = λ g. refl; sign = refl; agreeing = λ g. refl; left = refl; left_grouped = refl; right = refl; right_grouped = refl; all = refl; calm = refl; reached = refl; unrelated = refl; alone = λ left. refl; tokens = λ a b t d. refl; tree = λ a b t. refl }
-
-pub infix-Power : IsInfix op.Power
-infix-Power = record { l = sort.Power; r = binary.Arithmetic; its_row = refl; first = refl; second = refl; result = refl; of_value = refl; graded = λ g. refl; sign = refl; agreeing = λ g. refl; left = refl; left_grouped = refl; right = refl; right_grouped = refl; all = refl; calm = refl; reached = refl; unrelated = refl; alone = λ left. refl; tokens = λ a b t d. refl; tree = λ a b t. refl }
-
-pub infix-Minus : IsInfix op.Minus
-infix-Minus = record { l = sort.Additive; r = binary.Arithmetic; its_row = refl; first = refl; second = refl; result = refl; of_value = refl; graded = λ g. refl; sign = refl; agreeing = λ g. refl; left = refl; left_grouped = refl; right = refl; right_grouped = refl; all = refl; calm = refl; reached = refl; unrelated = refl; alone = λ left. refl; tokens = λ a b t d. refl; tree = λ a b t. refl }
+pub infix_values : (o : Op) → joins_values (op_form o) ≡ true → IsInfix o
+infix_values o h = record {
+  l = sort_of (op_form o);
+  r = (row_so o h).0;
+  its_row = (row_so o h).1;
+  first = (row_so o h).2;
+  second = (row_so o h).3;
+  result = (row_so o h).4;
+  of_value = of_values (λ o. nat_lt 3 (rank (operator_grade o))) refl o h;
+  graded = graded_so (op_form o) h;
+  sign = sign_so o h;
+  agreeing = agreeing_so (op_form o) h;
+  left = of_values (λ o. nat_le (left_of (sort_of (op_form o))) (left_value (level_of o))) refl o h;
+  left_grouped = of_values (λ o. nat_le (left_of (sort_of (op_form o))) 15) refl o h;
+  right = of_values (λ o. nat_le (least (right_of (sort_of (op_form o)))) (right_value (level_of o))) refl o h;
+  right_grouped = of_values (λ o. nat_le (least (right_of (sort_of (op_form o)))) 15) refl o h;
+  all = all_so (op_form o) h;
+  calm = of_values (λ o. nat_lt (quiet (level_of o)) (least (right_of (sort_of (op_form o))))) refl o h;
+  reached = of_values (λ o. nat_le (top (class_of o)) (sign_rank (level_of o))) refl o h;
+  unrelated = denied_test (is_relation (level_of o)) (of_values (λ o. not (is_relation (level_of o))) refl o h);
+  alone = alone_so o h;
+  tokens = tokens_so o h;
+  tree = tree_so o;
+}

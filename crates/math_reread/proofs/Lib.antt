@@ -1,5 +1,6 @@
 pub mod Tables
 pub mod Readings
+pub mod OperatorRows
 pub mod Infixes
 pub mod TypeReadings
 pub mod Forms

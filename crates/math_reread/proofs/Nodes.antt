@@ -49,7 +49,7 @@ use Rattle.math_reread.specs.Items.{not_sign, open_round, close_round, denied_cl
 use Rattle.math_reread.specs.Grades.{operator_grade, grade_of}
 use Rattle.math_reread.proofs.Tables.{quiet, top}
 use Rattle.math_reread.proofs.Readings.{Whole, call_form, set_form, IsValue, AreValues, none_more, one_more}
-use Rattle.math_reread.proofs.Infixes.{IsRead, is_of_values, both_true, IsInfix, infix_reads, infix-Maplet, infix-Relations, infix-TotalRelations, infix-SurjectiveRelations, infix-TotalSurjectiveRelations, infix-PartialFunctions, infix-TotalFunctions, infix-PartialInjections, infix-TotalInjections, infix-PartialSurjections, infix-TotalSurjections, infix-Bijections, infix-Union, infix-Intersection, infix-Difference, infix-Product, infix-DomainRestriction, infix-DomainSubtraction, infix-RangeRestriction, infix-RangeSubtraction, infix-Overriding, infix-Composition, infix-ParallelProduct, infix-DirectProduct, infix-Interval, infix-Plus, infix-Times, infix-Divide, infix-Modulo, infix-Power, infix-Minus}
+use Rattle.math_reread.proofs.Infixes.{IsRead, is_of_values, both_true, IsInfix, infix_reads, infix_values}
 use Rattle.math_reread.proofs.TypeReadings.{IsTypeRead, typed_form, fits_value, fits_predicate}
 use Rattle.math_reread.proofs.Forms.{IsConnective, connective_reads, connective-Implies, connective-Equivalent, connective-And, connective-Or, negated_form, bare_negated_form, relation_reads, negative_reads, converse_reads, apply_reads, image_reads}
 
@@ -435,37 +435,6 @@ module _ (names : List (List ℕ)) (d : ℕ) where
   node_reads op.Identity parts t all read h = typed_node op.Identity nullary.Identity refl refl refl (λ t. refl) (λ t. refl) parts t read h
   node_reads op.FirstProjection parts t all read h = typed_node op.FirstProjection nullary.FirstProjection refl refl refl (λ t. refl) (λ t. refl) parts t read h
   node_reads op.SecondProjection parts t all read h = typed_node op.SecondProjection nullary.SecondProjection refl refl refl (λ t. refl) (λ t. refl) parts t read h
-  node_reads op.Maplet parts t all read h = infix_node op.Maplet infix-Maplet parts t all h
-  node_reads op.Relations parts t all read h = infix_node op.Relations infix-Relations parts t all h
-  node_reads op.TotalRelations parts t all read h = infix_node op.TotalRelations infix-TotalRelations parts t all h
-  node_reads op.SurjectiveRelations parts t all read h = infix_node op.SurjectiveRelations infix-SurjectiveRelations parts t all h
-  node_reads op.TotalSurjectiveRelations parts t all read h = infix_node op.TotalSurjectiveRelations infix-TotalSurjectiveRelations parts t all h
-  node_reads op.PartialFunctions parts t all read h = infix_node op.PartialFunctions infix-PartialFunctions parts t all h
-  node_reads op.TotalFunctions parts t all read h = infix_node op.TotalFunctions infix-TotalFunctions parts t all h
-  node_reads op.PartialInjections parts t all read h = infix_node op.PartialInjections infix-PartialInjections parts t all h
-  node_reads op.TotalInjections parts t all read h = infix_node op.TotalInjections infix-TotalInjections parts t all h
-  node_reads op.PartialSurjections parts t all read h = infix_node op.PartialSurjections infix-PartialSurjections parts t all h
-  node_reads op.TotalSurjections parts t all read h = infix_node op.TotalSurjections infix-TotalSurjections parts t all h
-  node_reads op.Bijections parts t all read h = infix_node op.Bijections infix-Bijections parts t all h
-  node_reads op.Union parts t all read h = infix_node op.Union infix-Union parts t all h
-  node_reads op.Intersection parts t all read h = infix_node op.Intersection infix-Intersection parts t all h
-  node_reads op.Difference parts t all read h = infix_node op.Difference infix-Difference parts t all h
-  node_reads op.Product parts t all read h = infix_node op.Product infix-Product parts t all h
-  node_reads op.DomainRestriction parts t all read h = infix_node op.DomainRestriction infix-DomainRestriction parts t all h
-  node_reads op.DomainSubtraction parts t all read h = infix_node op.DomainSubtraction infix-DomainSubtraction parts t all h
-  node_reads op.RangeRestriction parts t all read h = infix_node op.RangeRestriction infix-RangeRestriction parts t all h
-  node_reads op.RangeSubtraction parts t all read h = infix_node op.RangeSubtraction infix-RangeSubtraction parts t all h
-  node_reads op.Overriding parts t all read h = infix_node op.Overriding infix-Overriding parts t all h
-  node_reads op.Composition parts t all read h = infix_node op.Composition infix-Composition parts t all h
-  node_reads op.ParallelProduct parts t all read h = infix_node op.ParallelProduct infix-ParallelProduct parts t all h
-  node_reads op.DirectProduct parts t all read h = infix_node op.DirectProduct infix-DirectProduct parts t all h
-  node_reads op.Interval parts t all read h = infix_node op.Interval infix-Interval parts t all h
-  node_reads op.Plus parts t all read h = infix_node op.Plus infix-Plus parts t all h
-  node_reads op.Times parts t all read h = infix_node op.Times infix-Times parts t all h
-  node_reads op.Divide parts t all read h = infix_node op.Divide infix-Divide parts t all h
-  node_reads op.Modulo parts t all read h = infix_node op.Modulo infix-Modulo parts t all h
-  node_reads op.Power parts t all read h = infix_node op.Power infix-Power parts t all h
-  node_reads op.Minus parts t all read h = infix_node op.Minus infix-Minus parts t all h
   node_reads op.Negate parts t all read h = negate_node parts t all h
   node_reads op.Converse parts t all read h = converse_node parts t all h
   node_reads op.Apply parts t all read h = apply_node parts t all h
@@ -481,3 +450,4 @@ module _ (names : List (List ℕ)) (d : ℕ) where
   node_reads op.Maximum parts t all read h = function_node op.Maximum unary.Extremum refl refl refl refl (λ a t. refl) (λ a t. refl) parts t all h
   node_reads op.BoolOf parts t all read h = bool_node parts t all h
   node_reads op.SetExtension parts t all read h = set_node parts t all h
+  node_reads o parts t all read h = infix_node o (infix_values o refl) parts t all h

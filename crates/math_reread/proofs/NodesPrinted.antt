@@ -1,5 +1,5 @@
 -- The tokens of an operator on operands with their texts.
-use Rattle.std.proofs.Common.{◌≡◌, sym as back, subst, refl, ℕ, ◌-◌, true, false, List, [], ◌∷◌, ◌++◌, length, map}
+use Rattle.std.proofs.Common.{◌≡◌, sym as back, subst, refl, ℕ, ◌-◌, Bool, true, false, ◌||◌, List, [], ◌∷◌, ◌++◌, length, map}
 use Rattle.std.specs.Prelude.{replicate}
 use Rattle.std.specs.List.{AllByRecursion}
 use Rattle.formula_core.specs.declared.ty.Ty.{Ty}
@@ -21,7 +21,7 @@ use Rattle.formula_core.specs.TypeTable.{fits as is_fit}
 use Rattle.formula_core.specs.Wellness.{type_of}
 use Rattle.formula_core.proofs.Schemes.{fits_exactly}
 use Rattle.math_grammar.specs.Tokens.{Item}
-use Rattle.math_grammar.specs.Operators.{sign_of}
+use Rattle.math_grammar.specs.Operators.{sign_of, op_form}
 use Rattle.math_print.specs.declared.levels.Side.{Side}
 use Rattle.math_print.specs.declared.levels.Side.TheVariants as side
 use Rattle.math_print.specs.Characters.{bytes, separated as separated_texts}
@@ -31,7 +31,10 @@ use Rattle.math_print.specs.Printing.{Part as TextPart, operand, typed_text, ope
 use Rattle.token_text.specs.Spacing.{stops, Follows, Fits}
 use Rattle.math_reread.specs.Items.{Part, not_sign, open_round, close_round, open_square, close_square, sign_token, denied_sign_token, opening_items, closing_items, operand_items, typed_items, separated, operator_items, items, with_items}
 use Rattle.math_reread.proofs.TypeReadings.{AreNames}
-use Rattle.math_reread.proofs.SignFits.{fits-And, fits-Bijections, fits-BoolOf, fits-Booleans, fits-Bottom, fits-Cardinality, fits-Composition, fits-Converse, fits-Difference, fits-DirectProduct, fits-Divide, fits-Domain, fits-DomainRestriction, fits-DomainSubtraction, fits-EmptySet, fits-Equal, fits-Equivalent, fits-FalseValue, fits-Finite, fits-FirstProjection, fits-GeneralIntersection, fits-GeneralUnion, fits-Identity, fits-Implies, fits-Integers, fits-Intersection, fits-Interval, fits-Less, fits-LessOrEqual, fits-Maplet, fits-Maximum, fits-Member, fits-Minimum, fits-Minus, fits-Modulo, fits-Naturals, fits-Negate, fits-NonEmptyPowerSet, fits-Or, fits-Overriding, fits-ParallelProduct, fits-PartialFunctions, fits-PartialInjections, fits-PartialSurjections, fits-Plus, fits-PositiveNaturals, fits-Power, fits-PowerSet, fits-Predecessor, fits-Product, fits-ProperSubset, fits-Range, fits-RangeRestriction, fits-RangeSubtraction, fits-Relations, fits-SecondProjection, fits-Subset, fits-Successor, fits-SurjectiveRelations, fits-Times, fits-Top, fits-TotalFunctions, fits-TotalInjections, fits-TotalRelations, fits-TotalSurjections, fits-TotalSurjectiveRelations, fits-TrueValue, fits-Union, fits-not_sign, fits_denied-Equal, fits_denied-Member, fits_denied-ProperSubset, fits_denied-Subset}
+use Rattle.token_text.proofs.Signs.{opens_set}
+use Rattle.token_text.proofs.Operators.{is_alone, passed, fits_spaced, fits_alone}
+use Rattle.math_reread.proofs.OperatorRows.{is_between, is_call, is_plain_constant, between_row, call_row, constant_row, between_signed, call_alone, constant_alone}
+use Rattle.math_reread.proofs.SignFits.{fits-Negate, fits-not_sign, fits_denied}
 use Rattle.math_reread.proofs.Printed.{IsPrinted, Opens, opens_with, nothing, nothing_stops, lone, token, beside, round, square, braces, rounded, rounded_opens, infix_form, call_form, ArePrinted, separated_form}
 use Rattle.math_reread.proofs.TypesPrinted.{typed_form}
 
@@ -171,7 +174,7 @@ module _ (names : List (List ℕ)) (d : ℕ) where
   converse_node : (parts : List Formula) (t : Ty) → Parts parts → is_fit (row_of op.Converse) (map type_of parts) t ≡ true → IsNodePrinted op.Converse parts t
   converse_node parts t all h = same_sign op.Converse parts t refl (with_one (λ ps. IsOperatorPrinted op.Converse (sign_token op.Converse) ps t) op.Converse unary.Converse refl parts t h all
       (λ a ia. record {
-        whole = beside (operand_items op.Converse side.Left (tokens_of a) d) (sign_token op.Converse ∷ []) (operand op.Converse side.Left (text_of a) d) (sign_of op.Converse) (operand_form op.Converse side.Left a ia) (λ rest h. refl) (lone (sign_token op.Converse) fits-Converse);
+        whole = beside (operand_items op.Converse side.Left (tokens_of a) d) (sign_token op.Converse ∷ []) (operand op.Converse side.Left (text_of a) d) (sign_of op.Converse) (operand_form op.Converse side.Left a ia) (λ rest h. refl) (lone (sign_token op.Converse) (fits_alone op.Converse refl));
         opens = opens_with (operand op.Converse side.Left (text_of a) d) _ (operand_opens op.Converse side.Left a ia);
       }))
 
@@ -207,80 +210,103 @@ module _ (names : List (List ℕ)) (d : ℕ) where
             opens = λ rest. refl;
           }
 
+  -- what is printed of an operator between its operands, of a word before its operand, and of a constant
+  between_items : (o : Op) → is_between (op_form o) ≡ true → (x : Item) (a b : Part) (t : Ty) → operator_items o x (a ∷ b ∷ []) t d ≡ operand_items o side.Left a d ++ (x ∷ operand_items o side.Right b d)
+  between_items op.Apply f x a b t = cc
+  between_items op.Image f x a b t = cc
+  between_items op.SetExtension f x a b t = cc
+  between_items _ f x a b t = refl
+
+  between_text : (o : Op) → is_between (op_form o) ≡ true → (w : List ℕ) (a b : TextPart) (t : Ty) → operator_text o w (a ∷ b ∷ []) t d ≡ operand o side.Left a d ++ (bytes " " ++ (w ++ (bytes " " ++ operand o side.Right b d)))
+  between_text op.Apply f w a b t = cc
+  between_text op.Image f w a b t = cc
+  between_text op.SetExtension f w a b t = cc
+  between_text _ f w a b t = refl
+
+  call_items : (o : Op) → is_call (op_form o) ≡ true → (x : Item) (a : Part) (t : Ty) → operator_items o x (a ∷ []) t d ≡ x ∷ open_round ∷ (a.1 false d ++ close_round ∷ [])
+  call_items op.Not f x a t = cc
+  call_items op.Negate f x a t = cc
+  call_items op.Converse f x a t = cc
+  call_items op.SetExtension f x a t = cc
+  call_items _ f x a t = refl
+
+  call_text : (o : Op) → is_call (op_form o) ≡ true → (w : List ℕ) (a : TextPart) (t : Ty) → operator_text o w (a ∷ []) t d ≡ w ++ (bytes "(" ++ (a.1 false d ++ bytes ")"))
+  call_text op.Not f w a t = cc
+  call_text op.Negate f w a t = cc
+  call_text op.Converse f w a t = cc
+  call_text op.SetExtension f w a t = cc
+  call_text _ f w a t = refl
+
+  constant_items : (o : Op) → is_plain_constant o ≡ true → (x : Item) (t : Ty) → operator_items o x [] t d ≡ x ∷ []
+  constant_items op.EmptySet f x t = cc
+  constant_items op.Identity f x t = cc
+  constant_items op.FirstProjection f x t = cc
+  constant_items op.SecondProjection f x t = cc
+  constant_items op.SetExtension f x t = cc
+  constant_items _ f x t = refl
+
+  constant_text : (o : Op) → is_plain_constant o ≡ true → (w : List ℕ) (t : Ty) → operator_text o w [] t d ≡ w
+  constant_text op.EmptySet f w t = cc
+  constant_text op.Identity f w t = cc
+  constant_text op.FirstProjection f w t = cc
+  constant_text op.SecondProjection f w t = cc
+  constant_text op.SetExtension f w t = cc
+  constant_text _ f w t = refl
+
+  -- only relations have a sign where they are denied
+  same_denied : (o : Op) → is_alone (op_form o) ≡ true → denied_sign_token o ≡ sign_token o
+  same_denied op.Equal f = cc
+  same_denied op.Member f = cc
+  same_denied op.ProperSubset f = cc
+  same_denied op.Subset f = cc
+  same_denied _ f = refl
+
+  abbrev begins_open : List ℕ → Bool
+  begins_open [] = false
+  begins_open (c ∷ cs) = opens_set c
+
+  sign_opens : (o : Op) → is_alone (op_form o) ≡ true → Opens (sign_of o)
+  sign_opens o f = go (sign_of o) (passed (λ o. is_alone (op_form o)) (λ o. begins_open (sign_of o)) refl o f)
+    where
+      go : (w : List ℕ) → begins_open w ≡ true → Opens w
+      go [] h = cc
+      go (c ∷ cs) h = λ rest. h
+
+  between_printed : (o : Op) → is_between (op_form o) ≡ true → (parts : List Formula) (t : Ty) → Parts parts → is_fit (row_of o) (map type_of parts) t ≡ true → IsNodePrinted o parts t
+  between_printed o f parts t all h = own_sign o parts t (with_its (sign_token o) (λ rest. fits_spaced o (between_signed o f) (32 ∷ rest) refl)) (with_its (denied_sign_token o) (λ rest. fits_denied o (between_signed o f) (32 ∷ rest) refl))
+    where
+      with_its : (x : Item) → ((rest : List ℕ) → Fits x (32 ∷ rest)) → IsOperatorPrinted o x parts t
+      with_its x fit = infix_node o x (between_row o f).0 (between_row o f).1 (between_items o f x) (between_text o f x.text) fit parts t all h
+
+  call_printed : (o : Op) → is_call (op_form o) ≡ true → (parts : List Formula) (t : Ty) → Parts parts → is_fit (row_of o) (map type_of parts) t ≡ true → IsNodePrinted o parts t
+  call_printed o f parts t all h =
+      same_sign o parts t (same_denied o (call_alone o f))
+      (call_node o (sign_token o) (call_row o f).0 (call_row o f).1 (call_items o f (sign_token o)) (call_text o f (sign_of o)) (λ rest. fits_alone o (call_alone o f) (40 ∷ rest) refl) (sign_opens o (call_alone o f)) parts t all h)
+
+  constant_printed : (o : Op) → is_plain_constant o ≡ true → (parts : List Formula) (t : Ty) → is_fit (row_of o) (map type_of parts) t ≡ true → IsNodePrinted o parts t
+  constant_printed o f parts t h =
+      same_sign o parts t (same_denied o (constant_alone o f))
+      (constant_node o (sign_token o) (constant_row o f).0 (constant_row o f).1 (constant_items o f (sign_token o)) (constant_text o f (sign_of o)) (fits_alone o (constant_alone o f)) (sign_opens o (constant_alone o f)) parts t h)
+
+  regular_printed : (o : Op) → (is_between (op_form o) || (is_call (op_form o) || is_plain_constant o)) ≡ true → (parts : List Formula) (t : Ty) → Parts parts → is_fit (row_of o) (map type_of parts) t ≡ true → IsNodePrinted o parts t
+  regular_printed o k parts t all h = go (is_between (op_form o)) refl (is_call (op_form o)) refl k
+    where
+      go : (a : Bool) → is_between (op_form o) ≡ a → (b : Bool) → is_call (op_form o) ≡ b → (a || (b || is_plain_constant o)) ≡ true → IsNodePrinted o parts t
+      go true e b f k = between_printed o e parts t all h
+      go false e true f k = call_printed o f parts t all h
+      go false e false f k = constant_printed o k parts t h
+
   pub node_printed : (o : Op) (parts : List Formula) (t : Ty) → Parts parts → AreNames (carriers t) → is_fit (row_of o) (map type_of parts) t ≡ true → IsNodePrinted o parts t
-  node_printed op.Top parts t all carried h = same_sign op.Top parts t refl (constant_node op.Top (sign_token op.Top) nullary.Predicate refl (λ t. refl) (λ t. refl) fits-Top (λ rest. refl) parts t h)
-  node_printed op.Bottom parts t all carried h = same_sign op.Bottom parts t refl (constant_node op.Bottom (sign_token op.Bottom) nullary.Predicate refl (λ t. refl) (λ t. refl) fits-Bottom (λ rest. refl) parts t h)
   node_printed op.Not parts t all carried h = not_node parts t all h
-  node_printed op.And parts t all carried h = same_sign op.And parts t refl (infix_node op.And (sign_token op.And) binary.Connective refl (λ a b t. refl) (λ a b t. refl) (λ rest. fits-And (32 ∷ rest) refl) parts t all h)
-  node_printed op.Or parts t all carried h = same_sign op.Or parts t refl (infix_node op.Or (sign_token op.Or) binary.Connective refl (λ a b t. refl) (λ a b t. refl) (λ rest. fits-Or (32 ∷ rest) refl) parts t all h)
-  node_printed op.Implies parts t all carried h = same_sign op.Implies parts t refl (infix_node op.Implies (sign_token op.Implies) binary.Connective refl (λ a b t. refl) (λ a b t. refl) (λ rest. fits-Implies (32 ∷ rest) refl) parts t all h)
-  node_printed op.Equivalent parts t all carried h = same_sign op.Equivalent parts t refl (infix_node op.Equivalent (sign_token op.Equivalent) binary.Connective refl (λ a b t. refl) (λ a b t. refl) (λ rest. fits-Equivalent (32 ∷ rest) refl) parts t all h)
-  node_printed op.Equal parts t all carried h = own_sign op.Equal parts t (infix_node op.Equal (sign_token op.Equal) binary.Equality refl (λ a b t. refl) (λ a b t. refl) (λ rest. fits-Equal (32 ∷ rest) refl) parts t all h)
-      (infix_node op.Equal (denied_sign_token op.Equal) binary.Equality refl (λ a b t. refl) (λ a b t. refl) (λ rest. fits_denied-Equal (32 ∷ rest) refl) parts t all h)
-  node_printed op.Member parts t all carried h = own_sign op.Member parts t (infix_node op.Member (sign_token op.Member) binary.Membership refl (λ a b t. refl) (λ a b t. refl) (λ rest. fits-Member (32 ∷ rest) refl) parts t all h)
-      (infix_node op.Member (denied_sign_token op.Member) binary.Membership refl (λ a b t. refl) (λ a b t. refl) (λ rest. fits_denied-Member (32 ∷ rest) refl) parts t all h)
-  node_printed op.ProperSubset parts t all carried h = own_sign op.ProperSubset parts t (infix_node op.ProperSubset (sign_token op.ProperSubset) binary.Inclusion refl (λ a b t. refl) (λ a b t. refl) (λ rest. fits-ProperSubset (32 ∷ rest) refl) parts t all h)
-      (infix_node op.ProperSubset (denied_sign_token op.ProperSubset) binary.Inclusion refl (λ a b t. refl) (λ a b t. refl) (λ rest. fits_denied-ProperSubset (32 ∷ rest) refl) parts t all h)
-  node_printed op.Subset parts t all carried h = own_sign op.Subset parts t (infix_node op.Subset (sign_token op.Subset) binary.Inclusion refl (λ a b t. refl) (λ a b t. refl) (λ rest. fits-Subset (32 ∷ rest) refl) parts t all h)
-      (infix_node op.Subset (denied_sign_token op.Subset) binary.Inclusion refl (λ a b t. refl) (λ a b t. refl) (λ rest. fits_denied-Subset (32 ∷ rest) refl) parts t all h)
-  node_printed op.Less parts t all carried h = same_sign op.Less parts t refl (infix_node op.Less (sign_token op.Less) binary.Comparison refl (λ a b t. refl) (λ a b t. refl) (λ rest. fits-Less (32 ∷ rest) refl) parts t all h)
-  node_printed op.LessOrEqual parts t all carried h = same_sign op.LessOrEqual parts t refl (infix_node op.LessOrEqual (sign_token op.LessOrEqual) binary.Comparison refl (λ a b t. refl) (λ a b t. refl) (λ rest. fits-LessOrEqual (32 ∷ rest) refl) parts t all h)
-  node_printed op.Finite parts t all carried h = same_sign op.Finite parts t refl (call_node op.Finite (sign_token op.Finite) unary.Finiteness refl (λ a t. refl) (λ a t. refl) (λ rest. fits-Finite (40 ∷ rest) refl) (λ rest. refl) parts t all h)
-  node_printed op.TrueValue parts t all carried h = same_sign op.TrueValue parts t refl (constant_node op.TrueValue (sign_token op.TrueValue) nullary.TruthValue refl (λ t. refl) (λ t. refl) fits-TrueValue (λ rest. refl) parts t h)
-  node_printed op.FalseValue parts t all carried h = same_sign op.FalseValue parts t refl (constant_node op.FalseValue (sign_token op.FalseValue) nullary.TruthValue refl (λ t. refl) (λ t. refl) fits-FalseValue (λ rest. refl) parts t h)
-  node_printed op.Booleans parts t all carried h = same_sign op.Booleans parts t refl (constant_node op.Booleans (sign_token op.Booleans) nullary.TruthValueSet refl (λ t. refl) (λ t. refl) fits-Booleans (λ rest. refl) parts t h)
-  node_printed op.Integers parts t all carried h = same_sign op.Integers parts t refl (constant_node op.Integers (sign_token op.Integers) nullary.IntegerSet refl (λ t. refl) (λ t. refl) fits-Integers (λ rest. refl) parts t h)
-  node_printed op.Naturals parts t all carried h = same_sign op.Naturals parts t refl (constant_node op.Naturals (sign_token op.Naturals) nullary.IntegerSet refl (λ t. refl) (λ t. refl) fits-Naturals (λ rest. refl) parts t h)
-  node_printed op.PositiveNaturals parts t all carried h = same_sign op.PositiveNaturals parts t refl (constant_node op.PositiveNaturals (sign_token op.PositiveNaturals) nullary.IntegerSet refl (λ t. refl) (λ t. refl) fits-PositiveNaturals (λ rest. refl) parts t h)
-  node_printed op.EmptySet parts t all carried h = same_sign op.EmptySet parts t refl (typed_node op.EmptySet (sign_token op.EmptySet) nullary.EmptySet refl (λ t. refl) (λ t. refl) fits-EmptySet parts t carried h)
-  node_printed op.Identity parts t all carried h = same_sign op.Identity parts t refl (typed_node op.Identity (sign_token op.Identity) nullary.Identity refl (λ t. refl) (λ t. refl) fits-Identity parts t carried h)
-  node_printed op.FirstProjection parts t all carried h = same_sign op.FirstProjection parts t refl (typed_node op.FirstProjection (sign_token op.FirstProjection) nullary.FirstProjection refl (λ t. refl) (λ t. refl) fits-FirstProjection parts t carried h)
-  node_printed op.SecondProjection parts t all carried h = same_sign op.SecondProjection parts t refl (typed_node op.SecondProjection (sign_token op.SecondProjection) nullary.SecondProjection refl (λ t. refl) (λ t. refl) fits-SecondProjection parts t carried h)
-  node_printed op.Predecessor parts t all carried h = same_sign op.Predecessor parts t refl (constant_node op.Predecessor (sign_token op.Predecessor) nullary.IntegerMap refl (λ t. refl) (λ t. refl) fits-Predecessor (λ rest. refl) parts t h)
-  node_printed op.Successor parts t all carried h = same_sign op.Successor parts t refl (constant_node op.Successor (sign_token op.Successor) nullary.IntegerMap refl (λ t. refl) (λ t. refl) fits-Successor (λ rest. refl) parts t h)
-  node_printed op.Maplet parts t all carried h = same_sign op.Maplet parts t refl (infix_node op.Maplet (sign_token op.Maplet) binary.Maplet refl (λ a b t. refl) (λ a b t. refl) (λ rest. fits-Maplet (32 ∷ rest) refl) parts t all h)
-  node_printed op.Relations parts t all carried h = same_sign op.Relations parts t refl (infix_node op.Relations (sign_token op.Relations) binary.RelationSet refl (λ a b t. refl) (λ a b t. refl) (λ rest. fits-Relations (32 ∷ rest) refl) parts t all h)
-  node_printed op.TotalRelations parts t all carried h = same_sign op.TotalRelations parts t refl (infix_node op.TotalRelations (sign_token op.TotalRelations) binary.RelationSet refl (λ a b t. refl) (λ a b t. refl) (λ rest. fits-TotalRelations (32 ∷ rest) refl) parts t all h)
-  node_printed op.SurjectiveRelations parts t all carried h = same_sign op.SurjectiveRelations parts t refl (infix_node op.SurjectiveRelations (sign_token op.SurjectiveRelations) binary.RelationSet refl (λ a b t. refl) (λ a b t. refl) (λ rest. fits-SurjectiveRelations (32 ∷ rest) refl) parts t all h)
-  node_printed op.TotalSurjectiveRelations parts t all carried h = same_sign op.TotalSurjectiveRelations parts t refl (infix_node op.TotalSurjectiveRelations (sign_token op.TotalSurjectiveRelations) binary.RelationSet refl (λ a b t. refl) (λ a b t. refl) (λ rest. fits-TotalSurjectiveRelations (32 ∷ rest) refl) parts t all h)
-  node_printed op.PartialFunctions parts t all carried h = same_sign op.PartialFunctions parts t refl (infix_node op.PartialFunctions (sign_token op.PartialFunctions) binary.RelationSet refl (λ a b t. refl) (λ a b t. refl) (λ rest. fits-PartialFunctions (32 ∷ rest) refl) parts t all h)
-  node_printed op.TotalFunctions parts t all carried h = same_sign op.TotalFunctions parts t refl (infix_node op.TotalFunctions (sign_token op.TotalFunctions) binary.RelationSet refl (λ a b t. refl) (λ a b t. refl) (λ rest. fits-TotalFunctions (32 ∷ rest) refl) parts t all h)
-  node_printed op.PartialInjections parts t all carried h = same_sign op.PartialInjections parts t refl (infix_node op.PartialInjections (sign_token op.PartialInjections) binary.RelationSet refl (λ a b t. refl) (λ a b t. refl) (λ rest. fits-PartialInjections (32 ∷ rest) refl) parts t all h)
-  node_printed op.TotalInjections parts t all carried h = same_sign op.TotalInjections parts t refl (infix_node op.TotalInjections (sign_token op.TotalInjections) binary.RelationSet refl (λ a b t. refl) (λ a b t. refl) (λ rest. fits-TotalInjections (32 ∷ rest) refl) parts t all h)
-  node_printed op.PartialSurjections parts t all carried h = same_sign op.PartialSurjections parts t refl (infix_node op.PartialSurjections (sign_token op.PartialSurjections) binary.RelationSet refl (λ a b t. refl) (λ a b t. refl) (λ rest. fits-PartialSurjections (32 ∷ rest) refl) parts t all h)
-  node_printed op.TotalSurjections parts t all carried h = same_sign op.TotalSurjections parts t refl (infix_node op.TotalSurjections (sign_token op.TotalSurjections) binary.RelationSet refl (λ a b t. refl) (λ a b t. refl) (λ rest. fits-TotalSurjections (32 ∷ rest) refl) parts t all h)
-  node_printed op.Bijections parts t all carried h = same_sign op.Bijections parts t refl (infix_node op.Bijections (sign_token op.Bijections) binary.RelationSet refl (λ a b t. refl) (λ a b t. refl) (λ rest. fits-Bijections (32 ∷ rest) refl) parts t all h)
-  node_printed op.Union parts t all carried h = same_sign op.Union parts t refl (infix_node op.Union (sign_token op.Union) binary.SetOperation refl (λ a b t. refl) (λ a b t. refl) (λ rest. fits-Union (32 ∷ rest) refl) parts t all h)
-  node_printed op.Intersection parts t all carried h = same_sign op.Intersection parts t refl (infix_node op.Intersection (sign_token op.Intersection) binary.SetOperation refl (λ a b t. refl) (λ a b t. refl) (λ rest. fits-Intersection (32 ∷ rest) refl) parts t all h)
-  node_printed op.Difference parts t all carried h = same_sign op.Difference parts t refl (infix_node op.Difference (sign_token op.Difference) binary.SetOperation refl (λ a b t. refl) (λ a b t. refl) (λ rest. fits-Difference (32 ∷ rest) refl) parts t all h)
-  node_printed op.Product parts t all carried h = same_sign op.Product parts t refl (infix_node op.Product (sign_token op.Product) binary.Product refl (λ a b t. refl) (λ a b t. refl) (λ rest. fits-Product (32 ∷ rest) refl) parts t all h)
-  node_printed op.DomainRestriction parts t all carried h = same_sign op.DomainRestriction parts t refl (infix_node op.DomainRestriction (sign_token op.DomainRestriction) binary.DomainFilter refl (λ a b t. refl) (λ a b t. refl) (λ rest. fits-DomainRestriction (32 ∷ rest) refl) parts t all h)
-  node_printed op.DomainSubtraction parts t all carried h = same_sign op.DomainSubtraction parts t refl (infix_node op.DomainSubtraction (sign_token op.DomainSubtraction) binary.DomainFilter refl (λ a b t. refl) (λ a b t. refl) (λ rest. fits-DomainSubtraction (32 ∷ rest) refl) parts t all h)
-  node_printed op.RangeRestriction parts t all carried h = same_sign op.RangeRestriction parts t refl (infix_node op.RangeRestriction (sign_token op.RangeRestriction) binary.RangeFilter refl (λ a b t. refl) (λ a b t. refl) (λ rest. fits-RangeRestriction (32 ∷ rest) refl) parts t all h)
-  node_printed op.RangeSubtraction parts t all carried h = same_sign op.RangeSubtraction parts t refl (infix_node op.RangeSubtraction (sign_token op.RangeSubtraction) binary.RangeFilter refl (λ a b t. refl) (λ a b t. refl) (λ rest. fits-RangeSubtraction (32 ∷ rest) refl) parts t all h)
-  node_printed op.Overriding parts t all carried h = same_sign op.Overriding parts t refl (infix_node op.Overriding (sign_token op.Overriding) binary.Overriding refl (λ a b t. refl) (λ a b t. refl) (λ rest. fits-Overriding (32 ∷ rest) refl) parts t all h)
-  node_printed op.Composition parts t all carried h = same_sign op.Composition parts t refl (infix_node op.Composition (sign_token op.Composition) binary.Composition refl (λ a b t. refl) (λ a b t. refl) (λ rest. fits-Composition (32 ∷ rest) refl) parts t all h)
-  node_printed op.ParallelProduct parts t all carried h = same_sign op.ParallelProduct parts t refl (infix_node op.ParallelProduct (sign_token op.ParallelProduct) binary.ParallelProduct refl (λ a b t. refl) (λ a b t. refl) (λ rest. fits-ParallelProduct (32 ∷ rest) refl) parts t all h)
-  node_printed op.DirectProduct parts t all carried h = same_sign op.DirectProduct parts t refl (infix_node op.DirectProduct (sign_token op.DirectProduct) binary.DirectProduct refl (λ a b t. refl) (λ a b t. refl) (λ rest. fits-DirectProduct (32 ∷ rest) refl) parts t all h)
-  node_printed op.Interval parts t all carried h = same_sign op.Interval parts t refl (infix_node op.Interval (sign_token op.Interval) binary.Interval refl (λ a b t. refl) (λ a b t. refl) (λ rest. fits-Interval (32 ∷ rest) refl) parts t all h)
-  node_printed op.Plus parts t all carried h = same_sign op.Plus parts t refl (infix_node op.Plus (sign_token op.Plus) binary.Arithmetic refl (λ a b t. refl) (λ a b t. refl) (λ rest. fits-Plus (32 ∷ rest) refl) parts t all h)
-  node_printed op.Minus parts t all carried h = same_sign op.Minus parts t refl (infix_node op.Minus (sign_token op.Minus) binary.Arithmetic refl (λ a b t. refl) (λ a b t. refl) (λ rest. fits-Minus (32 ∷ rest) refl) parts t all h)
-  node_printed op.Times parts t all carried h = same_sign op.Times parts t refl (infix_node op.Times (sign_token op.Times) binary.Arithmetic refl (λ a b t. refl) (λ a b t. refl) (λ rest. fits-Times (32 ∷ rest) refl) parts t all h)
-  node_printed op.Divide parts t all carried h = same_sign op.Divide parts t refl (infix_node op.Divide (sign_token op.Divide) binary.Arithmetic refl (λ a b t. refl) (λ a b t. refl) (λ rest. fits-Divide (32 ∷ rest) refl) parts t all h)
-  node_printed op.Modulo parts t all carried h = same_sign op.Modulo parts t refl (infix_node op.Modulo (sign_token op.Modulo) binary.Arithmetic refl (λ a b t. refl) (λ a b t. refl) (λ rest. fits-Modulo (32 ∷ rest) refl) parts t all h)
-  node_printed op.Power parts t all carried h = same_sign op.Power parts t refl (infix_node op.Power (sign_token op.Power) binary.Arithmetic refl (λ a b t. refl) (λ a b t. refl) (λ rest. fits-Power (32 ∷ rest) refl) parts t all h)
   node_printed op.Negate parts t all carried h = negate_node parts t all h
   node_printed op.Converse parts t all carried h = converse_node parts t all h
   node_printed op.Apply parts t all carried h = apply_node parts t all h
   node_printed op.Image parts t all carried h = image_node parts t all h
-  node_printed op.PowerSet parts t all carried h = same_sign op.PowerSet parts t refl (call_node op.PowerSet (sign_token op.PowerSet) unary.PowerSet refl (λ a t. refl) (λ a t. refl) (λ rest. fits-PowerSet (40 ∷ rest) refl) (λ rest. refl) parts t all h)
-  node_printed op.NonEmptyPowerSet parts t all carried h = same_sign op.NonEmptyPowerSet parts t refl (call_node op.NonEmptyPowerSet (sign_token op.NonEmptyPowerSet) unary.PowerSet refl (λ a t. refl) (λ a t. refl) (λ rest. fits-NonEmptyPowerSet (40 ∷ rest) refl) (λ rest. refl) parts t all h)
-  node_printed op.Cardinality parts t all carried h = same_sign op.Cardinality parts t refl (call_node op.Cardinality (sign_token op.Cardinality) unary.Cardinality refl (λ a t. refl) (λ a t. refl) (λ rest. fits-Cardinality (40 ∷ rest) refl) (λ rest. refl) parts t all h)
-  node_printed op.Domain parts t all carried h = same_sign op.Domain parts t refl (call_node op.Domain (sign_token op.Domain) unary.Domain refl (λ a t. refl) (λ a t. refl) (λ rest. fits-Domain (40 ∷ rest) refl) (λ rest. refl) parts t all h)
-  node_printed op.Range parts t all carried h = same_sign op.Range parts t refl (call_node op.Range (sign_token op.Range) unary.Range refl (λ a t. refl) (λ a t. refl) (λ rest. fits-Range (40 ∷ rest) refl) (λ rest. refl) parts t all h)
-  node_printed op.GeneralUnion parts t all carried h = same_sign op.GeneralUnion parts t refl (call_node op.GeneralUnion (sign_token op.GeneralUnion) unary.Flattening refl (λ a t. refl) (λ a t. refl) (λ rest. fits-GeneralUnion (40 ∷ rest) refl) (λ rest. refl) parts t all h)
-  node_printed op.GeneralIntersection parts t all carried h = same_sign op.GeneralIntersection parts t refl (call_node op.GeneralIntersection (sign_token op.GeneralIntersection) unary.Flattening refl (λ a t. refl) (λ a t. refl) (λ rest. fits-GeneralIntersection (40 ∷ rest) refl) (λ rest. refl) parts t all h)
-  node_printed op.Minimum parts t all carried h = same_sign op.Minimum parts t refl (call_node op.Minimum (sign_token op.Minimum) unary.Extremum refl (λ a t. refl) (λ a t. refl) (λ rest. fits-Minimum (40 ∷ rest) refl) (λ rest. refl) parts t all h)
-  node_printed op.Maximum parts t all carried h = same_sign op.Maximum parts t refl (call_node op.Maximum (sign_token op.Maximum) unary.Extremum refl (λ a t. refl) (λ a t. refl) (λ rest. fits-Maximum (40 ∷ rest) refl) (λ rest. refl) parts t all h)
-  node_printed op.BoolOf parts t all carried h = same_sign op.BoolOf parts t refl (call_node op.BoolOf (sign_token op.BoolOf) unary.TruthOf refl (λ a t. refl) (λ a t. refl) (λ rest. fits-BoolOf (40 ∷ rest) refl) (λ rest. refl) parts t all h)
   node_printed op.SetExtension parts t all carried h = set_node parts t all h
+  node_printed op.EmptySet parts t all carried h = same_sign op.EmptySet parts t refl (typed_node op.EmptySet (sign_token op.EmptySet) nullary.EmptySet refl (λ t. refl) (λ t. refl) (fits_alone op.EmptySet refl) parts t carried h)
+  node_printed op.Identity parts t all carried h = same_sign op.Identity parts t refl (typed_node op.Identity (sign_token op.Identity) nullary.Identity refl (λ t. refl) (λ t. refl) (fits_alone op.Identity refl) parts t carried h)
+  node_printed op.FirstProjection parts t all carried h =
+      same_sign op.FirstProjection parts t refl (typed_node op.FirstProjection (sign_token op.FirstProjection) nullary.FirstProjection refl (λ t. refl) (λ t. refl) (fits_alone op.FirstProjection refl) parts t carried h)
+  node_printed op.SecondProjection parts t all carried h =
+      same_sign op.SecondProjection parts t refl (typed_node op.SecondProjection (sign_token op.SecondProjection) nullary.SecondProjection refl (λ t. refl) (λ t. refl) (fits_alone op.SecondProjection refl) parts t carried h)
+  node_printed o parts t all carried h = regular_printed o refl parts t all h

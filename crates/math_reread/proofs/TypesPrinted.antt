@@ -24,7 +24,8 @@ use Rattle.token_text.proofs.Names.{fits-name, name_lettered}
 use Rattle.token_text.proofs.Words.{lettered_opens_set}
 use Rattle.math_reread.specs.Items.{word, open_round, close_round, typing, sign_token, right_items, type_items_step, type_items, typed_items, separated, declarations}
 use Rattle.math_reread.proofs.TypeReadings.{AreNames}
-use Rattle.math_reread.proofs.SignFits.{fits-open_round, fits-close_round, fits-typing, fits-Integers, fits-Booleans, fits-PowerSet, fits-Product}
+use Rattle.token_text.proofs.Operators.{fits_spaced, fits_alone}
+use Rattle.math_reread.proofs.SignFits.{fits-open_round, fits-close_round, fits-typing}
 use Rattle.math_reread.proofs.Printed.{IsPrinted, Opens, opens_with, nothing, lone, token, beside, rounded, infix_form, call_form, ArePrinted, separated_form}
 
 at : (x : Ty-F Ty) (t : Ty) → roll-Ty x ≡ t → type_items t ≡ type_items_step (map-Ty Ty (Ty × List Item) (λ u. (u, type_items u)) x)
@@ -43,17 +44,17 @@ at_pair : (t u : Ty) → IsTypePrinted t → IsTypePrinted u → IsTypePrinted (
 at_pair t u a b names =
     let split : AreNames (carriers t ++ carriers u) = subst AreNames (carriers-Pair t u) names in
     by (type_items t ++ (sign_token op.Product ∷ right_items (u, type_items u))) _ (type_text t ++ (bytes " × " ++ right_side (u, type_text u))) _ (at (PairF t u) (ty.Pair t u) (rolls-Pair t u)) (type_text-Pair t u)
-    (infix_form (sign_token op.Product) (type_items t) (right_items (u, type_items u)) (type_text t) (right_side (u, type_text u)) (λ rest. fits-Product (32 ∷ rest) refl)
+    (infix_form (sign_token op.Product) (type_items t) (right_items (u, type_items u)) (type_text t) (right_side (u, type_text u)) (λ rest. fits_spaced op.Product refl (32 ∷ rest) refl)
     (a (all_left (λ x. is_name x.0 ≡ true) (carriers t) (carriers u) split))
     (rounded (is_some (components u)) (type_items u) (type_text u) (b (all_right (λ x. is_name x.0 ≡ true) (carriers t) (carriers u) split))))
 
 pub type_printed : (t : Ty) → IsTypePrinted t
 type_printed = type_induction IsTypePrinted
-    (λ names. by (sign_token op.Integers ∷ []) _ (bytes "ℤ") _ (at IntF ty.Int rolls-Int) type_text-Int (lone (sign_token op.Integers) fits-Integers))
-    (λ names. by (sign_token op.Booleans ∷ []) _ (bytes "BOOL") _ (at BoolF ty.Bool rolls-Bool) type_text-Bool (lone (sign_token op.Booleans) fits-Booleans))
+    (λ names. by (sign_token op.Integers ∷ []) _ (bytes "ℤ") _ (at IntF ty.Int rolls-Int) type_text-Int (lone (sign_token op.Integers) (fits_alone op.Integers refl)))
+    (λ names. by (sign_token op.Booleans ∷ []) _ (bytes "BOOL") _ (at BoolF ty.Bool rolls-Bool) type_text-Bool (lone (sign_token op.Booleans) (fits_alone op.Booleans refl)))
     (λ x names. by (word x ∷ []) _ x _ (at (GivenF x) (ty.Given x) (rolls-Given x)) (type_text-Given x) (named x (subst AreNames (carriers-Given x) names).0))
     (λ t is names. by (sign_token op.PowerSet ∷ open_round ∷ (type_items t ++ close_round ∷ [])) _ (bytes "ℙ(" ++ (type_text t ++ bytes ")")) _ (at (PowF t) (ty.Pow t) (rolls-Pow t)) (type_text-Pow t)
-    (call_form (sign_token op.PowerSet) (type_items t) (type_text t) (λ rest. fits-PowerSet (40 ∷ rest) refl) (is (subst AreNames (carriers-Pow t) names))))
+    (call_form (sign_token op.PowerSet) (type_items t) (type_text t) (λ rest. fits_alone op.PowerSet refl (40 ∷ rest) refl) (is (subst AreNames (carriers-Pow t) names))))
     at_pair
     (λ names. by [] _ [] _ (at TruthF ty.Truth rolls-Truth) type_text-Truth nothing)
 
