@@ -15,7 +15,8 @@ use Rattle.po_rules.specs.Tables.{obligations_of}
 use Rattle.build_core.specs.declared.owns.Own.{Own}
 use Rattle.build_core.specs.Projects.{Project, has_text}
 use Rattle.build_core.specs.Tables.{refined_in, counted_nodes}
-use Rattle.build_core.specs.Private.{Outcomes, found, Sets, abstraction_in, IsOwn, OwnFrom, AreOwn, OwnsOf, HaveOwns, HaveComponents, PassesAt}
+use Rattle.build_core.specs.Private.{Outcomes, found, Sets, abstraction_in, IsOwn, OwnFrom, OwnsOf, HaveComponents, PassesAt}
+use Rattle.build_core.proofs.OwnLists.{AreOwn, HaveOwns}
 use Rattle.build_core.proofs.Found.{set_cases, named_one}
 use Rattle.build_core.proofs.Limits.{table_cons, all_fit}
 

@@ -11,6 +11,7 @@ pub mod Lines
 pub mod Listed
 pub mod Moving
 pub mod Nothing
+pub mod OwnLists
 pub mod Placing
 pub mod Referred
 pub mod Rounds

@@ -27,7 +27,7 @@ use Rattle.sequent_core.specs.declared.sequent.Obligation.{Obligation}
 use Rattle.po_rules.specs.Gathering.{gathered, table_nodes, table_limit}
 use Rattle.po_rules.specs.Tables.{obligations_of}
 use Rattle.po_generate.specs.Laws as gathering
-use Rattle.build_core.specs.Projects.{Project, Reading, wanted_references, is_wanted, reference_row, checked_in, Concludes, Checks, has_text}
+use Rattle.build_core.specs.Projects.{Project, Reading, wanted_references, is_wanted, reference_row, checked_in, Concludes, Checks}
 use Rattle.build_core.specs.declared.owns.Own.{Own}
 use Rattle.build_core.specs.Tables.{refined_in, IsPlaceOf, Gives}
 
@@ -151,13 +151,6 @@ OwnFrom components outcomes name _ own = own ≡ []
 abbrev pub IsOwn : List RawComponent → Outcomes → List ℕ → List Obligation → Type 0
 IsOwn components outcomes name own = OwnFrom components outcomes name (found outcomes name) own
 
--- those of these components, one component after another
-abbrev pub AreOwn : List RawComponent → Outcomes → Project → List Obligation → Type 0
-AreOwn components outcomes [] table = table ≡ []
-AreOwn components outcomes (entry ∷ entries) table =
-    (own : List Obligation) × (others : List Obligation) × IsOwn components outcomes entry.0 own × AreOwn components outcomes entries others
-    × (table ≡ own ++ others)
-
 -- each component without fault is one of these
 abbrev pub HaveComponents : List RawComponent → Outcomes → Type 0
 HaveComponents components outcomes = (name : List ℕ) (checked : Checked) → found outcomes name ≡ Some (Ok checked) → has components name ≡ true
@@ -257,10 +250,6 @@ AreOwnsOf project owns = (name : List ℕ) (own : Own) → found owns name ≡ S
 -- those of a component of this name
 abbrev pub OwnsOf : List RawComponent → Outcomes → List ℕ → Own → Type 0
 OwnsOf components outcomes name own = IsOwn components outcomes name (own_list own) × IsCounted own
-
--- each is of a component of the project
-abbrev pub HaveOwns : List RawComponent → Outcomes → Project → List (List ℕ × Own) → Type 0
-HaveOwns components outcomes project owns = (name : List ℕ) (own : Own) → found owns name ≡ Some own → (has_text project name ≡ true) × OwnsOf components outcomes name own
 
 -- whether text, outcome and abstraction are those of before
 abbrev pub keeps_obligations : Project → Project → List (List ℕ × Bool) → RawComponent → Bool

@@ -16,7 +16,8 @@ use Rattle.component_tokens.specs.Pieces.{at_sign}
 use Rattle.component_text.specs.declared.words.TheConstants.{STRUCTURAL}
 use Rattle.component_text.specs.Marks.{Mark, plain, is_structural, mark_by}
 use Rattle.component_text.proofs.Marks.{by_plain}
-use Rattle.token_text.specs.Spacing.{is_space, stops, Follows, Fits}
+use Rattle.token_text.specs.Spacing.{is_space, Fits}
+use Rattle.token_text.proofs.Following.{stops, Follows}
 use Rattle.token_text.proofs.Words.{is_lettered, lettered_opens_set}
 use Rattle.token_text.proofs.Signs.{opens_set}
 use Rattle.token_text.proofs.Names.{fits-name, name_lettered}

@@ -29,12 +29,14 @@ use Rattle.math_grammar.specs.declared.shapes.Shape.{Shape}
 use Rattle.math_grammar.specs.Levels.{infix_of, binder_of, implicit_of, takes_names, takes_shape}
 use Rattle.math_grammar.specs.Tokens.{Item}
 use Rattle.math_grammar.specs.Grammar.{Reads, a_name, a_number, a_truth, a_constant, prefixed, two_sides, in_parentheses, called, applied, converted, set_by_members, by_names, by_shape, lambda, Parts, last_one, next_one, TypeOf, last_side, first_side, Bound, bare, of_type, Declares, last_name, next_name, Body, a_predicate, a_value, LastPart, up_to_brace, reaching, Pattern, last_atom, next_atom, Atom, bare_atom, typed_atom, grouped_atom, type_with, joined, lone, bound, place_of}
-use Rattle.token_text.specs.Spacing.{is_space, stops, Follows}
+use Rattle.token_text.specs.Spacing.{is_space}
+use Rattle.token_text.proofs.Following.{stops, Follows}
 use Rattle.math_grammar.specs.Characters.{bytes}
 use Rattle.raw_print.specs.Pieces.{Piece, Token, text_of, word, dot, bar, typing, in_round, in_square, between, separated}
 use Rattle.math_grammar.specs.Operators.{raw_sign_of, raw_class_of}
 use Rattle.raw_print.specs.Printing as printing
-use Rattle.raw_print.specs.Printing.{Part, operand, bare as bare_parts, form, pieces, with_pieces, declared, bind_pieces, body, pattern, pattern_step, names_in, names_in_step}
+use Rattle.raw_print.specs.Printing.{Part, operand, bare as bare_parts, form, pieces, bind_pieces, body, pattern, pattern_step, names_in, names_in_step}
+use Rattle.raw_print.specs.Private.{with_pieces, declared}
 use Rattle.raw_print.proofs.Equations.{pieces-Int, pieces-Name, pieces-Node, pieces-Bind, pattern-Name, names_in-Name}
 use Rattle.raw_print.specs.Back.{AllProper}
 use Rattle.raw_print.proofs.Proper.{own_symbol, infix_is, second_form, is_infix, suffix_symbol, IsForm, form_symbol, pattern-pair, names_in-pair, map_declared}

@@ -21,7 +21,8 @@ use Rattle.math_grammar.specs.Grammar.{item}
 use Rattle.math_grammar.specs.Tokens.{symbol_of as class_of}
 use Rattle.component_tokens.specs.Pieces.{at_sign}
 use Rattle.component_text.specs.Marks.{is_structural}
-use Rattle.token_text.specs.Spacing.{is_space, stops, Follows, Fits}
+use Rattle.token_text.specs.Spacing.{is_space, Fits}
+use Rattle.token_text.proofs.Following.{stops, Follows}
 use Rattle.token_text.proofs.Tokens.{NoneGoesOn, both_true}
 use Rattle.token_text.proofs.Signs.{opens_set, free_fits, passing_sign, stopped_fits}
 use Rattle.token_text.proofs.Operators.{is_signed, is_alone, passed, fits_alone, is_written, written_fits}

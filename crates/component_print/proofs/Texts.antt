@@ -33,7 +33,7 @@ use Rattle.component_text.specs.declared.words.TheConstants.{STRUCTURAL}
 use Rattle.component_text.specs.Marks.{Mark, word, label, plain, is_structural, mark_by}
 use Rattle.component_text.proofs.Marks.{by_plain}
 use Rattle.component_text.proofs.Texts.{name_too}
-use Rattle.token_text.specs.Spacing.{stops, Follows}
+use Rattle.token_text.proofs.Following.{stops, Follows}
 use Rattle.token_text.proofs.Tokens.{NoneGoesOn}
 use Rattle.token_text.proofs.Signs.{stop_word}
 use Rattle.token_text.proofs.Names.{fits-name}

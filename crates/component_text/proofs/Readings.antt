@@ -15,7 +15,8 @@ use Rattle.component_text.specs.Marks.{Mark, marks_of}
 use Rattle.component_text.specs.Forms.{limits, parts, none}
 use Rattle.component_text.specs.Machines.{IsComponent}
 use Rattle.component_text.specs.Faults.{BeginsWithin, IsLargeAt, long, wide, IsUnexpectedAt, IsTooLargeAt}
-use Rattle.component_text.specs.Spelled.{place_of, text_of, misnamed, IsFirst, bad_sign, number_too_wide, unexpected, unexpected_end, too_large, comment_not_closed, wrong_name, IsRead, HasOneReading, fault_kind, fault_place}
+use Rattle.component_text.specs.Spelled.{place_of, text_of, misnamed, IsFirst, bad_sign, number_too_wide, unexpected, unexpected_end, too_large, comment_not_closed, wrong_name, IsRead, HasOneReading}
+use Rattle.component_text.specs.PrivatePieces.{fault_kind, fault_place}
 use Rattle.component_text.proofs.Once.{component_unique}
 use Rattle.component_text.proofs.Texted.{component_loosens, component_short, component_named}
 

@@ -20,7 +20,8 @@ use Rattle.component_text.specs.Forms.{Bounds, limits, parts, One, Then, Of}
 use Rattle.component_text.specs.Grammar.{reference, context_of, ContextBody, Headed}
 use Rattle.component_text.specs.Machines.{machine_of, MachineBody, IsComponent, a_context, a_machine}
 use Rattle.component_text.specs.Faults.{NoneIsLong, BeginsWithin, IsUnexpectedAt, IsTooLargeAt}
-use Rattle.component_text.specs.Spelled.{Spells, Finds, place_of, text_of, other_name, misnamed_behind, misnamed, IsFirst, bad_sign, number_too_wide, unexpected, unexpected_end, too_large, comment_not_closed, wrong_name, IsReadFault, Tells, fault_kind, fault_place, TellsAtEnd, TellsUnexpected, TellsTooLarge, ReadsPieces}
+use Rattle.component_text.specs.Spelled.{Spells, Finds, place_of, text_of, other_name, misnamed_behind, misnamed, IsFirst, bad_sign, number_too_wide, unexpected, unexpected_end, too_large, comment_not_closed, wrong_name, IsReadFault}
+use Rattle.component_text.specs.PrivatePieces.{Tells, fault_kind, fault_place, TellsAtEnd, TellsUnexpected, TellsTooLarge, ReadsPieces}
 use Rattle.component_text.proofs.Parts.{IsLooser}
 use Rattle.component_text.proofs.Whole.{headed_short}
 use Rattle.component_text.proofs.Components.{good_context_body, leaves_context_body}

@@ -23,7 +23,8 @@ use Rattle.std.specs.List.{AllByRecursion}
 use Rattle.formula_core.specs.Texts.{begins_with}
 use Rattle.math_grammar.specs.Tokens.{item_of}
 use Rattle.component_text.specs.Marks.{Mark, mark_of, marks_of, is_structural}
-use Rattle.component_text.specs.Spelled.{place_of, text_of, HasText}
+use Rattle.component_text.specs.Spelled.{place_of, text_of}
+use Rattle.component_text.specs.PrivatePieces.{HasText}
 use Rattle.component_text.proofs.Marks.{by_word, by_label, by_plain}
 use Rattle.component_text.proofs.Texts.{both, all_low, in_word_low, in_label_low, start_in_word}
 

@@ -6,3 +6,4 @@ pub mod Faults
 pub mod PrivateReading
 pub mod PrivateTexts
 pub mod Spelled
+pub mod PrivatePieces

@@ -1,11 +1,8 @@
 -- What the text of a component spells, and the first fault of one that spells none.
 use Rattle.std.specs.Prelude.{◌≡◌, ℕ, Bool, ◌||◌, List, [], ◌∷◌, length, bytes_eq, codes, Option, Some, None, Result, Ok, Err, if◌then◌else◌}
-use Rattle.std.specs.Borrow.{Bor}
-use Rattle.std.specs.Str.{IsUtf8}
 use Rattle.model_core.specs.declared.fault.Fault.{Fault}
 use Rattle.model_core.specs.declared.fault.FaultKind.{FaultKind}
 use Rattle.model_core.specs.declared.fault.FaultKind.TheVariants as kind
-use Rattle.model_core.specs.Faults.{fault_at}
 use Rattle.formula_core.specs.declared.raw.Ref.{Ref}
 use Rattle.math_tokens.specs.declared.cutting.Token.{Token}
 use Rattle.component_tokens.specs.declared.piece.CutFault.{CutFault}
@@ -89,49 +86,3 @@ IsRead name text (Err f) = IsReadFault IsComponent name text (fault.Fault f)
 -- No text has two: one that spells a component has no fault, and none has two faults.
 abbrev pub HasOneReading : Type 0
 HasOneReading = (name text : List ℕ) (one two : Result RawComponent Fault) → IsRead name text one → IsRead name text two → one ≡ two
-
--- The words below stand in private contracts alone.
-
--- the bytes of a token are text
-abbrev pub HasText : Mark → Type 0
-HasText x = IsUtf8 (text_of x)
-
-abbrev pub Tells : ReadFault → List ℕ → FaultKind → ℕ → List ℕ → Type 0
-Tells (fault.Fault f) name k place words = f ≡ fault_at name k place words
-Tells fault.OutOfMemory name k place words = Unit {0}
-
-abbrev pub fault_kind : CutFault → FaultKind
-fault_kind (wrong.BadSign p) = kind.BadSign
-fault_kind (wrong.NumberTooWide p) = kind.NumberTooWide
-fault_kind (wrong.CommentNotClosed p) = kind.CommentNotClosed
-
-abbrev pub fault_place : CutFault → ℕ
-fault_place (wrong.BadSign p) = p
-fault_place (wrong.NumberTooWide p) = p
-fault_place (wrong.CommentNotClosed p) = p
-
--- what is told where nothing goes on with the first of these
-abbrev pub TellsAtEnd : ReadFault → List ℕ → List ℕ → Option CutFault → Type 0
-TellsAtEnd answer name text None = Tells answer name kind.Unexpected (length text) []
-TellsAtEnd answer name text (Some f) = Tells answer name (fault_kind f) (fault_place f) []
-
-abbrev pub TellsUnexpected : ReadFault → List ℕ → List ℕ → List Mark → Option CutFault → Type 0
-TellsUnexpected answer name text [] cut = TellsAtEnd answer name text cut
-TellsUnexpected answer name text (x ∷ later) cut = Tells answer name kind.Unexpected (place_of x) (text_of x)
-
-abbrev pub TellsTooLarge : ReadFault → List ℕ → List Mark → Type 0
-TellsTooLarge answer name [] = Unit {0}
-TellsTooLarge answer name (x ∷ later) = Tells answer name kind.FormulaTooLarge (place_of x) []
-
--- the first token, if there is one
-abbrev pub IsFirstMark : Option (ℕ × Bor (List ℕ)) → List Mark → Type 0
-IsFirstMark None s = s ≡ []
-IsFirstMark (Some f) s = (x : Mark) × (later : List Mark) × (s ≡ x ∷ later) × (f.0 ≡ place_of x) × (f.1.now ≡ text_of x)
-
--- what is read of the tokens, with what is wrong behind them
-abbrev pub ReadsPieces : (Bounds → List Mark → RawComponent → Type 0) → List ℕ → List ℕ → List Mark → Option CutFault → Result RawComponent ReadFault → Type 0
-ReadsPieces Whole name text marks cut (Ok c) = Whole limits marks c × (misnamed name marks ≡ None) × (cut ≡ None)
-ReadsPieces Whole name text marks cut (Err (fault.Fault f)) =
-    (f.component ≡ name) × IsFirst Whole name text marks cut f.kind f.place f.words
-    × ((c : RawComponent) → Whole limits marks c → (heading c).name ≡ name → cut ≡ None → ⊥)
-ReadsPieces Whole name text marks cut (Err fault.OutOfMemory) = Unit {0}

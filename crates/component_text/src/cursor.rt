@@ -8,7 +8,7 @@ ghost use Rattle.component_text.specs.Grammar.{first_place, IsPlaced, reference,
 ghost use Rattle.component_text.specs.Machines.{IsAct, either, begins_event};
 ghost use Rattle.component_text.specs.PrivateReading.{Takes, ReadsOne, ReadsFormula};
 ghost use Rattle.component_text.specs.PrivateTexts.{IsNameOf, IsLabelOf, is_plain_text, plain_length, IsKindOf, is_word_text};
-ghost use Rattle.component_text.specs.Spelled.{IsFirstMark};
+ghost use Rattle.component_text.specs.PrivatePieces.{IsFirstMark};
 ghost use Rattle.formula_core.specs.Texts.{begins_with};
 ghost use Rattle.component_tokens.specs.Pieces.{at_sign};
 

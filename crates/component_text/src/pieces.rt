@@ -3,7 +3,8 @@
 ghost use Rattle.std.specs.Prelude.{◌≡◌, ◌^◌, ◌<◌, [], None, IfOk, IfErr, length, Option};
 ghost use Rattle.std.specs.List.{AllByRecursion};
 ghost use Rattle.component_text.specs.Marks.{marks_of};
-ghost use Rattle.component_text.specs.Spelled.{misnamed, HasText, Tells, fault_kind, fault_place, TellsUnexpected, TellsTooLarge, ReadsPieces};
+ghost use Rattle.component_text.specs.Spelled.{misnamed};
+ghost use Rattle.component_text.specs.PrivatePieces.{HasText, Tells, fault_kind, fault_place, TellsUnexpected, TellsTooLarge, ReadsPieces};
 ghost use Rattle.component_text.specs.Machines.{IsComponent};
 
 use crate::cursor::Cursor;

@@ -22,7 +22,8 @@ use Rattle.model_core.proofs.Lists.{at_index}
 use Rattle.check_rules.specs.Declarations.{brings_clash, brings_clash_row}
 use Rattle.check_rules.specs.Visible.{Identifiers, Visible, identifiers, seen_from, with_context, of_context, clashing}
 use Rattle.context_check.specs.declared.visible.Origin.{Origin}
-use Rattle.context_check.specs.Views.{differs, clashes, clashes_with, first_clashing, placed}
+use Rattle.context_check.specs.Views.{differs, clashes, clashes_with, placed}
+use Rattle.context_check.specs.Private.{first_clashing}
 
 pub none_noted : (m : BTreeMap (Bor (List ℕ)) Origin) → m.entries ≡ [] → (x o : List ℕ) → clashes m x o ≡ false
 none_noted m e x o = ap (λ es. differs (lookup (λ k. is_eq (slice_cmp nat_cmp x k.now)) es) o) e

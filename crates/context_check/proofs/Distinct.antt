@@ -18,7 +18,7 @@ use Rattle.check_rules.specs.Contexts.{carrier_set, names_of}
 use Rattle.check_rules.specs.Declarations.{declared_twice, declared_twice_row}
 use Rattle.check_rules.specs.Typed.{Entries, in_order}
 use Rattle.check_rules.specs.Visible.{Identifiers, Visible, clashing, entries, identifiers, names, nothing, of_context, origins, with_context}
-use Rattle.context_check.specs.Views.{AreDistinct}
+use Rattle.context_check.specs.Private.{AreDistinct}
 use Rattle.context_check.proofs.Clashes.{told}
 use Rattle.context_check.proofs.Copied.{map_map}
 use Rattle.context_check.proofs.Views.{append_none}

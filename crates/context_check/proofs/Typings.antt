@@ -23,7 +23,8 @@ use Rattle.model_core.specs.Faults.{earlier, first_by_place}
 use Rattle.model_core.proofs.Firsts.{taken_more, first_append}
 use Rattle.check_rules.specs.Contexts.{names_of}
 use Rattle.check_rules.specs.Typed.{Entries, LabelledAction, HasTyping, IsMistyped, IsMistypedPredicate, IsMistypedAction, IsMistypedVariant, IsTypedVariant, AreTyped, AreTypedActions, labelled_of, in_order}
-use Rattle.context_check.specs.Typings.{IsToldBy, IsTypedFormula, IsTypedStep, IsKept, AreTypedSoFar, AreTypedStepsSoFar}
+use Rattle.context_check.specs.Typings.{AreTypedSoFar, AreTypedStepsSoFar}
+use Rattle.context_check.specs.Private.{IsToldBy, IsTypedFormula, IsTypedStep, IsKept}
 
 pub mistyped : (component : List ℕ) (first : ℕ) (unknown : Option (List ℕ × ℕ)) (Clashes IsOpen : Type 0) (w : TypeFault) (fault : Fault) →
     ((name : List ℕ) (place : ℕ) → w ≡ why.Unknown name place → unknown ≡ Some (name, place)) →

@@ -1,17 +1,14 @@
 -- What is seen, as it is borrowed, with the sets by which it is looked up.
-use Rattle.std.specs.Prelude.{◌≡◌, ℕ, Bool, true, false, not, ◌&&◌, if◌then◌else◌, bytes_eq}
-use Rattle.std.specs.Prelude.{List, [], ◌∷◌, ◌++◌, map, Option, Some, None}
+use Rattle.std.specs.Prelude.{◌≡◌, ℕ, Bool, true, false, not, ◌&&◌, bytes_eq}
+use Rattle.std.specs.Prelude.{List, map, Option, Some, None}
 use Rattle.std.specs.Borrow.{Bor}
 use Rattle.std.specs.BTreeMap.{BTreeMap}
 use Rattle.std.specs.BTreeMap as tree
-use Rattle.std.specs.List.{IsDistinct, list_any}
+use Rattle.std.specs.List.{list_any}
 use Rattle.std.specs.Cmp.Lexicographic.{slice_cmp}
 use Rattle.std.specs.Ordering.{nat_cmp}
 use Rattle.model_core.specs.Each.{is_among}
-use Rattle.formula_core.specs.declared.raw.Ref.{Ref}
-use Rattle.formula_core.specs.declared.ty.Ty.{Ty}
-use Rattle.check_rules.specs.Contexts.{names_of}
-use Rattle.check_rules.specs.Visible.{Placed, Identifiers, Visible, entries, identifiers, names, origins}
+use Rattle.check_rules.specs.Visible.{Placed, Identifiers, Visible, identifiers, names, origins}
 use Rattle.context_check.specs.declared.visible.Origin.{Origin}
 use Rattle.context_check.specs.declared.visible.Origin.TheVariants.{One, Several}
 use Rattle.context_check.specs.declared.visible.View.{View}
@@ -19,10 +16,6 @@ use Rattle.context_check.specs.Texts.{has, texts}
 
 abbrev pub placed : {X : Type 0} → Bor X × Bor (List ℕ) → Placed X
 placed p = (p.0.now, p.1.now)
-
--- the names of entries that are seen
-abbrev pub names_in : List (Bor (List ℕ × Ty) × Bor (List ℕ)) → List (List ℕ)
-names_in parts = names (entries (map placed parts))
 
 abbrev pub visible : View → Visible
 visible v = record {
@@ -44,15 +37,6 @@ clashes index name origin = differs (tree.get_by (λ k. slice_cmp nat_cmp name k
 
 abbrev pub clashes_with : Identifiers → List ℕ → List ℕ → Bool
 clashes_with xs name origin = list_any (λ y. bytes_eq name y.0.0 && not (bytes_eq origin y.1)) xs
-
--- the first name that clashes
-abbrev pub first_clashing : (List ℕ → List ℕ → Bool) → Identifiers → Option (List ℕ)
-first_clashing clash [] = None
-first_clashing clash (x ∷ xs) = if clash x.0.0 x.1 then Some x.0.0 else first_clashing clash xs
-
--- of the constants and the declared names no two are equal
-abbrev pub AreDistinct : Visible → List Ref → Type 0
-AreDistinct v declared = IsDistinct bytes_eq (names (entries v.constants) ++ names_of declared)
 
 -- the sets have what is seen
 pub record IsIndexed (v : View) : Type 0 where

@@ -12,7 +12,8 @@ ghost use Rattle.check_rules.specs.Typed.{in_order};
 ghost use Rattle.check_rules.specs.Contexts.{ChecksAxioms, ChecksContext, carrier_set, context_of, labels_of, names_of};
 ghost use Rattle.check_rules.specs.Components.{AreContextsOf, ChecksBeside, contexts_in, is_context};
 ghost use Rattle.context_check.specs.Texts.{has};
-ghost use Rattle.context_check.specs.Views.{AreDistinct, names_in, placed, visible};
+ghost use Rattle.context_check.specs.Views.{placed, visible};
+ghost use Rattle.context_check.specs.Private.{AreDistinct, names_in};
 
 use crate::copies::{
     add_carrier_sets, add_for_each, copy_entries, copy_formulas, copy_names, copy_origins, count,

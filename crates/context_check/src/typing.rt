@@ -8,8 +8,8 @@ ghost use Rattle.model_core.specs.Faults.{first_by_place};
 ghost use Rattle.check_rules.specs.Contexts.{names_of};
 ghost use Rattle.check_rules.specs.Typed.{IsTypedVariant, place_of_first, first_token_of_action, labelled_of};
 ghost use Rattle.check_rules.specs.Typed.{never_typed, never_typed_row, in_order};
-ghost use Rattle.context_check.specs.Typings.{AreTypedSoFar, AreTypedStepsSoFar, IsKept, IsToldBy};
-ghost use Rattle.context_check.specs.Typings.{IsTypedFormula, IsTypedStep};
+ghost use Rattle.context_check.specs.Typings.{AreTypedSoFar, AreTypedStepsSoFar};
+ghost use Rattle.context_check.specs.Private.{IsKept, IsToldBy, IsTypedFormula, IsTypedStep};
 
 use formula_core::{Action, Env, Formula, Label, Name, OutOfMemory, RawAction, Ref, Ty};
 use model_core::{Fault, FaultKind, Labelled, RawLabelled, RawStep, RawVariant, earlier, fault_at};

@@ -11,7 +11,8 @@ ghost use Rattle.check_rules.specs.Declarations.{brings_clash};
 ghost use Rattle.check_rules.specs.Visible.{clashing, entries, identifiers, nothing, of_context, origins};
 ghost use Rattle.check_rules.specs.Visible.{seen_from, with_context, with_new};
 ghost use Rattle.context_check.specs.Texts.{has, texts};
-ghost use Rattle.context_check.specs.Views.{placed, differs, clashes, clashes_with, first_clashing, visible, IsIndexed};
+ghost use Rattle.context_check.specs.Views.{placed, differs, clashes, clashes_with, visible, IsIndexed};
+ghost use Rattle.context_check.specs.Private.{first_clashing};
 
 use crate::declarations::{Texts, has, put};
 use formula_core::{Name, OutOfMemory, Ref, Ty};

@@ -10,7 +10,7 @@ use Rattle.proof_deps.specs.Deps.{AreDepsOf}
 use Rattle.core_steps.specs.declared.events.Status.{Status}
 use Rattle.core_steps.specs.declared.events.Status.TheVariants.{Unattempted, Pending, Reviewed, Discharged, Broken}
 use Rattle.core_steps.specs.Status.{IsTreeStatus}
-use Rattle.core_steps.specs.Private.{FitsSome, IsSettledAs}
+use Rattle.core_steps.specs.Stored.{FitsSome, IsSettledAs}
 
 -- the tree applies to a sequent just where its dependencies fit
 pub fits_some : (tree : Tree) (found : Option Deps) → IfSome found (AreDepsOf tree) → ((found ≡ None) ↔ ((s : Sequent) → IsSequent s → Applies tree s → ⊥)) →

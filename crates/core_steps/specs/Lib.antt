@@ -3,7 +3,6 @@ pub mod Editing
 pub mod Faults
 pub mod Laws
 pub mod Outcomes
-pub mod Private
 pub mod Proving
 pub mod Run
 pub mod State
@@ -11,5 +10,6 @@ pub mod StateDigest
 pub mod StateEntries
 pub mod Status
 pub mod Step
+pub mod Stored
 pub mod Table
 pub mod Tickets

@@ -6,7 +6,7 @@ ghost use Rattle.sequent_core.specs.Sequents.{IsSequent};
 ghost use Rattle.sequent_core.specs.Trees.{Applies};
 ghost use Rattle.proof_deps.specs.Prints.{print_of};
 ghost use Rattle.core_steps.specs.Status.{IsTreeStatus, IsStatus, IsUnsettled, origin_of};
-ghost use Rattle.core_steps.specs.Private.{AreFactsOf, IsSettledAs};
+ghost use Rattle.core_steps.specs.Stored.{AreFactsOf, IsSettledAs};
 
 use crate::events::Status;
 use formula_core::{List, OutOfMemory};
@@ -38,7 +38,7 @@ impl Model for StoredProof {
 
     ghost coded = { kept.the_row.coded };
 
-    ghost use Rattle.core_steps.specs.Private.{AreFactsOf};
+    ghost use Rattle.core_steps.specs.Stored.{AreFactsOf};
 
     ghost view = { λ s. s.proof };
 

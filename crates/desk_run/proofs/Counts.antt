@@ -6,7 +6,8 @@ use Rattle.turn_desk.specs.Log.{HasSeen, Grows, entries_of, JoinedStay}
 use Rattle.turn_desk.specs.Chairs.{ChairState, AreSame, AreNew, HasJoined, new_chair}
 use Rattle.turn_desk.proofs.Logs.{entries_both, entries_one}
 use Rattle.turn_desk.proofs.TakenIn.{same_numbers, taken_in}
-use Rattle.desk_run.specs.Counting.{count_of, HasCounted, EachHasCounted}
+use Rattle.desk_run.specs.Counting.{count_of}
+use Rattle.desk_run.specs.Private.{HasCounted, EachHasCounted}
 
 -- one act counts at most once
 pub one_more : (k : ℕ) (seen before after now : List ℕ) → HasSeen (λ e. e) k seen before → Grows (λ e. e) k before after → now ≡ after → count_of k now ≤ count_of k seen + 1

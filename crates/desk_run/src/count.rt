@@ -3,7 +3,8 @@ ghost use Rattle.std.specs.Prelude.{◌≡◌, ◌+◌, ◌<◌, ◌≤◌, ◌^
 ghost use Rattle.std.specs.Thread.{IsSync};
 ghost use Rattle.turn_desk.specs.Log.{NoneFrom};
 ghost use Rattle.turn_desk.specs.Chairs.{IsOf};
-ghost use Rattle.desk_run.specs.Counting.{count_of, HasCounted, EachHasCounted};
+ghost use Rattle.desk_run.specs.Counting.{count_of};
+ghost use Rattle.desk_run.specs.Private.{HasCounted, EachHasCounted};
 
 use crate::tally::{Count, Tally};
 use std::alloc::{AllocError, Global};

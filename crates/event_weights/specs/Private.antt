@@ -1,4 +1,4 @@
--- The bytes of proofs, counted part by part.
+-- The bytes of proofs, counted part by part, and the nodes of a bound name.
 use Rattle.std.specs.Prelude.{ℕ, ◌+◌, ◌*◌, List, length, sum, map, Option, Some, None}
 use Rattle.formula_core.specs.declared.Ty.{Ty}
 use Rattle.formula_core.specs.declared.Ty.TheOpen.{Ty-F, Int as IntegerT, Bool as BooleanT, Given, Pow, Pair, Truth}
@@ -6,6 +6,8 @@ use Rattle.formula_core.specs.declared.Ty.TheFolds.{fold-Ty}
 use Rattle.formula_core.specs.declared.Formula.{Formula}
 use Rattle.formula_core.specs.declared.Formula.TheOpen.{Formula-F, Int, Free, Bound, Node as Operation, Bind}
 use Rattle.formula_core.specs.declared.Formula.TheFolds.{fold-Formula}
+use Rattle.formula_core.specs.declared.raw.Raw.TheFolds.{fold-RawBound}
+use Rattle.formula_core.specs.declared.raw.RawBound.{RawBound}
 use Rattle.rule_table.specs.declared.kind.RuleKind.{RuleKind}
 use Rattle.rule_table.specs.declared.kind.RuleKind.TheVariants as kind
 use Rattle.rule_table.specs.declared.rule.Antecedent.{Antecedent}
@@ -13,6 +15,7 @@ use Rattle.rule_table.specs.declared.rule.Rule.{Rule}
 use Rattle.sequent_core.specs.declared.tree.Tree.{Tree}
 use Rattle.sequent_core.specs.declared.tree.Tree.TheOpen.{Tree-F, Leaf, Node}
 use Rattle.sequent_core.specs.declared.tree.Tree.TheFolds.{fold-Tree}
+use Rattle.event_weights.specs.Weights.{raw_nodes_step, bound_nodes_step}
 
 abbrev pub type_size_step : Ty-F ℕ → ℕ
 type_size_step IntegerT = 1
@@ -72,3 +75,7 @@ tree_size_step (Node r children) = rule_size r + sum children + 5
 -- of a tree
 abbrev pub tree_size : Tree → ℕ
 tree_size = fold-Tree ℕ tree_size_step
+
+-- the nodes of a name that a formula binds, with its type where that is written
+abbrev pub bound_nodes : RawBound → ℕ
+bound_nodes = fold-RawBound ℕ ℕ raw_nodes_step bound_nodes_step

@@ -2,8 +2,7 @@
 use Rattle.std.specs.Prelude.{ℕ, ◌+◌, ◌*◌, length, sum, map, Option, Some, None}
 use Rattle.formula_core.specs.declared.raw.Raw.{Raw}
 use Rattle.formula_core.specs.declared.raw.Raw.TheOpen.{Raw-F, RawBound-F, Int, Name, Node, Bind}
-use Rattle.formula_core.specs.declared.raw.Raw.TheFolds.{fold-Raw, fold-RawBound}
-use Rattle.formula_core.specs.declared.raw.RawBound.{RawBound}
+use Rattle.formula_core.specs.declared.raw.Raw.TheFolds.{fold-Raw}
 use Rattle.sequent_core.specs.declared.Hint.{Hint}
 use Rattle.sequent_core.specs.declared.Attempt.{Attempt}
 use Rattle.sequent_core.specs.declared.Attempt.TheVariants.{Found, NoProof, NoMemory}
@@ -27,10 +26,6 @@ bound_nodes_step b = type_nodes_or b.ty + 1
 -- the nodes of a written formula, each name that it binds among them
 abbrev pub raw_nodes : Raw → ℕ
 raw_nodes = fold-Raw ℕ ℕ raw_nodes_step bound_nodes_step
-
--- those of a name that it binds, with its type where that is written
-abbrev pub bound_nodes : RawBound → ℕ
-bound_nodes = fold-RawBound ℕ ℕ raw_nodes_step bound_nodes_step
 
 -- those of a hint: the nodes of its terms, and one for each member of its other lists
 abbrev pub hint_nodes : Hint → ℕ

@@ -1,6 +1,7 @@
 // The nodes of hints.
 ghost use Rattle.std.specs.Prelude.{◌≡◌, ◌+◌, ◌-◌, ◌^◌, length, map, min, sum};
-ghost use Rattle.event_weights.specs.Weights.{raw_nodes, bound_nodes, hint_nodes};
+ghost use Rattle.event_weights.specs.Weights.{raw_nodes, hint_nodes};
+ghost use Rattle.event_weights.specs.Private.{bound_nodes};
 
 use formula_core::{Raw, RawBound};
 use sequent_core::Hint;

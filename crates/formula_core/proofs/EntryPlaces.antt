@@ -11,7 +11,7 @@ use Rattle.std.proofs.lemmas.Map.Text.{is_eq-slice_cmp}
 use Rattle.std.proofs.lemmas.Map.Entries.{place_from_lookup, lookup_from_place}
 use Rattle.formula_core.specs.declared.ty.Ty.{Ty}
 use Rattle.formula_core.specs.Env.{HasDistinctNames, type_in}
-use Rattle.formula_core.specs.Places.{AreAtPlaces, IsNoted, type_of_name, type_there}
+use Rattle.formula_core.specs.PrivatePlaces.{AreAtPlaces, IsNoted, type_of_name, type_there}
 use Rattle.formula_core.proofs.Places.{Identifiers, Places, place}
 
 none_from_is_some : {X : Type 0} → (o : Option X) → is_some o ≡ false → o ≡ None

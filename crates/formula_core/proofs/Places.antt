@@ -11,7 +11,7 @@ use Rattle.std.proofs.lemmas.Map.Text.{is_eq-slice_cmp}
 use Rattle.formula_core.specs.declared.ty.Ty.{Ty}
 use Rattle.formula_core.specs.Types.{same_type}
 use Rattle.formula_core.specs.Formulas.{same_identifier}
-use Rattle.formula_core.specs.Places.{IsPlaceOf, HasPlaces}
+use Rattle.formula_core.specs.PrivatePlaces.{IsPlaceOf, HasPlaces}
 
 abbrev pub Identifiers : Type 0
 Identifiers = List (List ℕ × Ty)

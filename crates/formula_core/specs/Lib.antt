@@ -4,7 +4,6 @@ pub mod Identifiers
 pub mod Laws
 pub mod Names
 pub mod Numbers
-pub mod Places
 pub mod Rows
 pub mod SchemeView
 pub mod Same
@@ -21,3 +20,4 @@ pub mod Types
 pub mod Wellness
 pub mod WholeSets
 pub mod formers
+pub mod PrivatePlaces

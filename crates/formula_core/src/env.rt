@@ -6,7 +6,7 @@ ghost use Rattle.std.specs.Cmp.Lexicographic.{slice_cmp};
 ghost use Rattle.std.specs.Option.{option_copied};
 ghost use Rattle.formula_core.specs.Env.{type_in, HasDistinctNames};
 ghost use Rattle.formula_core.specs.SharedNames.{names_held};
-ghost use Rattle.formula_core.specs.Places.{AreAtPlaces, IsNoted, type_there};
+ghost use Rattle.formula_core.specs.PrivatePlaces.{AreAtPlaces, IsNoted, type_there};
 
 use crate::identifiers::{copy_identifiers, same_identifiers};
 use crate::memory::OutOfMemory;
@@ -86,7 +86,7 @@ impl Model for NameTable {
     ghost coded = { Prim.hlevel (codes, ty.the_row.coded) };
 
     ghost use Rattle.formula_core.specs.Env.{HasDistinctNames};
-    ghost use Rattle.formula_core.specs.Places.{AreAtPlaces};
+    ghost use Rattle.formula_core.specs.PrivatePlaces.{AreAtPlaces};
     ghost use Rattle.std.specs.Bool.{OnTrue};
 
     ghost view = { λ a. a.entries.items };

@@ -8,7 +8,7 @@ ghost use Rattle.std.specs.Cmp.Lexicographic.{slice_cmp};
 ghost use Rattle.std.specs.Option.{option_map_or};
 ghost use Rattle.formula_core.specs.Types.{same_type};
 ghost use Rattle.formula_core.specs.Formulas.{free_of, joined, occurrences, same_identifier, with_new};
-ghost use Rattle.formula_core.specs.Places.{IsPlaceOf, HasPlaces};
+ghost use Rattle.formula_core.specs.PrivatePlaces.{IsPlaceOf, HasPlaces};
 
 use crate::formula::Formula;
 use crate::memory::OutOfMemory;

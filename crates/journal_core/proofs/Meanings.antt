@@ -7,12 +7,10 @@ use Rattle.outside.specs.Disk.{Sides}
 use Rattle.outside.specs.declared.side.Side.{Side}
 use Rattle.outside.specs.declared.side.Side.TheVariants.{Left, Right}
 use Rattle.journal_core.specs.Sides.{record_bytes, open_records, HasRecords, HoldsNone, IsForeign, IsOpen, Yields, other, IsWhole, IsBroken, IsDamaged, StandsAt}
-use Rattle.journal_core.specs.Private.{Stands}
-use Rattle.journal_core.specs.Private.Stands.{empty, counting}
 use Rattle.journal_core.specs.Start.{Meaning, meaning_of, nothing, records, foreign, damaged, StandsFor, IsCause, IsAnswerFor}
 use Rattle.journal_core.specs.declared.piece.JournalFault.{JournalFault}
 use Rattle.journal_core.specs.declared.piece.JournalFault.TheVariants as fault
-use Rattle.journal_core.proofs.Standing.{unique, same_number, stands_of, not_both, not_two, is_open, same_parts, open_more, length-open_first, length-record_bytes}
+use Rattle.journal_core.proofs.Standing.{unique, same_number, stands_of, not_both, not_two, is_open, same_parts, open_more, length-open_first, length-record_bytes, Stands, empty, counting}
 
 -- a side with an open first gate is a journal
 open_is_journal : (side : List ℕ) (generation : ℕ) → IsOpen side generation → IsForeign side → ⊥

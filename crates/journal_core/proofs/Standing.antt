@@ -9,9 +9,13 @@ use Rattle.outside.specs.Disk.{Sides, overwritten}
 use Rattle.outside.specs.declared.side.Side.{Side}
 use Rattle.outside.specs.declared.side.Side.TheVariants.{Left, Right}
 use Rattle.journal_core.specs.Sides.{header, record_bytes, open_records, HasRecords, HoldsNone, IsOpen, IsOlder, Yields, other, IsBeforeOrAfter, StandsAt}
-use Rattle.journal_core.specs.Private.{Stands}
-use Rattle.journal_core.specs.Private.Stands.{empty, counting}
-use Rattle.journal_core.specs.State.{Only, HasFront, IsWritten, HasGate, IsShut, IsAtRest}
+use Rattle.journal_core.specs.Private.{HasFront, IsWritten, HasGate}
+use Rattle.journal_core.specs.State.{Only, IsShut, IsAtRest}
+
+-- The sides stand for these records: the empty project, or the records of the side that counts.
+pub data Stands (sides : Sides) (bodies : List (List ℕ)) : Type 0 where
+  empty : HoldsNone (sides Left) → HoldsNone (sides Right) → bodies ≡ [] → Stands sides bodies
+  counting : (side : Side) (generation : ℕ) → bodies ≢ [] → HasRecords (sides side) generation bodies → Yields (sides (other side)) side generation → Stands sides bodies
 
 -- two lists whose fronts have one length
 pub same_parts : (a b x y : List ℕ) → length a ≡ length b → a ++ x ≡ b ++ y → (a ≡ b) × (x ≡ y)

@@ -19,7 +19,8 @@ use Rattle.math_parse.specs.PrivateReaders.{ReadOutcome, found, refused}
 use Rattle.math_parse.proofs.Reach.{Stop, stop, reach}
 use Rattle.math_action.specs.declared.stages.Head.{Head}
 use Rattle.math_action.specs.declared.stages.Head.TheVariants as head
-use Rattle.math_action.specs.PrivateMachine.{target, named, formula, goal_of, ends_at, after_formula, whole, action_run}
+use Rattle.math_action.specs.PrivateMachine.{target, named, formula, goal_of, ends_at, after_formula, whole}
+use Rattle.math_action.proofs.Outcomes.{action_run}
 use Rattle.math_action.proofs.Formulas.{Separates, ready_stops, signed_ended, reads_reach, spelled_reach}
 
 pub ends_separates : (h : Head) (x : Symbol) → ends_at h x ≡ true → Separates x

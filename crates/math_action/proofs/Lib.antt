@@ -3,3 +3,4 @@ pub mod Complete
 pub mod Sound
 pub mod Small
 pub mod Place
+pub mod Outcomes

@@ -23,7 +23,8 @@ use Rattle.math_parse.proofs.Place as places
 use Rattle.math_parse.proofs.Sound as sounds
 use Rattle.math_action.specs.declared.stages.Head.{Head}
 use Rattle.math_action.specs.declared.stages.Head.TheVariants as head
-use Rattle.math_action.specs.PrivateMachine.{ActionState, formula, goal_of, action_reader, action_run}
+use Rattle.math_action.specs.PrivateMachine.{ActionState, formula, goal_of, action_reader}
+use Rattle.math_action.proofs.Outcomes.{action_run}
 use Rattle.math_action.proofs.Formulas.{stops_before}
 use Rattle.math_action.proofs.Complete.{after_stop, formula_run, complete_action}
 use Rattle.math_action.proofs.Sound.{Headed, assigning, Sound, wanting, holding, reading, argued, sound_step, sound_end, sound_start}

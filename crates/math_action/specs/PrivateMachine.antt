@@ -13,7 +13,7 @@ use Rattle.math_grammar.specs.declared.symbols.Symbol.TheVariants as sym
 use Rattle.math_grammar.specs.Tokens.{Item}
 use Rattle.math_grammar.specs.Actions.{ref}
 use Rattle.math_parse.specs.Machine.{State, want, step, ended, is_ready, is_full}
-use Rattle.math_parse.specs.PrivateReaders.{TokenReader, ReadOutcome, outcome_by}
+use Rattle.math_parse.specs.PrivateReaders.{TokenReader}
 use Rattle.math_action.specs.declared.stages.Head.{Head}
 use Rattle.math_action.specs.declared.stages.Head.TheVariants.{Assign, Argument, Apply, ChooseIn, ChooseSuch}
 
@@ -102,6 +102,3 @@ is_full_action _ = false
 
 abbrev pub action_reader : TokenReader ActionState RawAction
 action_reader = record { start = target []; step = action_step; ended = action_ended; is_full = is_full_action }
-
-abbrev pub action_run : Option ℕ → ActionState → List Item → ReadOutcome RawAction
-action_run = outcome_by action_reader

@@ -4,3 +4,4 @@ pub mod Operators
 pub mod Tokens
 pub mod Grammar
 pub mod Actions
+pub mod Private

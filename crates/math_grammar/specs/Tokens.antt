@@ -1,6 +1,5 @@
 -- What the tokens of a text are to the grammar.
 use Rattle.std.specs.Prelude.{ℕ, ◌-◌, List, [], ◌∷◌, map, take, drop, Option, Some, None, cond, bytes_eq, slice_get}
-use Rattle.std.specs.Borrow.{Bor}
 use Rattle.math_tokens.specs.declared.cutting.TokenKind.{TokenKind}
 use Rattle.math_tokens.specs.declared.cutting.TokenKind.TheVariants as kind
 use Rattle.math_tokens.specs.declared.cutting.Token.{Token}
@@ -12,9 +11,6 @@ use Rattle.math_grammar.specs.declared.words.TheConstants.{WORDS}
 abbrev pub word_in : List (List ℕ × Symbol) → List ℕ → Option Symbol
 word_in [] word = None
 word_in (e ∷ table) word = cond (bytes_eq e.0 word) (Some e.1) (word_in table word)
-
-abbrev pub entries : List (Bor (List ℕ) × Symbol) → List (List ℕ × Symbol)
-entries table = map (λ e. (e.0.now, e.1)) table
 
 -- the words with a meaning of their own
 abbrev pub words : List (List ℕ × Symbol)

@@ -1,7 +1,8 @@
 //! The words with a meaning of their own, and the class of a token.
 
 ghost use Rattle.std.specs.Prelude.{◌≡◌};
-ghost use Rattle.math_grammar.specs.Tokens.{word_in, entries, sign_at, symbol_of};
+ghost use Rattle.math_grammar.specs.Tokens.{word_in, sign_at, symbol_of};
+ghost use Rattle.math_grammar.specs.Private.{entries};
 
 use crate::levels::Call;
 use crate::symbols::{SYMBOLS, Symbol};

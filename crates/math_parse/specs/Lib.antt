@@ -3,3 +3,4 @@ pub mod Faults
 pub mod View
 pub mod Limits
 pub mod PrivateReaders
+pub mod PrivateView

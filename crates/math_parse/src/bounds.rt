@@ -3,7 +3,7 @@
 ghost use Rattle.std.specs.Prelude.{◌≡◌, ◌∷◌, ◌++◌, [], IfOk, Some, None};
 ghost use Rattle.math_grammar.specs.Grammar.{bound, lone, joined};
 ghost use Rattle.math_parse.specs.Machine.{name_of, with_type, typed_name_of, bound_of, with_declared, bounds_of};
-ghost use Rattle.math_parse.specs.View.{Names, Types, Two, ref_of};
+ghost use Rattle.math_parse.specs.PrivateView.{Names, Types, Two, ref_of};
 
 use crate::nodes::{alone, between, with};
 use formula_core::{Boxed, List, Name, Op, OutOfMemory, Raw, RawBound, RawOp, Ref};

@@ -4,7 +4,8 @@ ghost use Rattle.std.specs.Prelude.{◌≡◌, ◌∷◌, Some, None, cond};
 ghost use Rattle.math_grammar.specs.Levels.{is_typing};
 ghost use Rattle.math_parse.specs.Machine.{want, shape_step, extend, attach, step, complete, ended};
 ghost use Rattle.math_parse.specs.declared.frames.Frame.TheVariants as frame;
-ghost use Rattle.math_parse.specs.View.{forms, state_of, Steps, Fills, Completes};
+ghost use Rattle.math_parse.specs.View.{forms, state_of, Steps, Completes};
+ghost use Rattle.math_parse.specs.PrivateView.{Fills};
 ghost use Rattle.math_grammar.specs.Grammar.{item, lone};
 
 use crate::begin::{begin, begin_shape, call};

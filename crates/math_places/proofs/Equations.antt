@@ -1,5 +1,6 @@
 -- A tree without its places, at each variant.
 use Rattle.std.proofs.Common.{◌≡◌, ◌∙◌, sym, ap, refl, ℕ, ℤ, List, [], ◌∷◌, map, Option, Some, None}
+use Rattle.std.specs.Option.{option_map}
 use Rattle.formula_core.specs.declared.raw.RawOp.{RawOp}
 use Rattle.formula_core.specs.declared.raw.RawBinder.{RawBinder}
 use Rattle.formula_core.specs.declared.raw.RawBound.{RawBound}
@@ -8,7 +9,11 @@ use Rattle.formula_core.specs.declared.raw.Raw.TheOpen.{RawBound-F, Int as IntF,
 use Rattle.formula_core.specs.declared.raw.Raw.TheVariants as raw
 use Rattle.formula_core.specs.declared.raw.Raw.TheViews.{roll-RawBound, roll-out-RawBound, rolls-Int, rolls-Name, rolls-Node, rolls-Bind}
 use Rattle.formula_core.specs.declared.raw.Raw.TheFolds.{fold-roll-Raw, fold-RawBound, fold-roll-RawBound, map-RawBound}
-use Rattle.math_places.specs.Places.{unplaced_step, unplaced_bound_step, unplaced, unplaced_bound}
+use Rattle.math_places.specs.Places.{unplaced_step, unplaced_bound_step, unplaced}
+
+-- a bound name without its place and those of its type
+abbrev pub unplaced_bound : RawBound → RawBound
+unplaced_bound b = record { name = b.name; ty = option_map unplaced b.ty; place = 0 }
 
 pub unplaced-Int : (n : ℤ) (place : ℕ) → unplaced (raw.Int n place) ≡ raw.Int n 0
 unplaced-Int n place = ap unplaced (sym (rolls-Int n place)) ∙ fold-roll-Raw Raw RawBound unplaced_step unplaced_bound_step (IntF n place)

@@ -19,8 +19,8 @@ use Rattle.math_grammar.specs.Levels.{has_room, prefix_op, right_of, binder_of, 
 use Rattle.math_grammar.specs.Tokens.{Item}
 use Rattle.math_grammar.specs.Grammar as grammar
 use Rattle.math_grammar.specs.Grammar.{item, place_of, bound, between, lone, type_with, joined, Ends, Reads, Parts, TypeOf, Bound, Declares, Body, LastPart, Pattern, Atom, Spells}
-use Rattle.math_places.specs.Places.{unplaced, unplaced_bound, AlikeTokens}
-use Rattle.math_places.proofs.Equations.{unplaced-Int, unplaced-Name, unplaced-Node, unplaced-Bind}
+use Rattle.math_places.specs.Places.{unplaced, AlikeTokens}
+use Rattle.math_places.proofs.Equations.{unplaced-Int, unplaced-Name, unplaced-Node, unplaced-Bind, unplaced_bound}
 use Rattle.math_places.proofs.Tokens.{Alike, none, next, one_by_one, at_end}
 
 abbrev pub Same : Raw → Raw → Type 0

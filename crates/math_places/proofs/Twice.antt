@@ -8,8 +8,8 @@ use Rattle.formula_core.specs.declared.raw.Raw.TheVariants as raw
 use Rattle.formula_core.specs.declared.raw.Ref.{Ref}
 use Rattle.formula_core.specs.declared.raw.RawAction.{RawAction}
 use Rattle.formula_core.specs.declared.raw.RawAction.TheVariants.{Assign, Apply, ChooseIn, ChooseSuch}
-use Rattle.math_places.specs.Places.{unplaced, unplaced_bound, unplaced_ref, unplaced_action}
-use Rattle.math_places.proofs.Equations.{unplaced-Int, unplaced-Name, unplaced-Node, unplaced-Bind}
+use Rattle.math_places.specs.Places.{unplaced, unplaced_ref, unplaced_action}
+use Rattle.math_places.proofs.Equations.{unplaced-Int, unplaced-Name, unplaced-Node, unplaced-Bind, unplaced_bound}
 use Rattle.math_places.proofs.Induction.{OfType, raw_induction}
 
 abbrev IsKept : Raw → Type 0

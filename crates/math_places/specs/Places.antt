@@ -1,6 +1,5 @@
 -- Trees and tokens without their places: each place is 0.
 use Rattle.std.specs.Prelude.{◌≡◌, List, map}
-use Rattle.std.specs.Option.{option_map}
 use Rattle.formula_core.specs.declared.raw.Raw.{Raw}
 use Rattle.formula_core.specs.declared.raw.Raw.TheVariants as raw
 use Rattle.formula_core.specs.declared.raw.Raw.TheOpen.{Raw-F, RawBound-F, Int, Name, Node, Bind}
@@ -30,10 +29,6 @@ unplaced_bound_step b = record { name = b.name; ty = b.ty; place = 0 }
 -- a tree without its places
 abbrev pub unplaced : Raw → Raw
 unplaced = fold-Raw Raw RawBound unplaced_step unplaced_bound_step
-
--- a bound name without its place and those of its type
-abbrev pub unplaced_bound : RawBound → RawBound
-unplaced_bound b = record { name = b.name; ty = option_map unplaced b.ty; place = 0 }
 
 abbrev pub unplaced_ref : Ref → Ref
 unplaced_ref r = record { name = r.name; place = 0 }

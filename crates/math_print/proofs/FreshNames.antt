@@ -10,8 +10,14 @@ use Rattle.std.proofs.lemmas.List.Filters.{length-filter_both}
 use Rattle.std.proofs.lemmas.Map.Made.{is_member-filter, length-le_from_is_member}
 use Rattle.std.proofs.lemmas.Cmp.{nat_list_eq_equiv}
 use Rattle.std.proofs.lemmas.Slice.Eq.{bytes_eq-Decides}
-use Rattle.math_print.specs.Names.{numbered, numbered_names, unused, AreFresh}
+use Rattle.math_print.specs.Names.{numbered, numbered_names, unused}
 use Rattle.math_print.proofs.NumberedNames.{read_on, own, both_true}
+
+-- names that are as many as asked for, all different, and none of them taken
+pub record AreFresh (taken : List (List ℕ)) (many : ℕ) (names : List (List ℕ)) : Type 0 where
+  pub enough : length names ≡ many
+  pub distinct : IsDistinct bytes_eq names
+  pub untaken : AllByRecursion (λ name. list_any (bytes_eq name) taken ≡ false) names
 
 false_unless : (b : Bool) → (b ≡ true → ⊥) → b ≡ false
 false_unless true h = absurd (h refl)

@@ -24,9 +24,9 @@ use Rattle.formula_core.proofs.WholeSets.{same_type_refl, value-Pow, value-Pair}
 use Rattle.type_core.specs.Bare.{Bounds, unbound, typed}
 use Rattle.type_core.specs.Scopes.{Scope, one_further, position_of, with_names, has_name}
 use Rattle.type_core.specs.TypeExpressions.{is_carrier, denoted, power_of, pair_of}
-use Rattle.type_core.specs.CoreForms.{core_form, core_of_form, bounds, bound_part}
+use Rattle.type_core.specs.CoreForms.{core_form, core_of_form, bounds}
+use Rattle.type_core.specs.PrivateViews.{bound_part, in_a_row}
 use Rattle.type_core.specs.Typings.{AreBound}
-use Rattle.type_core.specs.Views.{in_a_row}
 use Rattle.type_core.proofs.CoreEquations.{core_form-Name, read_node}
 use Rattle.math_print.specs.Printing.{name_at}
 use Rattle.math_print.specs.Written.{type_raw_step, type_raw, declared}

@@ -9,7 +9,8 @@ use Rattle.formula_core.specs.declared.op.Op.TheVariants.{SetExtension}
 use Rattle.math_print.specs.declared.levels.Side.TheVariants as side
 use Rattle.math_print.specs.Characters.{bytes, comma_after, separated_after}
 use Rattle.math_print.specs.Types.{type_text}
-use Rattle.math_print.specs.Printing.{Part, printed, with_texts, declarations, name_at, operand, unary_text, second_text, operator_text}
+use Rattle.math_print.specs.Printing.{Part, printed, declarations, name_at, operand, unary_text, second_text, operator_text}
+use Rattle.math_print.specs.Private.{with_texts}
 
 -- what holds of a success follows from what else holds of it
 pub on_ok : {T E : Type 0} (r : Result T E) {P Q : Type 0} → (P → Q) → OnOk r P → OnOk r Q

@@ -40,14 +40,15 @@ use Rattle.formula_core.proofs.Types.{same_type_exact}
 use Rattle.formula_core.proofs.WholeSets.{value-Pow, value-Pair}
 use Rattle.formula_core.proofs.Wellness.{well-Int, well-Free, well-Bound, well-Node, well-Bind}
 use Rattle.type_core.specs.Bare.{Bare, Number, Identifier, Form, Binding, Ascribed, nothing, more, part_count, has_names}
-use Rattle.type_core.specs.CoreForms.{core_form, bounds, bound_part}
+use Rattle.type_core.specs.CoreForms.{core_form, bounds}
+use Rattle.type_core.specs.PrivateViews.{bound_part, in_a_row}
 use Rattle.type_core.specs.Scopes.{Scope, position_of, with_names, IsName}
 use Rattle.type_core.specs.TypeExpressions.{denoted}
 use Rattle.type_core.specs.Typings.{Types, AllTyped}
-use Rattle.type_core.specs.Views.{in_a_row}
 use Rattle.type_core.proofs.CoreEquations.{core_form-Int, core_form-Name, read_node, read_plain}
 use Rattle.math_print.specs.Depths.{deepest}
-use Rattle.math_print.specs.Names.{bound_names, AreFresh}
+use Rattle.math_print.specs.Names.{bound_names}
+use Rattle.math_print.proofs.FreshNames.{AreFresh}
 use Rattle.math_print.specs.Printing.{name_at}
 use Rattle.math_print.specs.Written.{constant, type_raw, denied_at, denied, typed_raw, operator_raw, declared, written_step, written, raw_of, IsTypedBack}
 use Rattle.math_print.proofs.Equations.{deepest-Node, deepest-Bind}

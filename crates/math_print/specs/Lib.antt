@@ -4,6 +4,7 @@ pub mod Held
 pub mod Levels
 pub mod Names
 pub mod Printing
+pub mod Private
 pub mod Signs
 pub mod Types
 pub mod Written

@@ -1,7 +1,7 @@
 -- The names of bound identifiers.
-use Rattle.std.specs.Prelude.{◌≡◌, ℕ, zero, suc, ◌+◌, Bool, false, not, List, [], ◌∷◌, ◌++◌, length, take, filter, bytes_eq}
+use Rattle.std.specs.Prelude.{ℕ, zero, suc, ◌+◌, Bool, not, List, [], ◌∷◌, ◌++◌, length, take, filter, bytes_eq}
 use Rattle.std.specs.Fmt.{decimal}
-use Rattle.std.specs.List.{list_any, IsDistinct, AllByRecursion}
+use Rattle.std.specs.List.{list_any}
 use Rattle.std.specs.Map.{keys_of}
 use Rattle.formula_core.specs.declared.formula.Formula.{Formula}
 use Rattle.formula_core.specs.Identifiers.{identifiers}
@@ -24,12 +24,6 @@ first_allowed may_be_used many tries = take many (filter may_be_used (numbered_n
 -- The first so many of x1, x2, .. that are not taken. Of the names looked at, no more than there are taken names can be taken.
 abbrev pub unused : List (List ℕ) → ℕ → List (List ℕ)
 unused taken many = first_allowed (λ name. not (list_any (bytes_eq name) taken)) many (many + length taken)
-
--- names that are as many as asked for, all different, and none of them taken
-pub record AreFresh (taken : List (List ℕ)) (many : ℕ) (names : List (List ℕ)) : Type 0 where
-  pub enough : length names ≡ many
-  pub distinct : IsDistinct bytes_eq names
-  pub untaken : AllByRecursion (λ name. list_any (bytes_eq name) taken ≡ false) names
 
 -- The names of the bound identifiers of a formula, from the outermost one on: without those that are free in it or carrier sets of its types.
 abbrev pub bound_names : Formula → List (List ℕ)

@@ -111,10 +111,6 @@ printed_step names (Bind b types parts t) denied depth = bind_text names b types
 abbrev pub printed : List (List ℕ) → Formula → Printed
 printed names = para-Formula Printed (printed_step names)
 
--- formulas beside their texts
-abbrev pub with_texts : List (List ℕ) → List Formula → List Part
-with_texts names parts = map (λ f. (f, printed names f)) parts
-
 -- the printed text of a formula
 abbrev pub text_of : Formula → List ℕ
 text_of f = printed (bound_names f) f false 0

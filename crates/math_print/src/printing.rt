@@ -7,7 +7,8 @@ ghost use Rattle.math_print.specs.Characters.{bytes, comma_after, separated};
 ghost use Rattle.math_print.specs.Types.{type_text};
 ghost use Rattle.math_print.specs.Held.{IsHeld};
 ghost use Rattle.math_print.specs.Written.{IsTypedBack};
-ghost use Rattle.math_print.specs.Printing.{operand, typed_text, constant_text, unary_text, second_text, members_text, operator_text, node_text, name_at, declarations, binder_end_of, body_text, binder_text, bind_text, printed, with_texts, text_of};
+ghost use Rattle.math_print.specs.Printing.{operand, typed_text, constant_text, unary_text, second_text, members_text, operator_text, node_text, name_at, declarations, binder_end_of, body_text, binder_text, bind_text, printed, text_of};
+ghost use Rattle.math_print.specs.Private.{with_texts};
 
 use crate::levels::{Side, needs_parentheses};
 use crate::names::bound_names;

@@ -51,15 +51,17 @@ use Rattle.math_grammar.specs.Grammar.{item, place_at, place_of, Reads, a_name, 
 use Rattle.math_grammar.specs.Operators.{binder_sign_of, binder_class_of}
 use Rattle.math_print.specs.Depths.{deepest}
 use Rattle.math_print.specs.Levels.{formula_level_at, formula_level}
-use Rattle.math_print.specs.Names.{bound_names, numbered_names, AreFresh}
-use Rattle.math_print.proofs.FreshNames.{fresh}
+use Rattle.math_print.specs.Names.{bound_names, numbered_names}
+use Rattle.math_print.proofs.FreshNames.{fresh, AreFresh}
 use Rattle.math_print.proofs.NumberedNames.{numbered-is_name}
 use Rattle.math_print.specs.Printing.{name_at}
 use Rattle.math_print.specs.Written.{denied_at, denied, declared, written_step, written, raw_of}
 use Rattle.math_print.proofs.Equations.{deepest-Node, deepest-Bind}
 use Rattle.math_print.proofs.NamedScopes.{all_left, all_right, all_at}
-use Rattle.math_reread.specs.Items.{Part, Items, word, dot, bar, close_brace, not_sign, open_round, close_round, separated, declarations, binder_items, items_step, items, with_items, items_of_formula}
-use Rattle.math_reread.specs.Grades.{grade_at, grade_of, binder_grade, IsSpelled}
+use Rattle.math_reread.specs.Items.{Part, Items, word, dot, bar, close_brace, not_sign, open_round, close_round, separated, declarations, binder_items, items_step, items, items_of_formula}
+use Rattle.math_reread.proofs.ItemParts.{with_items}
+use Rattle.math_reread.specs.Grades.{IsSpelled}
+use Rattle.math_reread.proofs.Grades.{grade_at, grade_of, binder_grade}
 use Rattle.math_print.specs.Held.{HasNames, IsCounted}
 use Rattle.math_reread.proofs.Tables.{Quiet, quiet, ends, zero_le, quieter, quiet_at}
 use Rattle.math_reread.proofs.Readings.{Whole}

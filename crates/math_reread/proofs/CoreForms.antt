@@ -10,10 +10,11 @@ use Rattle.formula_core.specs.declared.raw.RawBinder.TheVariants as rawbinder
 use Rattle.formula_core.specs.declared.raw.RawBound.{RawBound}
 use Rattle.formula_core.specs.declared.raw.Raw.{Raw}
 use Rattle.type_core.specs.Bare.{Bares, Bounds, Form, Binding, Broken, nothing, more, plain, typed, has_names}
-use Rattle.type_core.specs.CoreForms.{free_in_form, free_in_binder, free_names, Part, bares, bound_before, bounds, plain_names, turned, ascribed, once, core_of_form, core_of_lambda, core_of_unnamed, core_of_binder, core_form, with_core, bound_part}
+use Rattle.type_core.specs.CoreForms.{free_in_form, free_in_binder, free_names, Part, bares, bound_before, bounds, plain_names, turned, ascribed, once, core_of_form, core_of_lambda, core_of_unnamed, core_of_binder, core_form}
+use Rattle.type_core.specs.PrivateViews.{with_core, bound_part}
 use Rattle.type_core.proofs.CoreEquations.{core_form-Int, core_form-Name, core_form-Node, core_form-Bind, free_names-Int, free_names-Name, free_names-Node, free_names-Bind}
-use Rattle.math_places.specs.Places.{unplaced, unplaced_bound}
-use Rattle.math_places.proofs.Equations.{unplaced-Int, unplaced-Name, unplaced-Node, unplaced-Bind}
+use Rattle.math_places.specs.Places.{unplaced}
+use Rattle.math_places.proofs.Equations.{unplaced-Int, unplaced-Name, unplaced-Node, unplaced-Bind, unplaced_bound}
 use Rattle.math_reread.proofs.BarePlaces.{unplaced_bare, unplaced_bares, unplaced_bounds}
 use Rattle.math_places.proofs.Induction.{OfType, raw_induction}
 use Rattle.math_reread.proofs.Typings.{same_has}

@@ -33,16 +33,19 @@ use Rattle.math_grammar.specs.Operators.{binder_sign_of, binder_class_of}
 use Rattle.math_print.specs.Characters.{bytes, separated as separated_texts}
 use Rattle.math_print.specs.Depths.{deepest}
 use Rattle.math_print.specs.Names.{bound_names}
-use Rattle.math_print.specs.Printing.{name_at, binder_end_of, body_text, binder_text, printed, with_texts, declarations as declaration_texts, text_of}
+use Rattle.math_print.specs.Printing.{name_at, binder_end_of, body_text, binder_text, printed, declarations as declaration_texts, text_of}
+use Rattle.math_print.specs.Private.{with_texts}
 use Rattle.math_print.proofs.Equations.{printed-Int, printed-Free, printed-Bound, printed-Node, printed-Bind, deepest-Node, deepest-Bind}
 use Rattle.math_print.proofs.NamedScopes.{all_left, all_right}
-use Rattle.token_text.specs.Spacing.{Follows, Fits, Spaced, the_end, IsCutInto}
+use Rattle.token_text.specs.Spacing.{Fits, Spaced, the_end, IsCutInto}
+use Rattle.token_text.proofs.Following.{Follows}
 use Rattle.token_text.proofs.Cutting.{spaced_cut}
 use Rattle.token_text.proofs.Names.{name_lettered}
 use Rattle.token_text.proofs.Numbers.{fits-number, number_lettered}
 use Rattle.token_text.proofs.Signs.{opens_set}
 use Rattle.token_text.proofs.Words.{lettered_opens_set}
-use Rattle.math_reread.specs.Items.{Part, Items, dot, bar, close_brace, not_sign, open_round, close_round, separated, declarations, binder_end, body_items, binder_items, items_step, items, with_items, items_of_formula}
+use Rattle.math_reread.specs.Items.{Part, Items, dot, bar, close_brace, not_sign, open_round, close_round, separated, declarations, binder_end, body_items, binder_items, items_step, items, items_of_formula}
+use Rattle.math_reread.proofs.ItemParts.{with_items}
 use Rattle.math_print.specs.Held.{HasNames, IsCounted}
 use Rattle.math_print.specs.Held.{literals, HasNarrowNumbers}
 use Rattle.math_print.proofs.Literals.{literals-Int, literals-Node, literals-Bind}

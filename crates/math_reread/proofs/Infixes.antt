@@ -33,7 +33,8 @@ use Rattle.math_print.specs.declared.levels.Side.TheVariants as side
 use Rattle.math_print.specs.Levels.{level_of, formula_level, is_relation, is_same_connective, is_enclosed, goes_on as goes_on_left, needs_parentheses}
 use Rattle.math_print.specs.Written.{written, denied, operator_raw}
 use Rattle.math_reread.specs.Items.{sign_token, operand_items, operator_items, Part, items}
-use Rattle.math_reread.specs.Grades.{form_grade, operator_grade, grade_of}
+use Rattle.math_reread.specs.Grades.{form_grade}
+use Rattle.math_reread.proofs.Grades.{operator_grade, grade_of}
 use Rattle.math_reread.proofs.Tables.{sort_rank, top, ends, le_through, quieter, least_value, quiet, left_value, right_value, sign_rank, value_at, left_is_tight, right_is_tight, left_is_quiet, right_is_quiet, goes_on_chained}
 use Rattle.math_reread.proofs.Readings.{Whole, round_grade, rounded, infix_form}
 

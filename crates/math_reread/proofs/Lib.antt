@@ -20,3 +20,5 @@ pub mod CoreForms
 pub mod OtherPlaces
 pub mod Reread
 pub mod Known
+pub mod Grades
+pub mod ItemParts

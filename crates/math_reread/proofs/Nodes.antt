@@ -45,8 +45,9 @@ use Rattle.math_grammar.specs.Operators.{sign_of, class_of}
 use Rattle.math_print.specs.Levels.{level_of, formula_level}
 use Rattle.math_print.specs.Signs.{denied_sign_of}
 use Rattle.math_print.specs.Written.{written, denied_at, denied, typed_raw, operator_raw}
-use Rattle.math_reread.specs.Items.{not_sign, open_round, close_round, denied_class_of, sign_token, denied_sign_token, operator_items, node_items, typed_items, Part, items, with_items}
-use Rattle.math_reread.specs.Grades.{operator_grade, grade_of}
+use Rattle.math_reread.specs.Items.{not_sign, open_round, close_round, denied_class_of, sign_token, denied_sign_token, operator_items, node_items, typed_items, Part, items}
+use Rattle.math_reread.proofs.ItemParts.{with_items}
+use Rattle.math_reread.proofs.Grades.{operator_grade, grade_of}
 use Rattle.math_reread.proofs.Tables.{quiet, top}
 use Rattle.math_reread.proofs.Readings.{Whole, call_form, set_form, IsValue, AreValues, none_more, one_more}
 use Rattle.math_reread.proofs.Infixes.{IsRead, is_of_values, both_true, IsInfix, infix_reads, infix_values}

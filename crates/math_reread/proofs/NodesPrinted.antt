@@ -27,9 +27,12 @@ use Rattle.math_print.specs.declared.levels.Side.TheVariants as side
 use Rattle.math_print.specs.Characters.{bytes, separated as separated_texts}
 use Rattle.math_print.specs.Levels.{needs_parentheses}
 use Rattle.math_print.specs.Signs.{opening_of, closing_of}
-use Rattle.math_print.specs.Printing.{Part as TextPart, operand, typed_text, operator_text, printed, with_texts}
-use Rattle.token_text.specs.Spacing.{stops, Follows, Fits}
-use Rattle.math_reread.specs.Items.{Part, not_sign, open_round, close_round, open_square, close_square, sign_token, denied_sign_token, opening_items, closing_items, operand_items, typed_items, separated, operator_items, items, with_items}
+use Rattle.math_print.specs.Printing.{Part as TextPart, operand, typed_text, operator_text, printed}
+use Rattle.math_print.specs.Private.{with_texts}
+use Rattle.token_text.specs.Spacing.{Fits}
+use Rattle.token_text.proofs.Following.{stops, Follows}
+use Rattle.math_reread.specs.Items.{Part, not_sign, open_round, close_round, open_square, close_square, sign_token, denied_sign_token, opening_items, closing_items, operand_items, typed_items, separated, operator_items, items}
+use Rattle.math_reread.proofs.ItemParts.{with_items}
 use Rattle.math_reread.proofs.TypeReadings.{AreNames}
 use Rattle.token_text.proofs.Signs.{opens_set}
 use Rattle.token_text.proofs.Operators.{is_alone, passed, fits_spaced, fits_alone}

@@ -26,8 +26,8 @@ use Rattle.formula_core.proofs.Types.{type_induction}
 use Rattle.math_print.specs.Names.{bound_names}
 use Rattle.math_print.specs.Printing.{name_at}
 use Rattle.math_print.specs.Written.{constant, type_raw_step, type_raw, denied_at, denied, typed_raw, operator_raw, declared, written_step, written, raw_of}
-use Rattle.math_places.specs.Places.{unplaced, unplaced_bound}
-use Rattle.math_places.proofs.Equations.{unplaced-Int, unplaced-Name, unplaced-Node, unplaced-Bind}
+use Rattle.math_places.specs.Places.{unplaced}
+use Rattle.math_places.proofs.Equations.{unplaced-Int, unplaced-Name, unplaced-Node, unplaced-Bind, unplaced_bound}
 
 abbrev IsPlaceless : Raw → Type 0
 IsPlaceless r = unplaced r ≡ r

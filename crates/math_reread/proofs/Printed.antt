@@ -3,7 +3,8 @@ use Rattle.std.proofs.Common.{◌≡◌, sym as back, subst, refl, ap, ℕ, zero
 use Rattle.math_grammar.specs.Tokens.{Item}
 use Rattle.math_print.specs.Characters.{bytes, comma_after as comma_text, separated_after as separated_text}
 use Rattle.math_print.specs.Printing.{in_parentheses}
-use Rattle.token_text.specs.Spacing.{stops, Follows, Fits, Spaced, a_blank, a_token}
+use Rattle.token_text.specs.Spacing.{Fits, Spaced, a_blank, a_token}
+use Rattle.token_text.proofs.Following.{stops, Follows}
 use Rattle.token_text.proofs.Signs.{opens_set}
 use Rattle.math_reread.specs.Items.{open_round, close_round, open_square, close_square, open_brace, close_brace, comma, in_round, comma_after, separated_after}
 use Rattle.math_reread.proofs.SignFits.{fits-open_round, fits-close_round, fits-open_square, fits-close_square, fits-open_brace, fits-close_brace, fits-comma}

@@ -12,7 +12,8 @@ use Rattle.math_grammar.specs.Grammar.{item}
 use Rattle.math_grammar.specs.Operators.{op_form, binder_sign_of, binder_class_of}
 use Rattle.math_print.specs.Signs.{denied_op}
 use Rattle.math_reread.specs.Items.{open_round, close_round, open_square, close_square, open_brace, close_brace, comma, dot, bar, typing, not_sign, sign_token, denied_sign_token}
-use Rattle.token_text.specs.Spacing.{is_space, Follows, Fits}
+use Rattle.token_text.specs.Spacing.{is_space, Fits}
+use Rattle.token_text.proofs.Following.{Follows}
 use Rattle.token_text.proofs.Signs.{opens_set, free_fits, passing_sign}
 use Rattle.token_text.proofs.Operators.{is_signed, is_written, written_fits}
 

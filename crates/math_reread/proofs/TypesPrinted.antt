@@ -19,7 +19,8 @@ use Rattle.math_print.specs.Printing.{name_at, typed_text, declarations as decla
 use Rattle.math_print.specs.Types.{type_text, right_side}
 use Rattle.math_print.proofs.NamedScopes.{all_left, all_right}
 use Rattle.math_print.proofs.TypeTexts.{type_text-Int, type_text-Bool, type_text-Given, type_text-Pow, type_text-Pair, type_text-Truth}
-use Rattle.token_text.specs.Spacing.{stops, Follows, Fits}
+use Rattle.token_text.specs.Spacing.{Fits}
+use Rattle.token_text.proofs.Following.{stops, Follows}
 use Rattle.token_text.proofs.Names.{fits-name, name_lettered}
 use Rattle.token_text.proofs.Words.{lettered_opens_set}
 use Rattle.math_reread.specs.Items.{word, open_round, close_round, typing, sign_token, right_items, type_items_step, type_items, typed_items, separated, declarations}

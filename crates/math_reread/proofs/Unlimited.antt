@@ -26,7 +26,8 @@ use Rattle.math_print.specs.declared.levels.Side.{Side}
 use Rattle.math_print.specs.declared.levels.Side.TheVariants as side
 use Rattle.math_print.specs.Levels.{needs_parentheses}
 use Rattle.math_print.specs.Names.{bound_names}
-use Rattle.math_reread.specs.Items.{Items, Part, close_round, close_square, close_brace, dot, bar, denied_class_of, sign_token, denied_sign_token, opening_items, closing_items, right_items, type_items_step, type_items, in_round, operand_items, typed_items, constant_items, unary_items, second_items, comma_after, separated_after, separated, operator_items, node_items, declarations, binder_end, body_items, binder_items, bind_items, items_step, items, with_items, items_of_formula}
+use Rattle.math_reread.specs.Items.{Items, Part, close_round, close_square, close_brace, dot, bar, denied_class_of, sign_token, denied_sign_token, opening_items, closing_items, right_items, type_items_step, type_items, in_round, operand_items, typed_items, constant_items, unary_items, second_items, comma_after, separated_after, separated, operator_items, node_items, declarations, binder_end, body_items, binder_items, bind_items, items_step, items, items_of_formula}
+use Rattle.math_reread.proofs.ItemParts.{with_items}
 use Rattle.math_reread.proofs.AnyLimit.{is_limited, IsUnlimited, AreUnlimited}
 
 joined : (s m : List Item) → AreUnlimited s → AreUnlimited m → AreUnlimited (s ++ m)

@@ -211,10 +211,6 @@ items_step names (Bind b types parts t) denied depth = bind_items names b types 
 abbrev pub items : List (List ℕ) → Formula → Items
 items names = para-Formula Items (items_step names)
 
--- formulas beside their tokens
-abbrev pub with_items : List (List ℕ) → List Formula → List Part
-with_items names parts = map (λ f. (f, items names f)) parts
-
 -- the tokens of the printed text of a formula
 abbrev pub items_of_formula : Formula → List Item
 items_of_formula f = items (bound_names f) f false 0

@@ -11,7 +11,8 @@ use Rattle.math_tokens.proofs.Longest.{none_beyond}
 use Rattle.math_tokens.specs.declared.lexemes.Lexeme.{Lexeme}
 use Rattle.math_tokens.specs.declared.lexemes.Lexeme.TheVariants.{Sign, Word, Primed, Number}
 use Rattle.formula_core.specs.Names.{starts_word, is_in_word}
-use Rattle.math_tokens.specs.Lexemes.{Forms, sign_in, is_digit, is_word, word_length, is_digits, IsLexeme, a_sign, a_word, a_primed, a_number, Begins, Best, length_of, name_length, other_choice, choice}
+use Rattle.math_tokens.specs.Lexemes.{Forms, sign_in, is_digit, is_word, is_digits, IsLexeme, a_sign, a_word, a_primed, a_number}
+use Rattle.math_tokens.specs.Private.{word_length, Begins, Best, length_of, name_length, other_choice, choice}
 
 module _ (p : ℕ → Bool) where
   -- a front that passes is no longer than the longest that does

@@ -7,7 +7,8 @@ use Rattle.std.proofs.lemmas.Slice.Eq.{bytes_eq-Decides}
 use Rattle.std.specs.Borrow.{Bor}
 use Rattle.std.proofs.Common.{get_or}
 use Rattle.std.proofs.lemmas.List.{take_more, map-append}
-use Rattle.math_tokens.specs.Lexemes.{Forms, sign_in, Best, better, length_of, table}
+use Rattle.math_tokens.specs.Lexemes.{Forms, sign_in}
+use Rattle.math_tokens.specs.Private.{Best, better, length_of, table}
 
 abbrev pub or_else : Option ℕ → Option ℕ → Option ℕ
 or_else None o = o

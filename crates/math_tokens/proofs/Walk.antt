@@ -5,7 +5,12 @@ use Rattle.math_tokens.specs.declared.cutting.TokenFault.{TokenFault}
 use Rattle.math_tokens.specs.declared.cutting.TokenFault.TheVariants as fault
 use Rattle.math_tokens.specs.declared.cutting.Token.{Token}
 use Rattle.math_tokens.specs.Lexemes.{Forms}
-use Rattle.math_tokens.specs.Texts.{blank_length, IsTokenAt, Cut, past_token, fault_later, fault_here, behind, Cuts}
+use Rattle.math_tokens.specs.Texts.{blank_length, IsTokenAt, Cut, past_token, fault_later, fault_here, Cuts}
+
+-- tokens before the others, if there is no fault
+abbrev pub behind : List Token → Result (List Token) TokenFault → Result (List Token) TokenFault
+behind ts (Ok us) = Ok (ts ++ us)
+behind ts (Err f) = Err f
 
 module _ (forms : Forms) (text : List ℕ) where
   pub blank_there : (at : ℕ) → at < length text → IsTokenAt forms text at (Ok None) → 0 < blank_length (drop at text)

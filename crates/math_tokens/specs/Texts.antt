@@ -1,5 +1,5 @@
 -- The tokens of a text.
-use Rattle.std.specs.Prelude.{◌≡◌, ℕ, ◌+◌, ◌^◌, ◌<◌, ◌≤◌, ◌++◌, ◌==◌, ◌||◌, List, [], ◌∷◌, length, take, drop, Option, Some, None, Result, Ok, Err, ◌⊎◌, cond, nat_le, nat_lt, pos, Vec}
+use Rattle.std.specs.Prelude.{◌≡◌, ℕ, ◌+◌, ◌^◌, ◌<◌, ◌≤◌, ◌==◌, ◌||◌, List, [], ◌∷◌, length, take, drop, Option, Some, None, Result, Ok, Err, ◌⊎◌, cond, nat_le, nat_lt, pos, Vec}
 use Rattle.std.specs.declared.alloc.Global.{Global}
 use Rattle.math_tokens.specs.declared.lexemes.Lexeme.{Lexeme}
 use Rattle.math_tokens.specs.declared.lexemes.Lexeme.TheVariants as lexeme
@@ -52,11 +52,6 @@ pub data Cut (forms : Forms) (text : List ℕ) : ℕ → Result (List Token) Tok
   fault_later : {at : ℕ} {f : TokenFault} (t : Token) →
       IsTokenAt forms text at (Ok (Some t)) → Cut forms text t.to (Err f) → Cut forms text at (Err f)
   fault_here : {at : ℕ} {f : TokenFault} → IsTokenAt forms text at (Err f) → Cut forms text at (Err f)
-
--- tokens before the others, if there is no fault
-abbrev pub behind : List Token → Result (List Token) TokenFault → Result (List Token) TokenFault
-behind ts (Ok us) = Ok (ts ++ us)
-behind ts (Err f) = Err f
 
 -- the answer is what comes of the text, unless memory ran out
 abbrev pub Cuts : Forms → List ℕ → Result (Vec Token Global) TokenFault → Type 0

@@ -1,9 +1,8 @@
 //! The tokens of a text.
 
 ghost use Rattle.std.specs.Prelude.{◌≡◌, ◌^◌, ◌<◌, ◌≤◌, length, IsTrue};
-ghost use Rattle.math_tokens.specs.Lexemes.{table};
 ghost use Rattle.math_tokens.specs.Texts.{blank_length, meaning, IsTokenAt, Cuts};
-ghost use Rattle.math_tokens.specs.Private.{are_groups};
+ghost use Rattle.math_tokens.specs.Private.{are_groups, table};
 ghost use Rattle.math_tokens.specs.declared.cutting.TokenFault.TheVariants as fault;
 
 use crate::lexemes::{Lexeme, longest_lexeme, number};

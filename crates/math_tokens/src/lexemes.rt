@@ -3,8 +3,8 @@
 ghost use Rattle.std.specs.Prelude.{◌≡◌, ◌≤◌, ◌^◌, length, IsTrue, MatchOption, pos};
 ghost use Rattle.std.specs.List.{prefix_len};
 ghost use Rattle.formula_core.specs.Names.{starts_word, is_in_word};
-ghost use Rattle.math_tokens.specs.Lexemes.{is_digit, word_length, name_length, table, Begins, choice, value_of};
-ghost use Rattle.math_tokens.specs.Private.{are_groups};
+ghost use Rattle.math_tokens.specs.Lexemes.{is_digit, value_of};
+ghost use Rattle.math_tokens.specs.Private.{are_groups, word_length, name_length, table, Begins, choice};
 
 use crate::signs::longest_form;
 use formula_core::is_in_word;

@@ -1,8 +1,7 @@
 //! The signs of formulas.
 
 ghost use Rattle.std.specs.Prelude.{◌≡◌, ◌≤◌, ◌-◌, IsTrue, drop, length, take};
-ghost use Rattle.math_tokens.specs.Lexemes.{table, Best, better};
-ghost use Rattle.math_tokens.specs.Private.{are_groups, IsGroup};
+ghost use Rattle.math_tokens.specs.Private.{are_groups, IsGroup, table, Best, better};
 
 /// Each form of each sign, with the sign's number, in the order of their first bytes. Where one form begins another, the longer
 /// one counts.

@@ -1,7 +1,11 @@
 -- What is in a list that is made element by element is given at some element, and what is given at some element is in it.
 use Rattle.std.proofs.Common.{◌⊎◌, inl, inr, sym, ap, subst, refl, List, [], ◌∷◌, ◌++◌, append_assoc, ◌↔◌}
 use Rattle.std.proofs.lemmas.List.{append-nil}
-use Rattle.model_core.specs.Each.{IsIn, at_each, for_each, IsGivenBeside, IsGiven}
+use Rattle.model_core.specs.Each.{IsIn, at_each, for_each, IsGivenBeside}
+
+-- y is given at some element
+abbrev pub IsGiven : {X Y : Type 0} → (X → List Y) → List X → Y → Type 0
+IsGiven {X} rows xs y = (x : X) × IsIn x xs × IsIn y (rows x)
 
 pub in_either : {Y : Type 0} (y : Y) (xs ys : List Y) → IsIn y (xs ++ ys) → IsIn y xs ⊎ IsIn y ys
 in_either y [] ys h = inr h

@@ -24,7 +24,3 @@ IsIn y (z ∷ zs) = (y ≡ z) ⊎ IsIn y zs
 abbrev pub IsGivenBeside : {X Y : Type 0} → (List X → X → List Y) → List X → List X → Y → Type 0
 IsGivenBeside {X} rows earlier xs y =
     (before : List X) × (x : X) × (behind : List X) × (xs ≡ before ++ x ∷ behind) × IsIn y (rows (earlier ++ before) x)
-
--- y is given at some element
-abbrev pub IsGiven : {X Y : Type 0} → (X → List Y) → List X → Y → Type 0
-IsGiven {X} rows xs y = (x : X) × IsIn x xs × IsIn y (rows x)

@@ -4,7 +4,8 @@ use Rattle.std.proofs.lemmas.List.{drop-append-le, take-append-le, take_all, dro
 use Rattle.std.proofs.lemmas.List.Elements.{All-head, All-tail}
 use Rattle.std.specs.List.{All}
 use Rattle.outside.specs.Disk.{Sides, Elapses}
-use Rattle.outside.specs.DiskCalls.{Call, seen, IsInside, wrote, Images, Since}
+use Rattle.outside.specs.DiskCalls.{Call, seen, wrote, Images, Since}
+use Rattle.outside.specs.Private.{IsInside}
 use Rattle.outside.specs.declared.side.Side.{Side}
 use Rattle.outside.specs.declared.entry.Entry.{Entry}
 use Rattle.outside.specs.declared.entry.Entry.TheVariants.{Nothing, Wrote, Tore, Cut, ToreCut, Synced}

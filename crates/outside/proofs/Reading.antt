@@ -5,7 +5,8 @@ use Rattle.std.specs.Prelude.{Bool, true, false, nat_le, nat_lt, ◌&&◌}
 use Rattle.std.specs.Bool.{if◌then◌else◌}
 use Rattle.std.specs.declared.result.Result.TheVariants.{Ok, Err}
 use Rattle.outside.specs.Disk.{Sides, overwritten, Torn, TornCut, OnSide, Reads, Leaves, SameImages, Syncs, Elapses}
-use Rattle.outside.specs.DiskCalls.{Call, nothing, wrote, tore, was_cut, tore_cut, synced, Images, Since, contents, changed, are_possible, noted, IsStill}
+use Rattle.outside.specs.DiskCalls.{Call, nothing, wrote, tore, was_cut, tore_cut, synced, Images, Since, contents, changed, noted}
+use Rattle.outside.specs.Private.{are_possible, IsStill}
 use Rattle.outside.specs.declared.side.Side.{Side}
 use Rattle.outside.proofs.Kept.{elapses, elapses_same}
 use Rattle.outside.specs.declared.side.Side.TheVariants.{Left, Right}

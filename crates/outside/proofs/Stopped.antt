@@ -7,7 +7,8 @@ use Rattle.std.proofs.lemmas.List.{places, same_lists, get_or-replicate, length-
 use Rattle.outside.specs.declared.side.Side.{Side}
 use Rattle.outside.specs.declared.side.Side.TheVariants.{Left, Right}
 use Rattle.outside.specs.Disk.{Sides, overwritten, Torn, TornCut, OnSide}
-use Rattle.outside.specs.DiskCalls.{Call, nothing, wrote, tore, was_cut, tore_cut, synced, Images, Since, by_side, contents, changed, are_possible}
+use Rattle.outside.specs.DiskCalls.{Call, nothing, wrote, tore, was_cut, tore_cut, synced, Images, Since, by_side, contents, changed}
+use Rattle.outside.specs.Private.{are_possible}
 use Rattle.outside.proofs.Extremes.{extreme, filled_everywhere}
 use Rattle.outside.specs.DiskStop.{IsExtreme, IsFilled, torn, torn_cut, left_after, begun, unsynced}
 use Rattle.outside.specs.DiskLaws.{counts_now}

@@ -1,5 +1,5 @@
 -- The calls on a disk in memory, and what a stop after them may leave.
-use Rattle.std.specs.Prelude.{◌≡◌, ◌⊎◌, ℕ, ◌+◌, ◌≤◌, List, [], ◌∷◌, length, take, drop, Bool, true, nat_le, nat_lt, ◌&&◌, ⊤}
+use Rattle.std.specs.Prelude.{◌≡◌, ◌⊎◌, ℕ, ◌+◌, ◌≤◌, List, [], ◌∷◌, length, take, drop, nat_lt}
 use Rattle.std.specs.Bool.{if◌then◌else◌}
 use Rattle.outside.specs.Disk.{Sides, overwritten, Torn, TornCut, OnSide}
 use Rattle.outside.specs.declared.side.Side.{Side}
@@ -15,15 +15,6 @@ pub data Call : Type 0 where
   was_cut : Side → ℕ → Call
   tore_cut : Side → ℕ → Call
   synced : Side → Call
-
--- where the kept bytes of a write end
-abbrev pub end_of : Entry → ℕ
-end_of (Wrote side at from count) = from + count
-end_of rest = 0
-
--- the bytes of a kept write stand among those that are kept
-abbrev pub IsInside : ℕ → Entry → Type 0
-IsInside n entry = end_of entry ≤ n
 
 abbrev pub seen : List ℕ → Entry → Call
 seen written Nothing = nothing
@@ -50,13 +41,6 @@ contents first [] = first
 contents first (wrote side at bytes ∷ calls) = changed side (overwritten at bytes) (contents first calls)
 contents first (was_cut side len ∷ calls) = changed side (take len) (contents first calls)
 contents first (call ∷ calls) = contents first calls
-
--- each write and cut began inside the side
-abbrev pub are_possible : Sides → List Call → Bool
-are_possible first [] = true
-are_possible first (wrote side at bytes ∷ calls) = nat_le at (length (contents first calls side)) && are_possible first calls
-are_possible first (was_cut side len ∷ calls) = nat_le len (length (contents first calls side)) && are_possible first calls
-are_possible first (call ∷ calls) = are_possible first calls
 
 -- what a call makes of an image, where reads gave these bytes before it
 abbrev pub Step : Sides → Call → Sides → Sides → Type 0
@@ -86,9 +70,3 @@ abbrev pub bytes_in : List Call → ℕ
 bytes_in [] = 0
 bytes_in (wrote side at bytes ∷ calls) = length bytes + bytes_in calls
 bytes_in (call ∷ calls) = bytes_in calls
-
--- a call that left all bytes as reads gave them
-abbrev pub IsStill : Call → Type 0
-IsStill (wrote side at bytes) = ⊥
-IsStill (was_cut side len) = ⊥
-IsStill call = ⊤

@@ -7,4 +7,5 @@ pub mod DiskMemory
 pub mod DiskStop
 pub mod Files
 pub mod Memory
+pub mod Private
 pub mod PrivateDiskKept

@@ -1,7 +1,7 @@
 // The calls on a disk in memory, and the bytes that they wrote, in space taken when the disk is made.
 ghost use Rattle.std.specs.Prelude.{◌≤◌, vec_len, vec_capacity};
 ghost use Rattle.std.specs.List.{All};
-ghost use Rattle.outside.specs.DiskCalls.{IsInside};
+ghost use Rattle.outside.specs.Private.{IsInside};
 
 use crate::entry::Entry;
 

@@ -1,8 +1,10 @@
 // How a disk in memory keeps its calls.
 ghost use Rattle.std.specs.Prelude.{◌≡◌, ◌+◌, ◌≤◌, ◌<◌, ◌∷◌, [], ◌↔◌, length, vec_len, IfOk, true};
 ghost use Rattle.outside.specs.declared.side.Side.{Side};
-ghost use Rattle.outside.specs.DiskCalls.{IsInside, wrote, noted, seen};
-ghost use Rattle.outside.specs.DiskLog.{calls_of, first_calls};
+ghost use Rattle.outside.specs.DiskCalls.{wrote, noted, seen};
+ghost use Rattle.outside.specs.Private.{IsInside};
+ghost use Rattle.outside.specs.DiskLog.{calls_of};
+ghost use Rattle.outside.specs.PrivateDiskKept.{first_calls};
 ghost use Rattle.outside.specs.DiskStop.{begun};
 
 use crate::Side;

@@ -1,7 +1,7 @@
 // What a stop leaves on a disk in memory.
 ghost use Rattle.std.specs.Prelude.{◌≡◌, ◌≤◌, vec_len, IfOk};
 ghost use Rattle.outside.specs.DiskCalls.{by_side};
-ghost use Rattle.outside.specs.DiskLog.{first_calls};
+ghost use Rattle.outside.specs.PrivateDiskKept.{first_calls};
 ghost use Rattle.outside.specs.DiskStop.{left_after};
 
 use crate::Side;

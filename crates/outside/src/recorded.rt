@@ -1,6 +1,7 @@
 // The two sides of a disk in memory, what they held at first, and every call on them.
 ghost use Rattle.std.specs.Prelude.{◌≡◌, ◌+◌, ◌≤◌, vec_len, vec_capacity, IsTrue};
-ghost use Rattle.outside.specs.DiskCalls.{by_side, bytes_in, contents, are_possible};
+ghost use Rattle.outside.specs.DiskCalls.{by_side, bytes_in, contents};
+ghost use Rattle.outside.specs.Private.{are_possible};
 ghost use Rattle.outside.specs.DiskLog.{calls_of};
 ghost use Rattle.outside.specs.declared.side.Side.TheVariants.{Left, Right};
 

@@ -1,7 +1,8 @@
 // What the calls on a disk in memory do to its sides, each kept once it is done.
 ghost use Rattle.std.specs.Prelude.{◌≡◌, ◌+◌, ◌≤◌, ◌<◌, ◌∷◌, [], ◌↔◌, vec_len, vec_capacity, length, take, IfOk, IsTrue, true};
 ghost use Rattle.outside.specs.Disk.{overwritten, ReadsAt};
-ghost use Rattle.outside.specs.DiskCalls.{by_side, bytes_in, contents, noted, seen, IsInside, IsStill, wrote, was_cut, synced};
+ghost use Rattle.outside.specs.DiskCalls.{by_side, bytes_in, contents, noted, seen, wrote, was_cut, synced};
+ghost use Rattle.outside.specs.Private.{IsInside, IsStill};
 ghost use Rattle.outside.specs.DiskLog.{calls_of};
 ghost use Rattle.outside.specs.PrivateDiskKept.{IsSame};
 

@@ -1,7 +1,8 @@
 // One side of a disk in memory while the kept calls are made again.
 ghost use Rattle.std.specs.Prelude.{◌≡◌, ◌+◌, ◌≤◌, ◌∷◌, List, length, take, replicate, OnOk, IfOk};
 ghost use Rattle.outside.specs.Disk.{Sides, overwritten};
-ghost use Rattle.outside.specs.DiskCalls.{Call, IsInside, contents, seen};
+ghost use Rattle.outside.specs.DiskCalls.{Call, contents, seen};
+ghost use Rattle.outside.specs.Private.{IsInside};
 ghost use Rattle.outside.specs.DiskStop.{left_after, torn, torn_cut};
 
 use crate::Side;

@@ -21,7 +21,8 @@ use Rattle.core_steps.proofs.Lists.{split}
 use Rattle.core_steps.proofs.NameMaps.{get_other}
 use Rattle.prepared_events.specs.declared.moves.TicketMove.{TicketMove}
 use Rattle.prepared_events.specs.declared.moves.TicketMove.TheVariants.{Stay, SendOut, TakeIn, Try}
-use Rattle.prepared_events.specs.Closed.{AreClosedBefore, AreOthersBefore, IsThere}
+use Rattle.prepared_events.specs.Closed.{AreClosedBefore, IsThere}
+use Rattle.prepared_events.specs.Private.{AreOthersBefore}
 use Rattle.prepared_events.specs.Prepared.{FitsMove, moved, changed, without, tried_of, Ready}
 
 -- an obligation whose stored proof and last tried sequent stay is closed as before, where no ticket for it came in

@@ -1,10 +1,8 @@
 -- Obligations that aren't open.
-use Rattle.std.specs.Prelude.{◌≢◌, ◌<◌, ⊤, ℕ, List, length, take}
+use Rattle.std.specs.Prelude.{◌<◌, ⊤, ℕ, List, length, take}
 use Rattle.std.specs.List.{AllByRecursion}
 use Rattle.sequent_core.specs.declared.Obligation.{Obligation}
 use Rattle.sequent_core.specs.declared.Ticket.{Ticket}
-use Rattle.build_core.specs.Projects.{Project}
-use Rattle.build_core.specs.Tables.{IsTable as IsTableOf}
 use Rattle.core_steps.specs.Table.{IsTable}
 use Rattle.core_steps.specs.State.{State}
 use Rattle.core_steps.specs.Tickets.{IsOpen}
@@ -15,10 +13,6 @@ use Rattle.prepared_events.specs.declared.moves.TicketMove.TheVariants.{TakeIn, 
 abbrev pub AreClosedBefore : State → ℕ → Type 0
 AreClosedBefore s at =
     (table : List Obligation) → IsTable s.durable.built table → AllByRecursion (λ o. IsOpen s o → ⊥) (take at table)
-
--- before this place no obligation has the name
-abbrev pub AreOthersBefore : Project → List ℕ → ℕ → Type 0
-AreOthersBefore project name at = (table : List Obligation) → IsTableOf project table → AllByRecursion (λ o. o.name ≢ name) (take at table)
 
 -- the ticket that comes in is there
 abbrev pub IsThere : List Ticket → TicketMove → Type 0

@@ -9,11 +9,8 @@ use Rattle.proof_entries.specs.declared.Entry.TheVariants.{Put, Build, SetProof}
 use Rattle.build_core.specs.Moved.{HasFewSteps}
 use Rattle.core_steps.specs.Durable.{text_cmp, ProjectMap, IsSmallProject}
 use Rattle.core_steps.specs.declared.durable.Durable.{Durable}
-use Rattle.core_steps.specs.declared.events.Event.{Event}
 use Rattle.core_steps.specs.declared.events.Reply.{Reply}
 use Rattle.core_steps.specs.State.{State, entered_if}
-use Rattle.core_steps.specs.Outcomes.{StepOutcome}
-use Rattle.core_steps.specs.Step.{Comes}
 use Rattle.prepared_events.specs.declared.moves.TicketMove.{TicketMove}
 use Rattle.prepared_events.specs.declared.moves.TicketMove.TheVariants.{Stay, SendOut, TakeIn, Try}
 
@@ -48,10 +45,6 @@ pub record Ready : Type 0 where
 abbrev pub changed : Ready → State → State
 changed p s = moved p.tickets (record s { durable = entered_if s.durable p.entry })
 
--- what comes of it
-abbrev pub made : Ready → State → StepOutcome
-made p s = record { reply = p.reply; entry = p.entry; new = changed p s }
-
 -- there is memory for what the entry adds to the texts or to the proofs
 abbrev pub FitsEntry : ProjectMap → FinMap text_cmp Proof → ℕ → ℕ → Option Entry → Type 0
 FitsEntry texts proofs text_room proof_room (Some (Put name text)) = contains_key texts name ≡ false → len texts < text_room
@@ -80,15 +73,6 @@ pub record IsReady (s : State) (p : Ready) : Type 0 where
   pub entry_room : FitsEntry s.durable.texts s.durable.proofs p.text_room p.proof_room p.entry
   pub built : FitsBuilt s.durable.texts p.built p.entry
   pub ticket_room : FitsMove s.out s.tried s.next p.tried_room p.ticket_room p.tickets
-
--- in this state something comes of it, and all is there for it
-pub record ComesAs (s : State) (X : StepOutcome → Type 0) (p : Ready) : Type 0 where
-  pub comes : X (made p s)
-  pub ready : IsReady s p
-
--- in this state the event comes of it, and all is there for it
-abbrev pub Prepares : State → Event → Ready → Type 0
-Prepares s event p = ComesAs s (Comes s event) p
 
 -- a build of the present texts takes few steps
 abbrev pub BuildsInFewSteps : Durable → ℕ → ℕ → Type 0

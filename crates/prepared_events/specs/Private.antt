@@ -1,6 +1,10 @@
--- An entry's parts, one after another.
-use Rattle.std.specs.Prelude.{◌≡◌, ◌<◌, ⊤, ℕ, Option, Some, None, false}
+-- An entry's parts, one after another, and the obligations before one.
+use Rattle.std.specs.Prelude.{◌≡◌, ◌<◌, ⊤, ℕ, Option, Some, None, false, ◌≢◌, List, take}
 use Rattle.std.specs.FinMap.{FinMap, insert, remove, len, contains_key}
+use Rattle.std.specs.List.{AllByRecursion}
+use Rattle.sequent_core.specs.declared.Obligation.{Obligation}
+use Rattle.build_core.specs.Projects.{Project}
+use Rattle.build_core.specs.Tables.{IsTable as IsTableOf}
 use Rattle.proof_entries.specs.declared.Entry.{Entry}
 use Rattle.proof_entries.specs.declared.Entry.TheVariants.{Put, Drop, Build, SetProof, Purge}
 use Rattle.proof_entries.specs.declared.Proof.{Proof}
@@ -42,3 +46,7 @@ without_text texts _ = texts
 abbrev pub without_proofs : FinMap text_cmp Proof → Option Entry → FinMap text_cmp Proof
 without_proofs proofs (Some (Purge names)) = without_all proofs names
 without_proofs proofs _ = proofs
+
+-- before this place no obligation has the name
+abbrev pub AreOthersBefore : Project → List ℕ → ℕ → Type 0
+AreOthersBefore project name at = (table : List Obligation) → IsTableOf project table → AllByRecursion (λ o. o.name ≢ name) (take at table)

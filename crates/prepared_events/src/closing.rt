@@ -3,7 +3,8 @@ ghost use Rattle.std.specs.Prelude.{◌≡◌, ◌≤◌};
 ghost use Rattle.std.specs.FinMap as map;
 ghost use Rattle.std.specs.Option.{option_copied};
 ghost use Rattle.core_steps.specs.State.{State, entered_if};
-ghost use Rattle.prepared_events.specs.Closed.{AreClosedBefore, AreOthersBefore, IsThere};
+ghost use Rattle.prepared_events.specs.Closed.{AreClosedBefore, IsThere};
+ghost use Rattle.prepared_events.specs.Private.{AreOthersBefore};
 ghost use Rattle.prepared_events.specs.Prepared.{moved};
 
 use crate::moves::TicketMove;

@@ -2,7 +2,7 @@
 ghost use Rattle.std.specs.Prelude.{◌≡◌, IfSome, Some, None};
 ghost use Rattle.std.specs.Option.{option_copied, option_map};
 ghost use Rattle.std.specs.FinMap as map;
-ghost use Rattle.core_steps.specs.Private.{AreFactsOf};
+ghost use Rattle.core_steps.specs.Stored.{AreFactsOf};
 ghost use Rattle.prepared_events.specs.Kept.{HasFacts};
 ghost use Rattle.prepared_events.specs.Making.{telling, putting, dropping, building, keeping, purging, sending, taking_in, trying};
 

@@ -15,8 +15,8 @@ use Rattle.core_steps.specs.State.{State, opened, no_texts}
 use Rattle.project_store.specs.declared.fault.OpenFault.{OpenFault}
 use Rattle.project_store.specs.declared.fault.OpenFault.TheVariants.{Foreign, Damaged, TableFull, DiskFault, OutOfMemory}
 use Rattle.project_store.specs.Records.{IsBody, IsSmall, after_all, Leads}
-use Rattle.project_store.specs.Opening.{Meaning, durable, foreign, damaged, StandsFor, StandsAs, StandsAsSome, IsStop, IsCause, IsAnswerFor, opening_fault}
-use Rattle.project_store.specs.Private.{IsSingle, FindsStop, IsCoreFault}
+use Rattle.project_store.specs.Opening.{Meaning, durable, foreign, damaged, StandsFor, StandsAs, StandsAsSome, IsStop, IsCause, IsAnswerFor}
+use Rattle.project_store.specs.Private.{IsSingle, FindsStop, IsCoreFault, opening_fault}
 use Rattle.project_store.specs.Store.{IsSound, weight}
 
 means_stands : (sides : Sides) (side : Side) (generation : ℕ) (bodies : List (List ℕ)) → JournalStandsFor sides (meaning_of side generation bodies) → StandsAt sides side generation bodies

@@ -4,8 +4,6 @@ use Rattle.outside.specs.Disk.{Sides}
 use Rattle.outside.specs.declared.side.Side.{Side}
 use Rattle.journal_core.specs.Sides.{StandsAt, open_records}
 use Rattle.journal_core.specs.Start.{StandsFor as JournalStandsFor, foreign as no_journal, damaged as no_record}
-use Rattle.journal_core.specs.declared.piece.JournalFault.{JournalFault}
-use Rattle.journal_core.specs.declared.piece.JournalFault.TheVariants as journal
 use Rattle.proof_entries.specs.declared.Entry.{Entry}
 use Rattle.core_steps.specs.declared.durable.Durable.{Durable}
 use Rattle.core_steps.specs.State.{no_texts}
@@ -70,9 +68,3 @@ IsAnswerFor meaning (Damaged side gate) = meaning ≡ damaged side gate
 IsAnswerFor meaning (TableFull n) = (d : Durable) × (meaning ≡ durable d) × IsTooLarge d.built n
 IsAnswerFor meaning DiskFault = ⊤
 IsAnswerFor meaning OutOfMemory = ⊤
-
-abbrev pub opening_fault : JournalFault → OpenFault
-opening_fault (journal.Foreign side) = Foreign side
-opening_fault (journal.Damaged side gate) = Damaged side gate
-opening_fault journal.DiskFault = DiskFault
-opening_fault journal.OutOfMemory = OutOfMemory

@@ -18,6 +18,8 @@ use Rattle.prepared_events.specs.Prepared.{Ready, IsReady, changed}
 use Rattle.store_log.specs.declared.fault.StoreFault.{StoreFault}
 use Rattle.store_log.specs.declared.fault.StoreFault.TheVariants as store
 use Rattle.outside.specs.declared.side.Side.{Side}
+use Rattle.journal_core.specs.declared.piece.JournalFault.{JournalFault}
+use Rattle.journal_core.specs.declared.piece.JournalFault.TheVariants as journal
 use Rattle.project_store.specs.declared.fault.OpenFault.{OpenFault}
 use Rattle.project_store.specs.declared.fault.OpenFault.TheVariants.{Foreign, Damaged, TableFull, DiskFault, OutOfMemory}
 use Rattle.project_store.specs.Records.{IsBody, IsSmall, Leads, Recovers, RecoversAt, record_body}
@@ -129,3 +131,9 @@ pub record IsStopped {D : Type 0} (faults : D → ℕ) (old new : StoreState D) 
   pub room : HasNoRoomFor old.journal old.core event → fault ≢ store.DiskFault
   pub rose : fault ≡ store.DiskFault → Rose (faults old.journal.disk) (faults new.journal.disk)
   pub untouched : (fault ≡ store.DiskFault) ⊎ (new.journal ≡ old.journal)
+
+abbrev pub opening_fault : JournalFault → OpenFault
+opening_fault (journal.Foreign side) = Foreign side
+opening_fault (journal.Damaged side gate) = Damaged side gate
+opening_fault journal.DiskFault = DiskFault
+opening_fault journal.OutOfMemory = OutOfMemory

@@ -12,8 +12,8 @@ ghost use Rattle.core_steps.specs.Table.{IsTableWithin};
 ghost use Rattle.store_log.specs.declared.fault.StoreFault.{StoreFault};
 ghost use Rattle.project_store.specs.declared.fault.KeptFault.{KeptFault};
 ghost use Rattle.project_store.specs.Records.{Recovers};
-ghost use Rattle.project_store.specs.Private.{IsActed, IsStopped};
-ghost use Rattle.project_store.specs.Opening.{Meaning, StandsFor, durable, IsCause, IsAnswerFor, StandsAsSome, opening_fault};
+ghost use Rattle.project_store.specs.Private.{IsActed, IsStopped, opening_fault};
+ghost use Rattle.project_store.specs.Opening.{Meaning, StandsFor, durable, IsCause, IsAnswerFor, StandsAsSome};
 ghost use Rattle.project_store.specs.Store.{IsBeforeOrAfter, IsDiskFault, HasNoRoomFor, IsTooHeavy, Performs, again, failed_act, met};
 
 use crate::acting::perform;

@@ -11,10 +11,10 @@ use Rattle.proof_entries.specs.declared.proof.Origin.TheVariants.{Unknown}
 use Rattle.proof_entries.specs.declared.proof.Proof.{Proof}
 use Rattle.proof_codec.specs.declared.reader.ReadFault.{ReadFault}
 use Rattle.proof_codec.specs.declared.reader.ReadFault.TheVariants as faults
-use Rattle.proof_codec.specs.Forms.{IsReadAs, Misses}
+use Rattle.proof_codec.specs.Private.{IsReadAs, Misses, IsGoodAntecedent}
 use Rattle.proof_codec.specs.Parts.{IsAny, IsPair, pair_bytes, IsOption, option_bytes, IsList, list_bytes}
 use Rattle.proof_codec.specs.Formulas.{formula_bytes, IsGoodFormula}
-use Rattle.proof_codec.specs.Rules.{kind_bytes, IsGoodKind, identifier_bytes, IsGoodIdentifier, antecedent_parts, antecedent_bytes, IsGoodAntecedent, rule_parts, rule_bytes, IsGoodRule}
+use Rattle.proof_codec.specs.Rules.{kind_bytes, IsGoodKind, identifier_bytes, IsGoodIdentifier, antecedent_parts, antecedent_bytes, rule_parts, rule_bytes, IsGoodRule}
 use Rattle.proof_codec.specs.ProofTrees.{tree_bytes, IsGoodTree}
 use Rattle.proof_codec.specs.Entries.{origin_bytes, proof_parts, proof_bytes, IsGoodProof, old_proof_bytes, IsGoodOldProof}
 

@@ -13,15 +13,19 @@ use Rattle.sequent_core.specs.declared.tree.Tree.TheViews.{roll-out-Tree, rolls-
 use Rattle.sequent_core.specs.declared.tree.Tree.TheFolds.{map-Tree, fold-roll-Tree}
 use Rattle.proof_codec.specs.declared.reader.ReadFault.{ReadFault}
 use Rattle.proof_codec.specs.declared.reader.ReadFault.TheVariants as faults
-use Rattle.proof_codec.specs.Forms.{BeginsWith, IsReadAs, BeginsNone, Misses}
+use Rattle.proof_codec.specs.Forms.{BeginsWith, BeginsNone}
 use Rattle.proof_codec.specs.Numbers.{IsByte, byte, FitsU32, number_bytes}
-use Rattle.proof_codec.specs.Parts.{pair_bytes, AreItems, items_bytes, IsList, list_bytes}
+use Rattle.proof_codec.specs.Parts.{pair_bytes, IsList, list_bytes, IsPair}
 use Rattle.proof_codec.specs.Rules.{rule_bytes, IsGoodRule}
-use Rattle.proof_codec.specs.ProofTrees.{tree_bytes_step, tree_bytes, rules_step, rules_in, HasChildren, tree_height_step, tree_height, IsTreeWithin}
-use Rattle.proof_codec.specs.Private.{AreChildren, IsNodeWithin}
+use Rattle.proof_codec.specs.ProofTrees.{tree_bytes_step, tree_bytes, rules_step, rules_in, HasChildren}
+use Rattle.proof_codec.specs.Private.{AreChildren, IsReadAs, Misses, AreItems, items_bytes, tree_height_step, tree_height, IsTreeWithin}
 use Rattle.proof_codec.proofs.Items.{all_of_both, both_all, list_read, other_count}
 use Rattle.proof_codec.proofs.Narrow.{narrow_read, narrow_none}
 use Rattle.proof_codec.proofs.Tags.{same_behind}
+
+-- a rule with a child for each antecedent, none higher than this
+abbrev pub IsNodeWithin : ℕ → Rule × List Tree → Type 0
+IsNodeWithin depth node = IsPair IsGoodRule (IsList (IsTreeWithin depth)) node × (length node.1 ≡ length node.0.antecedents)
 
 abbrev pub node_bytes : Rule × List Tree → List ℕ
 node_bytes = pair_bytes rule_bytes (list_bytes tree_bytes)

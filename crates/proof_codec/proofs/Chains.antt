@@ -3,7 +3,8 @@ use Rattle.std.proofs.Common.{◌≡◌, ◌∙◌, refl, sym, ap, subst, ℕ, �
 use Rattle.std.specs.List.{flat_map, AllByRecursion}
 use Rattle.std.proofs.lemmas.List.{append-nil}
 use Rattle.std.proofs.lemmas.List.Concat.{flat_map-cons}
-use Rattle.proof_codec.specs.Forms.{BeginsWith, IsReadAs, BeginsNone}
+use Rattle.proof_codec.specs.Forms.{BeginsWith, BeginsNone}
+use Rattle.proof_codec.specs.Private.{IsReadAs}
 use Rattle.proof_codec.specs.Entries.{AreSpelled, IsStuckAt}
 
 module _ {A : Type 0} (P : A → Type 0) (f : A → List ℕ) where

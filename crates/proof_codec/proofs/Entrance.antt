@@ -5,7 +5,8 @@ use Rattle.proof_entries.specs.declared.entry.Entry.TheVariants.{Put, Drop, Buil
 use Rattle.proof_entries.specs.declared.proof.Proof.{Proof}
 use Rattle.proof_codec.specs.declared.reader.ReadFault.{ReadFault}
 use Rattle.proof_codec.specs.declared.reader.ReadFault.TheVariants as faults
-use Rattle.proof_codec.specs.Forms.{IsReadAs, BeginsNone, Misses}
+use Rattle.proof_codec.specs.Forms.{BeginsNone}
+use Rattle.proof_codec.specs.Private.{IsReadAs, Misses}
 use Rattle.proof_codec.specs.Numbers.{IsByte, byte, IsText, text_bytes}
 use Rattle.proof_codec.specs.Parts.{pair_bytes, IsPair, list_bytes, IsList}
 use Rattle.proof_codec.specs.Entries.{IsComponentName, IsPoName, IsEntryBy, bytes_by}

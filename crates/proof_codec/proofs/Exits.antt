@@ -3,7 +3,7 @@ use Rattle.std.proofs.Common.{refl, ℕ, List}
 use Rattle.proof_entries.specs.declared.entry.Entry.{Entry}
 use Rattle.proof_entries.specs.declared.entry.Entry.TheVariants.{Put, Drop, Build, SetProof, Purge}
 use Rattle.proof_entries.specs.declared.proof.Proof.{Proof}
-use Rattle.proof_codec.specs.Forms.{IsWrittenAs}
+use Rattle.proof_codec.specs.Private.{IsWrittenAs}
 use Rattle.proof_codec.specs.Numbers.{IsByte, byte, IsText, text_bytes}
 use Rattle.proof_codec.specs.Parts.{pair_bytes, IsPair, list_bytes, IsList}
 use Rattle.proof_codec.specs.Entries.{IsComponentName, IsPoName, IsEntryBy, bytes_by}

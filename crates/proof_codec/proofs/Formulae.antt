@@ -20,13 +20,13 @@ use Rattle.formula_core.specs.Sizes.{greatest, formula_height, formula_height_st
 use Rattle.formula_core.proofs.Weakening.{first_true, second_true, both_true}
 use Rattle.proof_codec.specs.declared.reader.ReadFault.{ReadFault}
 use Rattle.proof_codec.specs.declared.reader.ReadFault.TheVariants as faults
-use Rattle.proof_codec.specs.Forms.{BeginsWith, IsReadAs, BeginsNone, Misses, ReadsBy}
+use Rattle.proof_codec.specs.Forms.{BeginsWith, BeginsNone}
 use Rattle.proof_codec.specs.Numbers.{IsByte, byte, number_bytes, IsInteger, integer, FitsU32, text_bytes}
 use Rattle.proof_codec.specs.Names.{IsGoodName}
 use Rattle.proof_codec.specs.Parts.{IsAny, IsPair, pair_bytes, IsList, list_bytes}
 use Rattle.proof_codec.specs.Types.{type_bytes, has_carriers, IsGoodType}
-use Rattle.proof_codec.specs.Formulas.{is_type, op_bytes, binder_bytes, formula_bytes_step, formula_bytes, is_coded_step, is_coded, IsFormulaWithin}
-use Rattle.proof_codec.specs.Private.{ReadsLeaf}
+use Rattle.proof_codec.specs.Formulas.{is_type, formula_bytes_step, formula_bytes, is_coded_step, is_coded}
+use Rattle.proof_codec.specs.Private.{ReadsLeaf, IsReadAs, Misses, ReadsBy, op_bytes, binder_bytes, IsFormulaWithin}
 use Rattle.proof_codec.proofs.Pairs.{pair_read, no_second_there, no_first_there}
 
 abbrev Parts : ℕ → List Formula × Ty → Type 0

@@ -8,12 +8,11 @@ use Rattle.sequent_core.specs.declared.tree.Tree.{Tree, roll-Tree}
 use Rattle.sequent_core.specs.declared.tree.Tree.TheOpen.{Tree-F, Leaf as LeafF, Node as NodeF}
 use Rattle.sequent_core.specs.declared.tree.Tree.TheVariants.{Leaf, Node}
 use Rattle.sequent_core.specs.declared.tree.Tree.TheViews.{rolls-Leaf, rolls-Node}
-use Rattle.proof_codec.specs.Forms.{IsWrittenAs}
 use Rattle.proof_codec.specs.Numbers.{IsByte, byte}
 use Rattle.proof_codec.specs.Parts.{IsList, list_bytes}
 use Rattle.proof_codec.specs.Rules.{rule_bytes, IsGoodRule, IsFitRule}
-use Rattle.proof_codec.specs.ProofTrees.{tree_bytes, tree_height, rules_in, HasChildren, IsTreeOf, IsGoodTree, IsFitTree}
-use Rattle.proof_codec.specs.Private.{HasGoodRules, HasFitRules, AreFitTrees}
+use Rattle.proof_codec.specs.ProofTrees.{tree_bytes, rules_in, HasChildren, IsTreeOf, IsGoodTree, IsFitTree}
+use Rattle.proof_codec.specs.Private.{HasGoodRules, HasFitRules, AreFitTrees, IsWrittenAs, tree_height}
 use Rattle.proof_codec.proofs.Branches.{bytes_at, rules_at, height_at, each_tree, all_trees}
 
 pub small_rules : (tree : Tree) → IsFitTree tree → HasFitRules tree

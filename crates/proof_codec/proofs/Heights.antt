@@ -8,8 +8,9 @@ use Rattle.sequent_core.specs.declared.tree.Tree.TheOpen.{Tree-F, Leaf as LeafF,
 use Rattle.sequent_core.specs.declared.tree.Tree.TheFolds.{map-Tree, fold-roll-Tree, ind-Tree}
 use Rattle.sequent_core.specs.Trees.{node_count_step, node_count}
 use Rattle.proof_codec.specs.declared.reader.ReadFault.{ReadFault}
-use Rattle.proof_codec.specs.Forms.{IsReadAs, BeginsNone, Misses}
-use Rattle.proof_codec.specs.ProofTrees.{tree_bytes, tree_height_step, tree_height, IsGoodTree, IsTreeWithin}
+use Rattle.proof_codec.specs.Forms.{BeginsNone}
+use Rattle.proof_codec.specs.Private.{IsReadAs, Misses, tree_height_step, tree_height, IsTreeWithin}
+use Rattle.proof_codec.specs.ProofTrees.{tree_bytes, IsGoodTree}
 use Rattle.proof_codec.proofs.Narrow.{narrow_read, narrow_out, narrow_none}
 
 sum-cons : (n : ℕ) (ns : List ℕ) → sum (n ∷ ns) ≡ n + sum ns

@@ -6,9 +6,10 @@ use Rattle.std.proofs.lemmas.List.{length-append}
 use Rattle.std.proofs.lemmas.List.Concat.{flat_map-cons}
 use Rattle.proof_codec.specs.declared.reader.ReadFault.{ReadFault}
 use Rattle.proof_codec.specs.declared.reader.ReadFault.TheVariants as faults
-use Rattle.proof_codec.specs.Forms.{IsReadAs, BeginsNone, Misses}
+use Rattle.proof_codec.specs.Forms.{BeginsNone}
+use Rattle.proof_codec.specs.Private.{IsReadAs, Misses, AreItems, items_bytes}
 use Rattle.proof_codec.specs.Numbers.{FitsU32, number_bytes}
-use Rattle.proof_codec.specs.Parts.{AreItems, items_bytes, IsList, list_bytes}
+use Rattle.proof_codec.specs.Parts.{IsList, list_bytes}
 
 -- a list parted before its element at this place
 pub record Parted {A : Type 0} (i : ℕ) (xs : List A) : Type 0 where

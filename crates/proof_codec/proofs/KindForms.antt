@@ -8,12 +8,12 @@ use Rattle.rule_table.specs.declared.kind.RuleKind.TheVariants as kind
 use Rattle.rule_table.specs.Kinds.{kind_number}
 use Rattle.proof_codec.specs.declared.reader.ReadFault.{ReadFault}
 use Rattle.proof_codec.specs.declared.reader.ReadFault.TheVariants as faults
-use Rattle.proof_codec.specs.Forms.{IsReadAs, BeginsNone, Misses, IsWrittenAs, WritesAs}
+use Rattle.proof_codec.specs.Forms.{BeginsNone}
 use Rattle.proof_codec.specs.Numbers.{IsByte, byte, FitsU32, number_bytes, IsInteger, integer}
 use Rattle.proof_codec.specs.Parts.{pair_bytes, IsPair, list_bytes, IsList}
 use Rattle.proof_codec.specs.Formulas.{formula_bytes, IsGoodFormula}
 use Rattle.proof_codec.specs.Rules.{kind_bytes, IsGoodKind}
-use Rattle.proof_codec.specs.Private.{plain_kinds, plain_kind_at}
+use Rattle.proof_codec.specs.Private.{plain_kinds, plain_kind_at, IsReadAs, Misses, IsWrittenAs, WritesAs}
 use Rattle.proof_codec.proofs.Tags.{tag_read, tag_none, same_behind}
 use Rattle.proof_codec.proofs.Writing.{tag_written}
 

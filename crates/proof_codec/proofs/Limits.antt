@@ -4,8 +4,9 @@ use Rattle.formula_core.specs.declared.Formula.{Formula}
 use Rattle.formula_core.specs.Sizes.{IsWithinLimits}
 use Rattle.formula_core.specs.Wellness.{is_well}
 use Rattle.proof_codec.specs.declared.reader.ReadFault.{ReadFault}
-use Rattle.proof_codec.specs.Forms.{IsReadAs, BeginsNone, Misses}
-use Rattle.proof_codec.specs.Formulas.{formula_bytes, IsFormulaWithin, IsGoodFormula}
+use Rattle.proof_codec.specs.Forms.{BeginsNone}
+use Rattle.proof_codec.specs.Private.{IsReadAs, Misses, IsFormulaWithin}
+use Rattle.proof_codec.specs.Formulas.{formula_bytes, IsGoodFormula}
 use Rattle.proof_codec.proofs.Narrow.{narrow_read, narrow_out, narrow_none}
 
 fewer : (f : Formula) → IsGoodFormula f → IsFormulaWithin 4096 f

@@ -8,9 +8,10 @@ use Rattle.std.proofs.Math.Facts.{Fits-of_z, sfits_to_z}
 use Rattle.rule_table.specs.Linear.{fits_i128}
 use Rattle.proof_codec.specs.declared.reader.ReadFault.{ReadFault}
 use Rattle.proof_codec.specs.declared.reader.ReadFault.TheVariants as faults
-use Rattle.proof_codec.specs.Forms.{BeginsWith, IsReadAs, BeginsNone, Misses}
+use Rattle.proof_codec.specs.Forms.{BeginsWith, BeginsNone}
+use Rattle.proof_codec.specs.Private.{IsReadAs, Misses, IsWide}
 use Rattle.proof_codec.specs.Parts.{IsPair, pair_bytes}
-use Rattle.proof_codec.specs.Numbers.{IsWide, wide, IsInteger, sixteen, integer}
+use Rattle.proof_codec.specs.Numbers.{wide, IsInteger, sixteen, integer}
 
 abbrev Halves : ℕ × ℕ → Type 0
 Halves = IsPair IsWide IsWide

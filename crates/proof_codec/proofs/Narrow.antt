@@ -2,7 +2,8 @@
 use Rattle.std.proofs.Common.{◌≡◌, subst, ℕ, true, false, List, IsTrue}
 use Rattle.proof_codec.specs.declared.reader.ReadFault.{ReadFault}
 use Rattle.proof_codec.specs.declared.reader.ReadFault.TheVariants as faults
-use Rattle.proof_codec.specs.Forms.{IsReadAs, BeginsNone, Misses}
+use Rattle.proof_codec.specs.Forms.{BeginsNone}
+use Rattle.proof_codec.specs.Private.{IsReadAs, Misses}
 
 module _ {A : Type 0} (P Q : A → Type 0) (f : A → List ℕ) (fewer : (x : A) → Q x → P x) (old new : List ℕ) where
   pub narrow_read : (x : A) → IsReadAs P f old x new → Q x → IsReadAs Q f old x new

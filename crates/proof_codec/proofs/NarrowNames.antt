@@ -6,7 +6,8 @@ use Rattle.formula_core.specs.Names.{is_identifier}
 use Rattle.formula_core.specs.Texts.{is_po_name}
 use Rattle.formula_core.proofs.Weakening.{first_true, second_true}
 use Rattle.proof_codec.specs.declared.reader.ReadFault.{ReadFault}
-use Rattle.proof_codec.specs.Forms.{IsReadAs, BeginsNone, Misses}
+use Rattle.proof_codec.specs.Forms.{BeginsNone}
+use Rattle.proof_codec.specs.Private.{IsReadAs, Misses}
 use Rattle.proof_codec.specs.Numbers.{text_bytes}
 use Rattle.proof_codec.specs.Names.{IsGoodName}
 use Rattle.proof_codec.specs.Entries.{IsComponentName}

@@ -5,10 +5,9 @@ use Rattle.formula_core.specs.declared.Op.TheVariants as op
 use Rattle.formula_core.specs.Numbers.{number_of}
 use Rattle.proof_codec.specs.declared.reader.ReadFault.{ReadFault}
 use Rattle.proof_codec.specs.declared.reader.ReadFault.TheVariants as faults
-use Rattle.proof_codec.specs.Forms.{Misses}
+use Rattle.proof_codec.specs.Private.{Misses, op_bytes}
 use Rattle.proof_codec.specs.Numbers.{IsByte, byte}
 use Rattle.proof_codec.specs.Parts.{IsAny}
-use Rattle.proof_codec.specs.Formulas.{op_bytes}
 
 small : (o : Op) → number_of o < 256
 small op.Top = omega arith

@@ -2,7 +2,7 @@
 use Rattle.std.proofs.Common.{◌∙◌, sym, ap, ℕ, List, ◌++◌, append_assoc}
 use Rattle.proof_codec.specs.declared.reader.ReadFault.{ReadFault}
 use Rattle.proof_codec.specs.declared.reader.ReadFault.TheVariants as faults
-use Rattle.proof_codec.specs.Forms.{IsReadAs, Misses}
+use Rattle.proof_codec.specs.Private.{IsReadAs, Misses}
 use Rattle.proof_codec.specs.Parts.{IsPair, pair_bytes}
 
 module _ {A B : Type 0} (P : A → Type 0) (f : A → List ℕ) (Q : B → Type 0) (g : B → List ℕ) (old mid new : List ℕ) where

@@ -12,7 +12,8 @@ use Rattle.formula_core.specs.Names.{prime, is_in_word, starts_word, is_word, is
 use Rattle.formula_core.proofs.Weakening.{first_true, second_true}
 use Rattle.proof_codec.specs.declared.reader.ReadFault.{ReadFault}
 use Rattle.proof_codec.specs.declared.reader.ReadFault.TheVariants as faults
-use Rattle.proof_codec.specs.Forms.{IsReadAs, BeginsNone, Misses}
+use Rattle.proof_codec.specs.Forms.{BeginsNone}
+use Rattle.proof_codec.specs.Private.{IsReadAs, Misses}
 use Rattle.proof_codec.specs.Numbers.{IsText, text_bytes}
 use Rattle.proof_codec.specs.Names.{IsGoodName}
 

@@ -19,7 +19,8 @@ use Rattle.proof_entries.specs.declared.proof.Proof.{Proof}
 use Rattle.proof_codec.specs.Numbers.{FitsU32, IsInteger}
 use Rattle.proof_codec.specs.Parts.{IsAny, IsPair, IsOption, IsList}
 use Rattle.proof_codec.specs.Formulas.{is_type, is_coded_step, is_coded, is_counted_step, is_counted, IsGoodFormula, IsFitFormula}
-use Rattle.proof_codec.specs.Rules.{IsGoodKind, IsFitKind, IsGoodIdentifier, IsFitIdentifier, IsGoodAntecedent, IsFitAntecedent, IsGoodRule, IsFitRule}
+use Rattle.proof_codec.specs.Rules.{IsGoodKind, IsFitKind, IsGoodIdentifier, IsFitIdentifier, IsGoodRule, IsFitRule}
+use Rattle.proof_codec.specs.Private.{IsGoodAntecedent, IsFitAntecedent}
 use Rattle.proof_codec.specs.ProofTrees.{rules_in, IsGoodTree, IsFitTree, HasChildren}
 use Rattle.proof_codec.specs.Entries.{IsPoName, IsGoodProof, IsFitProof, IsGoodOldProof, IsFitOldProof, IsEntryBy, IsFitBy, IsEntry, IsWritable, IsOldEntry, IsOldWritable}
 

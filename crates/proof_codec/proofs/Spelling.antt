@@ -13,13 +13,12 @@ use Rattle.formula_core.specs.declared.Formula.TheViews.{rolls-Int, rolls-Free, 
 use Rattle.formula_core.specs.declared.Formula.TheFolds.{map-Formula, fold-roll-Formula}
 use Rattle.formula_core.specs.Sizes.{type_nodes, greatest, formula_height, all_hold, is_type_within, has_types_within_step, has_types_within, IsWithinLimits}
 use Rattle.formula_core.proofs.Weakening.{first_true, second_true, both_true}
-use Rattle.proof_codec.specs.Forms.{IsWrittenAs}
 use Rattle.proof_codec.specs.Numbers.{IsByte, byte, IsInteger, integer, FitsU32, number_bytes, text_bytes}
 use Rattle.proof_codec.specs.Names.{IsGoodName}
 use Rattle.proof_codec.specs.Parts.{IsAny, IsPair, pair_bytes, IsList, list_bytes}
 use Rattle.proof_codec.specs.Types.{type_bytes, IsGoodType, IsFitType}
-use Rattle.proof_codec.specs.Formulas.{op_bytes, binder_bytes, formula_bytes, is_type, is_coded_step, is_coded, is_counted_step, is_counted, IsGoodFormula, IsFitFormula, IsCoded, HasFitParts}
-use Rattle.proof_codec.specs.Private.{AreFit}
+use Rattle.proof_codec.specs.Formulas.{formula_bytes, is_type, is_coded_step, is_coded, is_counted_step, is_counted, IsGoodFormula, IsFitFormula}
+use Rattle.proof_codec.specs.Private.{AreFit, IsWrittenAs, op_bytes, binder_bytes, IsCoded, HasFitParts}
 use Rattle.proof_codec.proofs.Formulae.{parts_bytes, front_bytes, bytes_by, bytes_at, coded_at, height_at, is_type_of, are_types, are_few}
 use Rattle.proof_codec.proofs.Writing.{tag_written, pair_written}
 

@@ -2,7 +2,7 @@
 use Rattle.std.proofs.Common.{◌≡◌, ◌∙◌, sym, ap, ℕ, List, ◌∷◌, ◌++◌}
 use Rattle.proof_codec.specs.declared.reader.ReadFault.{ReadFault}
 use Rattle.proof_codec.specs.declared.reader.ReadFault.TheVariants as faults
-use Rattle.proof_codec.specs.Forms.{IsReadAs, Misses}
+use Rattle.proof_codec.specs.Private.{IsReadAs, Misses}
 use Rattle.proof_codec.specs.Numbers.{IsByte, byte}
 
 module _ {E : Type 0} (Q : E → Type 0) (g : E → List ℕ) (old mid new : List ℕ) where

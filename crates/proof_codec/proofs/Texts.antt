@@ -1,8 +1,9 @@
 -- A text is its length and its bytes.
 use Rattle.std.proofs.Common.{◌≡◌, ◌∙◌, sym, ap, subst, ℕ, ◌<◌, ◌≤◌, ◌^◌, true, List, ◌++◌, length, arith, append_assoc}
 use Rattle.std.specs.Str.{is_utf8}
-use Rattle.proof_codec.specs.Forms.{BeginsWith, IsReadAs, BeginsNone}
-use Rattle.proof_codec.specs.Numbers.{FitsU32, number_bytes, IsOfLength, as_it_is, IsText, text_bytes}
+use Rattle.proof_codec.specs.Forms.{BeginsWith, BeginsNone}
+use Rattle.proof_codec.specs.Private.{IsReadAs, IsOfLength, as_it_is}
+use Rattle.proof_codec.specs.Numbers.{FitsU32, number_bytes, IsText, text_bytes}
 
 module _ (most : ℕ) (small : most < 2 ^ 32) (old mid new : List ℕ) (count : ℕ) (counted : IsReadAs FitsU32 number_bytes old count mid) where
   -- what stands there as a text has this length, and its bytes stand behind the length

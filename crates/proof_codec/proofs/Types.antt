@@ -9,7 +9,8 @@ use Rattle.formula_core.specs.Sizes.{type_nodes, type_nodes_step}
 use Rattle.formula_core.proofs.Weakening.{first_true, second_true, both_true}
 use Rattle.proof_codec.specs.declared.reader.ReadFault.{ReadFault}
 use Rattle.proof_codec.specs.declared.reader.ReadFault.TheVariants as faults
-use Rattle.proof_codec.specs.Forms.{BeginsWith, IsReadAs, BeginsNone, Misses}
+use Rattle.proof_codec.specs.Forms.{BeginsWith, BeginsNone}
+use Rattle.proof_codec.specs.Private.{IsReadAs, Misses}
 use Rattle.proof_codec.specs.Numbers.{IsByte, byte, text_bytes}
 use Rattle.proof_codec.specs.Names.{IsGoodName}
 use Rattle.proof_codec.specs.Types.{type_bytes_step, type_bytes, has_carriers_step, has_carriers, IsTypeWithin}

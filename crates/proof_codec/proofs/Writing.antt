@@ -6,9 +6,9 @@ use Rattle.std.proofs.lemmas.List.Concat.{flat_map-cons, flat_map-append}
 use Rattle.std.specs.Prelude.{FitsSigned, Result, Ok, Err}
 use Rattle.std.specs.Int.{w128, cast_unsigned}
 use Rattle.std.specs.Str.{is_utf8}
-use Rattle.proof_codec.specs.Forms.{IsWrittenAs, WritesAs}
-use Rattle.proof_codec.specs.Numbers.{IsByte, byte, FitsU32, number_bytes, IsText, text_bytes, IsWide, wide, IsInteger, sixteen, integer}
-use Rattle.proof_codec.specs.Parts.{IsPair, pair_bytes, items_bytes, IsList, list_bytes}
+use Rattle.proof_codec.specs.Private.{IsWrittenAs, WritesAs, IsWide, items_bytes}
+use Rattle.proof_codec.specs.Numbers.{IsByte, byte, FitsU32, number_bytes, IsText, text_bytes, wide, IsInteger, sixteen, integer}
+use Rattle.proof_codec.specs.Parts.{IsPair, pair_bytes, IsList, list_bytes}
 use Rattle.proof_codec.proofs.Literals.{of_fits}
 use Rattle.proof_codec.proofs.Items.{both_all}
 

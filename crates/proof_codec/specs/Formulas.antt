@@ -1,15 +1,13 @@
 -- Formulas as bytes.
-use Rattle.std.specs.Prelude.{ℕ, ◌≤◌, ◌^◌, Bool, true, ◌&&◌, nat_lt, nat_le, IsTrue, List, [], ◌∷◌, ◌++◌, length, map}
+use Rattle.std.specs.Prelude.{ℕ, ◌^◌, Bool, true, ◌&&◌, nat_lt, nat_le, IsTrue, List, ◌∷◌, ◌++◌, length, map}
 use Rattle.formula_core.specs.declared.Ty.{Ty}
-use Rattle.formula_core.specs.declared.Op.{Op}
-use Rattle.formula_core.specs.declared.Binder.{Binder}
 use Rattle.formula_core.specs.declared.Formula.{Formula}
 use Rattle.formula_core.specs.declared.Formula.TheOpen.{Formula-F, Int, Free, Bound, Node, Bind}
 use Rattle.formula_core.specs.declared.Formula.TheFolds.{fold-Formula}
 use Rattle.formula_core.specs.Formulas.{joined}
 use Rattle.formula_core.specs.Names.{is_name}
 use Rattle.formula_core.specs.Numbers.{number_of, binder_number_of}
-use Rattle.formula_core.specs.Sizes.{type_nodes, formula_height, all_hold, has_types_within, IsWithinLimits}
+use Rattle.formula_core.specs.Sizes.{type_nodes, all_hold, IsWithinLimits}
 use Rattle.formula_core.specs.Wellness.{is_well}
 use Rattle.rule_table.specs.Linear.{fits_i128}
 use Rattle.proof_codec.specs.Numbers.{number_bytes, integer, text_bytes}
@@ -19,12 +17,6 @@ use Rattle.proof_codec.specs.Types.{type_bytes, has_carriers}
 -- whether a type in a formula has bytes
 abbrev pub is_type : Ty → Bool
 is_type ty = has_carriers ty && nat_le (type_nodes ty) 4096
-
-abbrev pub op_bytes : Op → List ℕ
-op_bytes op = number_of op ∷ []
-
-abbrev pub binder_bytes : Binder → List ℕ
-binder_bytes binder = binder_number_of binder ∷ []
 
 -- the number of parts, and their bytes
 abbrev pub parts_bytes : List (List ℕ) → List ℕ
@@ -64,11 +56,6 @@ is_counted_step (Bind binder types parts ty) = nat_lt (length types) (2 ^ 32) &&
 abbrev pub is_counted : Formula → Bool
 is_counted = fold-Formula Bool is_counted_step
 
--- a formula of at most this height
-pub record IsFormulaWithin (depth : ℕ) (f : Formula) : Type 0 where
-  pub coded : IsTrue (is_coded f)
-  pub low : formula_height f ≤ depth
-
 -- a well formula within the limits
 pub record IsGoodFormula (f : Formula) : Type 0 where
   pub coded : IsTrue (is_coded f)
@@ -79,13 +66,4 @@ pub record IsGoodFormula (f : Formula) : Type 0 where
 pub record IsFitFormula (f : Formula) : Type 0 where
   pub within : IsWithinLimits f
   pub well : IsTrue (is_well f)
-  pub counted : IsTrue (is_counted f)
-
--- a formula whose numbers, names and types have bytes
-abbrev pub IsCoded : Formula → Type 0
-IsCoded f = IsTrue (is_coded f)
-
--- its types are small, and its lists have few members
-pub record HasFitParts (f : Formula) : Type 0 where
-  pub types : IsTrue (has_types_within 4096 f)
   pub counted : IsTrue (is_counted f)

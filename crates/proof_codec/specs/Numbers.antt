@@ -17,22 +17,12 @@ FitsU32 n = n < 2 ^ 32
 abbrev pub number_bytes : ℕ → List ℕ
 number_bytes n = to_le_bytes w32 n
 
--- so many bytes of any kind, each below 256
-abbrev pub IsOfLength : ℕ → List ℕ → Type 0
-IsOfLength count bytes = length bytes ≡ count
-
-abbrev pub as_it_is : List ℕ → List ℕ
-as_it_is bytes = bytes
-
 -- a text of at most so many bytes: its length, and its bytes
 abbrev pub IsText : ℕ → List ℕ → Type 0
 IsText most text = (is_utf8 text ≡ true) × (length text ≤ most)
 
 abbrev pub text_bytes : List ℕ → List ℕ
 text_bytes text = number_bytes (length text) ++ text
-
-abbrev pub IsWide : ℕ → Type 0
-IsWide n = n < 2 ^ 64
 
 -- a number of eight bytes
 abbrev pub wide : ℕ → List ℕ

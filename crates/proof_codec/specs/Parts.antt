@@ -1,5 +1,5 @@
 -- Pairs, values that may be absent, and lists, of values that have bytes.
-use Rattle.std.specs.Prelude.{◌≡◌, ℕ, ◌<◌, ◌^◌, List, [], ◌∷◌, ◌++◌, length, Option, Some, None}
+use Rattle.std.specs.Prelude.{ℕ, ◌<◌, ◌^◌, List, [], ◌∷◌, ◌++◌, length, Option, Some, None}
 use Rattle.std.specs.List.{flat_map, AllByRecursion}
 use Rattle.proof_codec.specs.Numbers.{number_bytes}
 
@@ -22,13 +22,6 @@ option_bytes f (Some x) = 1 ∷ f x
 abbrev pub IsOption : {A : Type 0} → (A → Type 0) → Option A → Type 0
 IsOption P None = Unit {0}
 IsOption P (Some x) = P x
-
--- so many values, one behind the other
-abbrev pub AreItems : {A : Type 0} → (A → Type 0) → ℕ → List A → Type 0
-AreItems P count xs = (length xs ≡ count) × AllByRecursion P xs
-
-abbrev pub items_bytes : {A : Type 0} → (A → List ℕ) → List A → List ℕ
-items_bytes f xs = flat_map f xs
 
 -- the number of members, and the members
 abbrev pub list_bytes : {A : Type 0} → (A → List ℕ) → List A → List ℕ

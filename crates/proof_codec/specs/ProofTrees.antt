@@ -1,8 +1,7 @@
 -- Proof trees as bytes.
-use Rattle.std.specs.Prelude.{◌≡◌, ◌≤◌, ◌+◌, ℕ, List, [], ◌∷◌, ◌++◌, length}
+use Rattle.std.specs.Prelude.{◌≡◌, ◌≤◌, ℕ, List, [], ◌∷◌, ◌++◌, length}
 use Rattle.std.specs.List.{AllByRecursion}
 use Rattle.formula_core.specs.Formulas.{joined}
-use Rattle.formula_core.specs.Sizes.{greatest}
 use Rattle.rule_table.specs.declared.rule.Rule.{Rule}
 use Rattle.sequent_core.specs.declared.tree.Tree.{Tree}
 use Rattle.sequent_core.specs.declared.tree.Tree.TheOpen.{Tree-F, Leaf, Node}
@@ -42,16 +41,3 @@ IsGoodTree = IsTreeOf IsGoodRule
 -- a tree that may be written
 abbrev pub IsFitTree : Tree → Type 0
 IsFitTree = IsTreeOf IsFitRule
-
-abbrev pub tree_height_step : Tree-F ℕ → ℕ
-tree_height_step Leaf = 1
-tree_height_step (Node r children) = greatest children + 1
-
--- the height of a tree, which is 1 at a leaf
-abbrev pub tree_height : Tree → ℕ
-tree_height = fold-Tree ℕ tree_height_step
-
--- a tree of at most this height
-pub record IsTreeWithin (depth : ℕ) (tree : Tree) : Type 0 where
-  pub rules : AllByRecursion (HasChildren IsGoodRule) (rules_in tree)
-  pub low : tree_height tree ≤ depth

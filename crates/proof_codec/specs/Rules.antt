@@ -56,12 +56,6 @@ antecedent_bytes a = pair_bytes (list_bytes identifier_bytes) (pair_bytes (list_
 abbrev pub IsAntecedentOf : (Formula → Type 0) → (List ℕ × Ty → Type 0) → Antecedent → Type 0
 IsAntecedentOf IsTerm IsIdent a = IsPair (IsList IsIdent) (IsPair (IsList IsTerm) (IsOption IsTerm)) (antecedent_parts a)
 
-abbrev pub IsGoodAntecedent : Antecedent → Type 0
-IsGoodAntecedent = IsAntecedentOf IsGoodFormula IsGoodIdentifier
-
-abbrev pub IsFitAntecedent : Antecedent → Type 0
-IsFitAntecedent = IsAntecedentOf IsFitFormula IsFitIdentifier
-
 -- the kind, the needed goal, if there is one, the needed hypotheses, the used names, and the antecedents
 abbrev pub rule_parts : Rule → RuleKind × (Option Formula × (List Formula × (List (List ℕ × Ty) × List Antecedent)))
 rule_parts r = (r.kind, (r.needed_goal, (r.needed_hyps, (r.used, r.antecedents))))

@@ -1,9 +1,9 @@
 // Values that have bytes.
 ghost use Rattle.std.specs.Prelude.{◌≡◌, List, ℕ};
 ghost use Rattle.std.specs.List.{AllByRecursion};
-ghost use Rattle.proof_codec.specs.Forms.{ReadsBy, WritesAs};
+ghost use Rattle.proof_codec.specs.Private.{ReadsBy, WritesAs, AreItems, items_bytes};
 ghost use Rattle.proof_codec.specs.Numbers.{IsByte, byte, FitsU32, number_bytes, IsInteger, integer};
-ghost use Rattle.proof_codec.specs.Parts.{IsAny, pair_bytes, IsPair, option_bytes, IsOption, AreItems, items_bytes, list_bytes, IsList};
+ghost use Rattle.proof_codec.specs.Parts.{IsAny, pair_bytes, IsPair, option_bytes, IsOption, list_bytes, IsList};
 
 use crate::reader::{ReadFault, Reader};
 use crate::writer::{write_byte, write_integer, write_number};

@@ -1,7 +1,7 @@
 // Entries, and their bytes in two versions.
 ghost use Rattle.std.specs.Prelude.{◌≡◌, ◌++◌, List as ListOf, ℕ, IfOk, IfErr, OnOk, OnErr, IsErrOf};
 ghost use Rattle.proof_entries.specs.declared.entry.Entry.{Entry};
-ghost use Rattle.proof_codec.specs.Forms.{ReadsBy, WritesAs};
+ghost use Rattle.proof_codec.specs.Private.{ReadsBy, WritesAs};
 ghost use Rattle.proof_codec.specs.Numbers.{IsText, text_bytes};
 ghost use Rattle.proof_codec.specs.Parts.{IsAny, pair_bytes, IsPair};
 ghost use Rattle.proof_codec.specs.ProofTrees.{tree_bytes, IsGoodTree};

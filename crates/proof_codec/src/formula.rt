@@ -1,9 +1,8 @@
 // Formulas as bytes.
 ghost use Rattle.std.specs.Prelude.{◌≢◌};
-ghost use Rattle.proof_codec.specs.Forms.{ReadsBy, WritesAs};
 ghost use Rattle.proof_codec.specs.Parts.{IsAny, list_bytes, IsList};
-ghost use Rattle.proof_codec.specs.Private.{AreFit, ReadsLeaf};
-ghost use Rattle.proof_codec.specs.Formulas.{op_bytes, binder_bytes, formula_bytes, IsFormulaWithin, IsGoodFormula, IsFitFormula, IsCoded, HasFitParts};
+ghost use Rattle.proof_codec.specs.Private.{AreFit, ReadsLeaf, ReadsBy, WritesAs, op_bytes, binder_bytes, IsFormulaWithin, IsCoded, HasFitParts};
+ghost use Rattle.proof_codec.specs.Formulas.{formula_bytes, IsGoodFormula, IsFitFormula};
 
 use crate::coded::{Coded, write_pair};
 use crate::reader::{ReadFault, Reader};

@@ -1,5 +1,5 @@
 // Names and texts as bytes.
-ghost use Rattle.proof_codec.specs.Forms.{ReadsBy, WritesAs};
+ghost use Rattle.proof_codec.specs.Private.{ReadsBy, WritesAs};
 ghost use Rattle.proof_codec.specs.Numbers.{IsText, text_bytes};
 ghost use Rattle.proof_codec.specs.Parts.{IsAny};
 ghost use Rattle.proof_codec.specs.Names.{IsGoodName};

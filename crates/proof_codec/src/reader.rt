@@ -2,8 +2,8 @@
 ghost use Rattle.std.specs.Prelude.{◌≡◌, ◌+◌, ◌*◌, ◌<◌, ◌^◌, ◌∷◌, [], MatchResult, length, IsTrue, ◌↔◌};
 ghost use Rattle.std.specs.Int.{w32, w64, w128, to_le_bytes, from_le_bytes, cast_signed};
 ghost use Rattle.proof_codec.specs.Parts.{IsPair, pair_bytes};
-ghost use Rattle.proof_codec.specs.Forms.{IsReadAs, Misses, ReadsBy};
-ghost use Rattle.proof_codec.specs.Numbers.{IsByte, byte, FitsU32, number_bytes, IsOfLength, as_it_is, IsText, text_bytes, IsWide, wide, IsInteger, integer};
+ghost use Rattle.proof_codec.specs.Private.{IsReadAs, Misses, ReadsBy, IsOfLength, as_it_is, IsWide};
+ghost use Rattle.proof_codec.specs.Numbers.{IsByte, byte, FitsU32, number_bytes, IsText, text_bytes, wide, IsInteger, integer};
 
 use std::alloc::{AllocError, AllocFailed};
 use std::marker::Model;

@@ -1,8 +1,7 @@
 // Rules as bytes.
 ghost use Rattle.std.specs.Prelude.{◌≡◌};
-ghost use Rattle.proof_codec.specs.Forms.{ReadsBy};
-ghost use Rattle.proof_codec.specs.Rules.{kind_bytes, IsGoodKind, IsFitKind, antecedent_bytes, IsGoodAntecedent, IsFitAntecedent, rule_bytes, IsGoodRule, IsFitRule};
-ghost use Rattle.proof_codec.specs.Private.{plain_kind_at};
+ghost use Rattle.proof_codec.specs.Rules.{kind_bytes, IsGoodKind, IsFitKind, antecedent_bytes, rule_bytes, IsGoodRule, IsFitRule};
+ghost use Rattle.proof_codec.specs.Private.{plain_kind_at, ReadsBy, IsGoodAntecedent, IsFitAntecedent};
 
 use crate::coded::{Coded, write_pair};
 use crate::reader::{ReadFault, Reader};

@@ -1,8 +1,7 @@
 // Proof trees as bytes.
-ghost use Rattle.proof_codec.specs.Forms.{ReadsBy, WritesAs};
 ghost use Rattle.proof_codec.specs.Parts.{list_bytes, IsList};
-ghost use Rattle.proof_codec.specs.ProofTrees.{tree_bytes, IsGoodTree, IsFitTree, IsTreeWithin};
-ghost use Rattle.proof_codec.specs.Private.{AreChildren, AreFitTrees, HasGoodRules, HasFitRules};
+ghost use Rattle.proof_codec.specs.ProofTrees.{tree_bytes, IsGoodTree, IsFitTree};
+ghost use Rattle.proof_codec.specs.Private.{AreChildren, AreFitTrees, HasGoodRules, HasFitRules, ReadsBy, WritesAs, IsTreeWithin};
 
 use crate::coded::Coded;
 use crate::reader::{ReadFault, Reader};

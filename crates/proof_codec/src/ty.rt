@@ -1,7 +1,7 @@
 // Types as bytes.
 ghost use Rattle.std.specs.Prelude.{◌≡◌, ◌+◌, ◌≤◌, IfOk};
 ghost use Rattle.formula_core.specs.Sizes.{type_nodes};
-ghost use Rattle.proof_codec.specs.Forms.{ReadsBy, WritesAs};
+ghost use Rattle.proof_codec.specs.Private.{ReadsBy, WritesAs};
 ghost use Rattle.proof_codec.specs.Types.{type_bytes, IsTypeWithin, IsGoodType, IsFitType};
 
 use crate::coded::Coded;

@@ -1,7 +1,7 @@
 // Writing numbers and texts behind bytes.
 ghost use Rattle.std.specs.Prelude.{◌<◌, ◌≤◌, ◌^◌, length};
-ghost use Rattle.proof_codec.specs.Forms.{WritesAs};
-ghost use Rattle.proof_codec.specs.Numbers.{IsByte, byte, FitsU32, number_bytes, IsText, text_bytes, IsWide, wide, IsInteger, integer};
+ghost use Rattle.proof_codec.specs.Private.{WritesAs, IsWide};
+ghost use Rattle.proof_codec.specs.Numbers.{IsByte, byte, FitsU32, number_bytes, IsText, text_bytes, wide, IsInteger, integer};
 
 use formula_core::OutOfMemory;
 

@@ -13,7 +13,8 @@ use Rattle.formula_core.specs.declared.raw.Raw.TheViews.{roll-out-RawBound, roll
 use Rattle.formula_core.specs.declared.raw.Raw.TheFolds.{fold-roll-Raw, para-roll-Raw, para-RawBound, para-roll-RawBound, map-RawBound}
 use Rattle.math_grammar.specs.declared.symbols.Symbol.TheVariants as sym
 use Rattle.raw_print.specs.Pieces.{Piece, Token, piece_text, text_of, word}
-use Rattle.raw_print.specs.Printing.{names_in_parts, names_in_step, names_in, Pattern, first_name, pattern_of_parts, pattern_step, pattern, with_pattern, Part, pieces_step, declaration_step, declaration, pieces, with_pieces, declared, node_pieces, bind_pieces}
+use Rattle.raw_print.specs.Printing.{names_in_parts, names_in_step, names_in, Pattern, first_name, pattern_of_parts, pattern_step, pattern, Part, pieces_step, declaration_step, declaration, pieces, node_pieces, bind_pieces}
+use Rattle.raw_print.specs.Private.{with_pattern, with_pieces, declared}
 
 pub pieces-Int : (n : ℤ) (place : ℕ) → pieces (raw.Int n place) ≡ Token (sym.Number n) (signed_decimal n) ∷ []
 pieces-Int n place = ap pieces (back (rolls-Int n place)) ∙ para-roll-Raw (List Piece) (List Piece) pieces_step declaration_step (IntF n place)

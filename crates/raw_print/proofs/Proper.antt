@@ -19,7 +19,8 @@ use Rattle.math_grammar.specs.Levels.{infix_of, suffix_of, opens, binder_of}
 use Rattle.raw_print.specs.Pieces.{Piece, Blank, Token, between}
 use Rattle.math_grammar.specs.Operators.{raw_sign_of, raw_class_of, raw_binder_class_of}
 use Rattle.raw_print.specs.Back.{IsProper}
-use Rattle.raw_print.specs.Printing.{Part, operand, form, is_atomic, declared, pattern, names_in}
+use Rattle.raw_print.specs.Printing.{Part, operand, form, is_atomic, pattern, names_in}
+use Rattle.raw_print.specs.Private.{declared}
 use Rattle.raw_print.proofs.Equations.{names_in-Node, pattern-Node}
 
 abbrev op_of : {A : Type 0} → Option (A × RawOp) → RawOp

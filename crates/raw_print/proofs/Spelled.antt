@@ -34,13 +34,14 @@ use Rattle.math_grammar.specs.declared.shapes.Shape.{Shape}
 use Rattle.math_grammar.specs.Levels.{level, right_of, infix_of, fits, grouped, opens, binder_of, implicit_of, binding_grade, takes_names, takes_shape, is_quantified, call_hole, call_grade, call_parts, has_room}
 use Rattle.math_grammar.specs.Tokens.{Item}
 use Rattle.math_grammar.specs.Grammar.{item, place_at, place_of, bound, lone, joined, type_with, between as node_between, Reads, a_name, a_number, a_truth, a_constant, prefixed, two_sides, in_parentheses, called, applied, converted, set_by_members, by_names, by_shape, lambda, Parts, last_one, next_one, TypeOf, last_side, first_side, Bound, bare, of_type, Declares, last_name, next_name, Body, a_predicate, a_value, LastPart, up_to_brace, reaching, Pattern, last_atom, next_atom, Atom, bare_atom, typed_atom, grouped_atom, Spells}
-use Rattle.math_places.specs.Places.{unplaced, unplaced_bound}
-use Rattle.math_places.proofs.Equations.{unplaced-Int, unplaced-Name, unplaced-Node, unplaced-Bind}
+use Rattle.math_places.specs.Places.{unplaced}
+use Rattle.math_places.proofs.Equations.{unplaced-Int, unplaced-Name, unplaced-Node, unplaced-Bind, unplaced_bound}
 use Rattle.math_grammar.specs.Characters.{bytes}
 use Rattle.raw_print.specs.Pieces.{Piece, Blank, Token, tokens_of, close_round, close_brace, dot, bar, in_round, in_square, close_square, between, behind_commas, separated}
 use Rattle.math_grammar.specs.Operators.{raw_sign_of, raw_class_of, raw_binder_sign_of, raw_binder_class_of}
 use Rattle.raw_print.specs.Printing as printing
-use Rattle.raw_print.specs.Printing.{operand, bare as bare_parts, form, stands_alone, stands_alone_at, is_atomic, pieces, with_pieces, declared, body, raw_tokens, pattern, names_in}
+use Rattle.raw_print.specs.Printing.{operand, bare as bare_parts, form, stands_alone, stands_alone_at, is_atomic, pieces, body, raw_tokens, pattern, names_in}
+use Rattle.raw_print.specs.Private.{with_pieces, declared}
 use Rattle.raw_print.specs.Back.{AllProper, is_whole}
 use Rattle.raw_print.proofs.Equations.{pieces-Int, pieces-Name, pieces-Node, pieces-Bind, pattern-Name, names_in-Name}
 use Rattle.raw_print.proofs.Grades.{is_predicate, joins_predicates, takes_predicates, is_one_sort, is_operand_place, Closed, as_predicate, as_suffixed, as_primary, as_name, left_sort, left_closed, place_sort, place_closed, fits_predicate, fits_expression, level_sort, grouped_sort, grouped_same, closed_sort, suffix_sort, suffix_closed, Closes, at_end, closing, ends_there, ends_at_maplet}

@@ -14,7 +14,8 @@ use Rattle.math_grammar.specs.declared.symbols.Symbol.{Symbol}
 use Rattle.math_grammar.specs.declared.symbols.Symbol.TheVariants as sym
 use Rattle.math_grammar.specs.Characters.{bytes}
 use Rattle.raw_print.specs.Pieces.{Piece, Token, text_of, close_round, close_brace, behind_commas, separated}
-use Rattle.raw_print.specs.Printing.{bare, form, pieces, with_pieces, declared, side, names_in_parts, names_in, pattern_of_parts, pattern, with_pattern}
+use Rattle.raw_print.specs.Printing.{bare, form, pieces, side, names_in_parts, names_in, pattern_of_parts, pattern}
+use Rattle.raw_print.specs.Private.{with_pieces, declared, with_pattern}
 use Rattle.raw_print.proofs.Equations.{text-append, names_in-Node, pattern-Name, pattern-Node}
 
 -- what holds of a success follows from what else holds of it

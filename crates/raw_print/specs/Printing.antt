@@ -1,7 +1,6 @@
 -- The printed text of a formula and of an action, as they are written.
 use Rattle.std.specs.Prelude.{ℕ, ◌+◌, Bool, true, false, List, [], ◌∷◌, ◌++◌, map, drop, Option, Some, None, if◌then◌else◌}
 use Rattle.std.specs.Fmt.{signed_decimal}
-use Rattle.std.specs.Option.{option_map}
 use Rattle.formula_core.specs.declared.op.Op.TheVariants as op
 use Rattle.formula_core.specs.declared.raw.RawOp.{RawOp}
 use Rattle.formula_core.specs.declared.raw.RawOp.TheVariants as rawop
@@ -126,10 +125,6 @@ pattern_step _ names = []
 abbrev pub pattern : Raw → Pattern
 pattern = para-Raw Pattern (Unit {0}) pattern_step (λ b. tt)
 
--- a pattern beside its pieces
-abbrev pub with_pattern : Raw → Raw × Pattern
-with_pattern r = (r, pattern r)
-
 -- a predicate, or two parts with a bar between them
 abbrev pub body : List Part → List Piece
 body (p ∷ []) = p.1
@@ -166,14 +161,6 @@ declaration_step b = declaration b.name b.ty
 -- the pieces of a formula
 abbrev pub pieces : Raw → List Piece
 pieces = para-Raw (List Piece) (List Piece) pieces_step declaration_step
-
--- a formula beside its pieces
-abbrev pub with_pieces : Raw → Part
-with_pieces r = (r, pieces r)
-
--- the pieces of a name that is bound
-abbrev pub declared : RawBound → List Piece
-declared b = declaration b.name (option_map with_pieces b.ty)
 
 -- a name that is assigned, and more of them
 abbrev pub target : Ref → List Piece

@@ -5,7 +5,8 @@ ghost use Rattle.std.specs.Prelude.{◌≡◌, ◌++◌, ◌∷◌, [], OnOk, If
 ghost use Rattle.std.specs.Fmt.{signed_decimal};
 ghost use Rattle.std.specs.Option.{option_map};
 ghost use Rattle.raw_print.specs.Pieces.{Token, text_of, behind_commas, separated};
-ghost use Rattle.raw_print.specs.Printing.{Part, is_atomic, stands_alone, operand, unary, second, operands, node_pieces, declaration, names_in, side, pattern, with_pattern, body, ending, scope, bind_pieces, pieces, with_pieces, declared, raw_text};
+ghost use Rattle.raw_print.specs.Printing.{Part, is_atomic, stands_alone, operand, unary, second, operands, node_pieces, declaration, names_in, side, pattern, body, ending, scope, bind_pieces, pieces, raw_text};
+ghost use Rattle.raw_print.specs.Private.{with_pattern, with_pieces, declared};
 
 use formula_core::{OutOfMemory, Raw, RawBinder, RawBound, RawOp};
 use math_grammar::{

@@ -1,11 +1,6 @@
 -- The words of the rules.
 use Rattle.std.specs.Prelude.{ℕ, ◌==◌, List, [], ◌∷◌, map, Option, Some, None, bytes_eq, if◌then◌else◌}
-use Rattle.std.specs.Borrow.{Bor}
 use Rattle.rule_words.specs.declared.words.TheConstants.{RULE_WORDS}
-
--- the rows with their words themselves
-abbrev pub rows : List (Bor (List ℕ) × ℕ) → List (List ℕ × ℕ)
-rows table = map (λ row. (row.0.now, row.1)) table
 
 -- each word with the number of its rule
 abbrev pub rule_words : List (List ℕ × ℕ)

@@ -1,6 +1,7 @@
 //! The words of the rules.
 ghost use Rattle.std.specs.Prelude.{◌≡◌};
-ghost use Rattle.rule_words.specs.RuleWords.{rows, number_beside, rule_named, word_beside, rule_word};
+ghost use Rattle.rule_words.specs.RuleWords.{number_beside, rule_named, word_beside, rule_word};
+ghost use Rattle.rule_words.specs.Private.{rows};
 
 /// The words that name the rules, each with the rule's number.
 pub const RULE_WORDS: [(&str, u8); 35] = [

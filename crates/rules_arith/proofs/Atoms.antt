@@ -4,7 +4,13 @@ use Rattle.std.proofs.lemmas.List.{append-nil, append_assoc}
 use Rattle.formula_core.specs.declared.Formula.{Formula}
 use Rattle.formula_core.specs.Same.{same_formula}
 use Rattle.rule_table.specs.Linear.{Act, Linear, joined_by, Checked, then_do, with_atom, checked, multiple_of, is_met, kept, further, each_times}
-use Rattle.rules_arith.specs.Private.{keep, add_new, scale, with_one, joined_with}
+use Rattle.rules_arith.specs.Private.{add_new, with_one, joined_with}
+
+abbrev pub keep : Act → List (Formula × ℤ) → Checked (List (Formula × ℤ)) → Formula × ℤ → Checked (List (Formula × ℤ))
+keep act second done a = with_one done a.0 (checked act a.1 (multiple_of second a.0))
+
+abbrev pub scale : (ℤ → Checked ℤ) → Checked (List (Formula × ℤ)) → Formula × ℤ → Checked (List (Formula × ℤ))
+scale by done a = with_one done a.0 (by a.1)
 
 after_fault : (act : Act) (second xs : List (Formula × ℤ)) (e : ℤ × ℤ) → fold (keep act second) (Err e) xs ≡ Err e
 after_fault act second [] e = refl

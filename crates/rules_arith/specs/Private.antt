@@ -4,7 +4,7 @@ use Rattle.std.specs.Option.{option_map, option_and_then}
 use Rattle.formula_core.specs.declared.Op.{Op}
 use Rattle.formula_core.specs.declared.Op.TheVariants as op
 use Rattle.formula_core.specs.declared.Formula.{Formula}
-use Rattle.rule_table.specs.Linear.{Act, plus, minus, times, Linear, Checked, then_do, checked, multiple_of, is_met, further, joined_by, times_form, hypothesis_form}
+use Rattle.rule_table.specs.Linear.{Act, plus, minus, times, Linear, Checked, then_do, checked, is_met, further, joined_by, times_form, hypothesis_form}
 use Rattle.rule_table.specs.Linear.{shape, Shape, at_most, less, equation, falsum, other}
 use Rattle.rules_arith.specs.declared.step.Comparison.{Comparison}
 use Rattle.rules_arith.specs.declared.step.Comparison.TheVariants as comparison
@@ -36,14 +36,8 @@ negated _ = None
 abbrev pub with_one : Checked (List (Formula × ℤ)) → Formula → Checked ℤ → Checked (List (Formula × ℤ))
 with_one done f n = then_do done (λ xs. then_do n (λ n. Ok (xs ++ (f, n) ∷ [])))
 
-abbrev pub keep : Act → List (Formula × ℤ) → Checked (List (Formula × ℤ)) → Formula × ℤ → Checked (List (Formula × ℤ))
-keep act second done a = with_one done a.0 (checked act a.1 (multiple_of second a.0))
-
 abbrev pub add_new : Act → List (Formula × ℤ) → Checked (List (Formula × ℤ)) → Formula × ℤ → Checked (List (Formula × ℤ))
 add_new act first done b = if is_met first b.0 then done else with_one done b.0 (checked act (pos 0) b.1)
-
-abbrev pub scale : (ℤ → Checked ℤ) → Checked (List (Formula × ℤ)) → Formula × ℤ → Checked (List (Formula × ℤ))
-scale by done a = with_one done a.0 (by a.1)
 
 -- the operators whose linear form may be more than the whole as an atom
 abbrev pub has_linear_parts : Op → Bool

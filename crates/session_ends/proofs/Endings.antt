@@ -27,7 +27,8 @@ use Rattle.session_talk.specs.declared.Ending.{Ending}
 use Rattle.session_talk.specs.declared.Ending.TheVariants.{Read, Quit, CutEdit, WriteFault, OutOfMemory as Untold, Store}
 use Rattle.session_ends.specs.Ends.{HasAnswered, EndsAtStoreFault, EndsWithoutMemory}
 use Rattle.session_ends.specs.Sessions.{EndsBy}
-use Rattle.session_ends.specs.Statuses.{fault_status, fault_line, end_status, end_line, status_at, line_at}
+use Rattle.session_ends.specs.Statuses.{fault_status, fault_line}
+use Rattle.session_ends.specs.Private.{end_status, end_line, status_at, line_at}
 use Rattle.session_ends.specs.Written.{WritesThen, WritesOrFails, WritesAt, WritesUpTo}
 use Rattle.session_ends.proofs.CutEdits.{cut_at_end}
 use Rattle.session_ends.proofs.Standing.{stopped}

@@ -27,9 +27,8 @@ use Rattle.session_streams.proofs.Known.{Appends-nothing, Consumes-nothing}
 use Rattle.session_talk.specs.declared.Ending.{Ending}
 use Rattle.session_ends.specs.Ends.{IsClean, HasHistory, EndsWithoutMemory}
 use Rattle.session_play.specs.Playing.{IsPlayed}
-use Rattle.session_ends.specs.Private.{PlaysEnd}
+use Rattle.session_ends.specs.Private.{PlaysEnd, status_at, line_at}
 use Rattle.session_ends.specs.Sessions.{EndsBy, IsSession, Opens}
-use Rattle.session_ends.specs.Statuses.{status_at, line_at}
 use Rattle.session_ends.specs.Written.{WritesOrFails}
 use Rattle.session_ends.proofs.Closing.{Came, came, users, then_nothing}
 use Rattle.session_ends.proofs.Endings.{by_none, by_some}

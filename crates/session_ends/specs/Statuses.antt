@@ -1,5 +1,5 @@
 -- Exit statuses and last lines.
-use Rattle.std.specs.Prelude.{◌≡◌, ◌⊎◌, ℕ, Bool, true, false, List, [], ◌++◌, codes, Option, Some, None, if◌then◌else◌}
+use Rattle.std.specs.Prelude.{◌≡◌, ◌⊎◌, ℕ, List, [], ◌++◌, codes}
 use Rattle.std.specs.Fmt.{decimal}
 use Rattle.outside.specs.declared.side.Side.{Side}
 use Rattle.outside.specs.declared.side.Side.TheVariants.{Left, Right}
@@ -7,9 +7,6 @@ use Rattle.store_log.specs.declared.fault.StoreFault.{StoreFault}
 use Rattle.store_log.specs.declared.fault.StoreFault.TheVariants as fault
 use Rattle.project_store.specs.declared.fault.OpenFault.{OpenFault}
 use Rattle.project_store.specs.declared.fault.OpenFault.TheVariants as opening
-use Rattle.session_streams.specs.declared.reading.ReadEnd.TheVariants as reads
-use Rattle.session_talk.specs.declared.conversing.Ending.{Ending}
-use Rattle.session_talk.specs.declared.conversing.Ending.TheVariants as ending
 
 -- for the first fault of the store
 abbrev pub fault_status : StoreFault → ℕ
@@ -25,37 +22,6 @@ fault_line fault.JournalFull = codes "full: journal\n"
 fault_line fault.OutOfMemory = []
 fault_line fault.DiskFault = codes "project: disk fault\n"
 fault_line fault.Failed = codes "project: disk fault\n"
-
--- where the store met no fault
-abbrev pub end_status : Ending → ℕ
-end_status (ending.Read reads.Ended) = 0
-end_status ending.Quit = 0
-end_status ending.CutEdit = 1
-end_status (ending.Read reads.ReadFault) = 3
-end_status ending.WriteFault = 4
-end_status (ending.Read reads.FullInput) = 7
-end_status _ = 9
-
-abbrev pub end_line : Ending → List ℕ
-end_line ending.CutEdit = codes "input: ended inside an edit\n"
-end_line (ending.Read reads.ReadFault) = codes "input: read fault\n"
-end_line (ending.Read reads.FullInput) = codes "full: input\n"
-end_line _ = []
-
--- memory ran out between the acts of chair 0
-abbrev pub lacks_memory : Ending → Bool
-lacks_memory (ending.Read reads.OutOfMemory) = true
-lacks_memory ending.OutOfMemory = true
-lacks_memory _ = false
-
--- a fault of the store goes before all but that
-abbrev pub status_at : Ending → Option StoreFault → ℕ
-status_at end None = end_status end
-status_at end (Some fault) = if lacks_memory end then end_status end else fault_status fault
-
-abbrev pub line_at : Ending → Option StoreFault → List ℕ
-line_at end None = end_line end
-line_at end (Some fault) = if lacks_memory end then end_line end else fault_line fault
 
 -- where the project isn't opened
 abbrev pub opening_status : OpenFault → ℕ

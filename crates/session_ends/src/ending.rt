@@ -7,9 +7,9 @@ ghost use Rattle.project_store.specs.Store.{StoreState, IsSound, base_in, log_in
 ghost use Rattle.store_log.specs.StoreLog.{chair_of, store_meaning};
 ghost use Rattle.session_play.specs.Playing.{IsPlayed};
 ghost use Rattle.session_streams.specs.Streams.{SourceState, reading, writing, WritesNothing};
-ghost use Rattle.session_ends.specs.Private.{PlaysEnd};
+ghost use Rattle.session_ends.specs.Private.{PlaysEnd, status_at, line_at};
 ghost use Rattle.session_ends.specs.Sessions.{IsSession, Opens, Refuses};
-ghost use Rattle.session_ends.specs.Statuses.{status_at, line_at, opening_status, opening_line};
+ghost use Rattle.session_ends.specs.Statuses.{opening_status, opening_line};
 ghost use Rattle.session_ends.specs.Written.{WritesOrFails};
 
 use crate::statuses::{closing, opening_line, opening_status};

@@ -1,7 +1,7 @@
 //! Exit statuses and last lines.
 ghost use Rattle.std.specs.Prelude.{◌≡◌, IfOk, string_bytes};
-ghost use Rattle.session_ends.specs.Statuses.{fault_status, fault_line, end_status, end_line, lacks_memory};
-ghost use Rattle.session_ends.specs.Statuses.{status_at, line_at};
+ghost use Rattle.session_ends.specs.Statuses.{fault_status, fault_line};
+ghost use Rattle.session_ends.specs.Private.{end_status, end_line, lacks_memory, status_at, line_at};
 ghost use Rattle.session_ends.specs.Statuses.{opening_status, opening_line, side_word};
 
 use formula_core::OutOfMemory;

@@ -3,5 +3,6 @@ pub mod Completeness
 pub mod Dialogue
 pub mod FairRun
 pub mod OneHistory
+pub mod Private
 pub mod Talking
 pub mod Workers

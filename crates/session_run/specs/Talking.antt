@@ -40,10 +40,6 @@ module _ (fair : Sequent → Attempt → Type 0) where
       pub log : IsLogOf base seen xs state
       pub within : IsPartway fair lines line (own 0 xs) text next
 
-    -- the answer to the line goes on, from what comes next to what comes next
-    abbrev pub GoesOn : Line → Next → List Logged → Next → List Logged → Type 0
-    GoesOn line next old more new = (lines : List Line) (text : List ℕ) → IsTalking old lines text line next → IsTalking new lines text line more
-
     -- the answer to the line is begun, and goes on to what comes next
     abbrev pub AnswersUpTo : Line → List Logged → Next → List Logged → Type 0
     AnswersUpTo line old next new = (lines : List Line) (text : List ℕ) → HasTalked old lines text → IsTalking new lines text line next
@@ -58,9 +54,6 @@ module _ (fair : Sequent → Attempt → Type 0) where
       pub is_next : IsNext next event
       pub seen : HasSeen chair_of 0 last found
       pub refused : Refuses 0 event found new
-
-    abbrev pub StoppedWithin : Line → Next → List Logged → List Logged → Type 0
-    StoppedWithin line next old new = (lines : List Line) (text : List ℕ) → IsTalking old lines text line next → StopsAt lines text line new
 
     abbrev pub StoppedIn : Line → List Logged → List Logged → Type 0
     StoppedIn line old new = (lines : List Line) (text : List ℕ) → HasTalked old lines text → StopsAt lines text line new

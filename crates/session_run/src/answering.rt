@@ -10,7 +10,8 @@ ghost use Rattle.turn_desk.specs.Chairs.{IsOf, IsSameChair};
 ghost use Rattle.prover_pool.specs.Shift.{fair};
 ghost use Rattle.session_words.specs.declared.Line.{Line};
 ghost use Rattle.session_run.specs.Dialogue.{asks, owes, tells, refusal_text};
-ghost use Rattle.session_run.specs.Talking.{GoesOn, AnswersUpTo, StoppedWithin, StoppedIn, ComesOfLine};
+ghost use Rattle.session_run.specs.Talking.{AnswersUpTo, StoppedIn, ComesOfLine};
+ghost use Rattle.session_run.specs.Private.{GoesOn, StoppedWithin};
 ghost use Rattle.store_log.specs.declared.Logged.{Logged};
 ghost use Rattle.store_log.specs.declared.StoreFault.{StoreFault as Fault};
 

@@ -1,6 +1,5 @@
 -- What a line of words says.
 use Rattle.std.specs.Prelude.{◌≡◌, ◌⊎◌, ℕ, ◌&&◌, List, [], ◌∷◌, map, Option, Some, None, bytes_eq, if◌then◌else◌}
-use Rattle.std.specs.Borrow.{Bor}
 use Rattle.std.specs.Option.{option_map, option_and_then}
 use Rattle.std.specs.Str.{is_utf8}
 use Rattle.formula_core.specs.Names.{is_name}
@@ -23,10 +22,6 @@ use Rattle.session_words.specs.declared.said.Said.TheVariants.{AtOnce, OfItems}
 use Rattle.session_words.specs.declared.verbs.Verb.{Verb}
 use Rattle.session_words.specs.declared.verbs.Verb.TheVariants as verb
 use Rattle.session_words.specs.declared.verbs.TheConstants.{VERBS}
-
--- each command with the word that names it
-abbrev pub verb_rows : List (Bor (List ℕ) × Verb) → List (List ℕ × Verb)
-verb_rows table = map (λ row. (row.0.now, row.1)) table
 
 abbrev pub verbs : List (List ℕ × Verb)
 verbs = map (λ row. (row.0.now, row.1)) VERBS

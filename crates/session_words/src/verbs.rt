@@ -1,6 +1,7 @@
 //! The words of the commands.
 ghost use Rattle.std.specs.Prelude.{◌≡◌};
-ghost use Rattle.session_words.specs.Says.{verb_rows, verb_beside, verb_named};
+ghost use Rattle.session_words.specs.Says.{verb_beside, verb_named};
+ghost use Rattle.session_words.specs.Private.{verb_rows};
 
 /// The commands that a line's first word names, but for `edit`.
 #[derive(Clone, Copy)]

@@ -18,8 +18,8 @@ use Rattle.sequent_core.specs.declared.sequent.Sequent.{Sequent}
 use Rattle.sequent_core.specs.declared.tree.Tree.{Tree}
 use Rattle.sequent_core.specs.declared.tree.Tree.TheVariants.{Node}
 use Rattle.sequent_core.specs.Sequents.{IsSequent}
-use Rattle.short_proofs.specs.Private.{truth}
-use Rattle.short_proofs.specs.Short.{rule_of, IsShortProof}
+use Rattle.short_proofs.specs.Private.{truth, rule_of}
+use Rattle.short_proofs.specs.Short.{IsShortProof}
 use Rattle.short_proofs.specs.Sure.{is_reflexive, IsSmall, IsSureByLogic}
 use Rattle.short_proofs.proofs.Forms.{top_fits, whole_proof}
 use Rattle.short_proofs.proofs.Plain.{is_sound}

@@ -38,7 +38,7 @@ use Rattle.sequent_core.specs.declared.sequent.Sequent.{Sequent}
 use Rattle.sequent_core.specs.declared.tree.Tree.TheVariants.{Node}
 use Rattle.sequent_core.specs.Sequents.{IsSequent}
 use Rattle.sequent_core.specs.Trees.{extended}
-use Rattle.short_proofs.specs.Short.{rule_of}
+use Rattle.short_proofs.specs.Private.{rule_of}
 use Rattle.short_proofs.specs.Sure.{IsSmall, is_reflexive}
 use Rattle.short_proofs.proofs.Plain.{IsFit, is_sound, is_rule_of, meets, no_names}
 use Rattle.short_proofs.proofs.Trees.{FitsPlainly, IsProofOf, proof_alone, proof_above, extended_env}

@@ -18,7 +18,7 @@ use Rattle.rule_table.proofs.InOrder.{all_in_order, each_in_order, filter_added}
 use Rattle.sequent_core.specs.declared.sequent.Sequent.{Sequent}
 use Rattle.sequent_core.specs.Trees.{Meets}
 use Rattle.sequent_core.proofs.Nodes.{all_both}
-use Rattle.short_proofs.specs.Short.{rule_of}
+use Rattle.short_proofs.specs.Private.{rule_of}
 
 -- a predicate of the environment, within the limits
 abbrev pub IsFit : List (List ℕ × Ty) → Formula → Type 0

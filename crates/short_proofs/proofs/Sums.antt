@@ -15,8 +15,8 @@ use Rattle.sequent_core.specs.declared.tree.Tree.{Tree}
 use Rattle.sequent_core.specs.declared.tree.Tree.TheVariants.{Node}
 use Rattle.sequent_core.specs.Sequents.{IsSequent}
 use Rattle.sequent_core.specs.Trees.{extended}
-use Rattle.short_proofs.specs.Private.{below_goal, below_hyp, law_of_reading, linear_tree}
-use Rattle.short_proofs.specs.Short.{rule_of, IsShortProof}
+use Rattle.short_proofs.specs.Private.{below_goal, below_hyp, law_of_reading, linear_tree, rule_of}
+use Rattle.short_proofs.specs.Short.{IsShortProof}
 use Rattle.short_proofs.specs.Sure.{as_comparison, is_linear_step, IsSmall}
 use Rattle.short_proofs.proofs.Comparisons.{Reading, ReadsBy, reading}
 use Rattle.short_proofs.proofs.Forms.{goal_fits, hyp_fits}

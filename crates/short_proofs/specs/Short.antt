@@ -1,11 +1,8 @@
 -- Short proofs.
 use Rattle.std.specs.Prelude.{ℕ, ◌≤◌, Bool, true, false, ◌&&◌, IsTrue, ⊤}
 use Rattle.std.specs.List.{list_all}
-use Rattle.rule_table.specs.declared.rule.Body.{Body}
-use Rattle.rule_table.specs.declared.rule.Rule.{Rule}
 use Rattle.rule_table.specs.declared.kind.RuleKind.{RuleKind}
 use Rattle.rule_table.specs.declared.kind.RuleKind.TheVariants as kind
-use Rattle.rule_table.specs.Rules.{used_of}
 use Rattle.sequent_core.specs.declared.sequent.Sequent.{Sequent}
 use Rattle.sequent_core.specs.declared.tree.Tree.{Tree}
 use Rattle.sequent_core.specs.declared.tree.Tree.TheOpen.{Tree-F, Leaf, Node}
@@ -36,11 +33,6 @@ pub record IsShortProof (tree : Tree) (s : Sequent) : Type 0 where
   pub nodes : node_count tree ≤ 8
   pub rules : rule_count tree ≤ 8
   pub plain : IsTrue (is_plain tree)
-
--- the rule of a kind that needs and leaves this
-abbrev pub rule_of : RuleKind → Body → Rule
-rule_of k b =
-    record { kind = k; needed_goal = b.goal; needed_hyps = b.hyps; used = used_of k b; antecedents = b.antecedents }
 
 -- a short proof, if one was found
 abbrev pub IsShortIfFound : Attempt → Sequent → Type 0

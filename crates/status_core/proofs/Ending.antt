@@ -17,9 +17,9 @@ use Rattle.core_steps.specs.declared.events.Status.TheVariants.{Discharged}
 use Rattle.core_steps.specs.State.{State}
 use Rattle.core_steps.specs.Outcomes.{StepOutcome, told, entering}
 use Rattle.core_steps.specs.Tickets.{IsPresentStatus, CanStore, EndsTicket, tried_with, by_prover}
-use Rattle.prepared_events.specs.Prepared.{Ready, ComesAs, Prepares}
+use Rattle.prepared_events.specs.Prepared.{Ready}
 use Rattle.table_lookup.specs.Tickets.{IsTicketAt}
-use Rattle.status_core.specs.PrivateParts.{Finds, without_at}
+use Rattle.status_core.specs.PrivateParts.{Finds, without_at, ComesAs, Prepares}
 use Rattle.status_core.proofs.Made.{if_ok, as_made}
 use Rattle.status_core.proofs.Finished.{ends_stored, ends_stale, ends_refused, finish_found}
 

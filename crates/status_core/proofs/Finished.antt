@@ -25,9 +25,9 @@ use Rattle.core_steps.specs.Outcomes.{told, entering}
 use Rattle.core_steps.specs.Tickets.{IsPresentStatus, CanStore, EndsTicket, tried_with, by_prover}
 use Rattle.core_steps.proofs.Lists.{split}
 use Rattle.core_steps.proofs.NameMaps.{get_same}
-use Rattle.prepared_events.specs.Prepared.{Ready, ComesAs, Prepares, made, tried_of}
+use Rattle.prepared_events.specs.Prepared.{Ready, tried_of}
 use Rattle.table_lookup.specs.Tickets.{IsTicketAt}
-use Rattle.status_core.specs.PrivateParts.{Finds, without_at}
+use Rattle.status_core.specs.PrivateParts.{Finds, without_at, ComesAs, Prepares, made}
 use Rattle.prepared_events.specs.Making.{trying}
 use Rattle.status_core.proofs.Made.{so_made, made_as}
 use Rattle.status_core.proofs.Readied.{ready_trying}

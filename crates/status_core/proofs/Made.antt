@@ -8,8 +8,8 @@ use Rattle.core_steps.specs.State.{State}
 use Rattle.core_steps.specs.Outcomes.{StepOutcome, told}
 use Rattle.core_steps.specs.Table.{IsPresent}
 use Rattle.core_steps.specs.Step.{ComesBeside}
-use Rattle.prepared_events.specs.Prepared.{Ready, IsReady, ComesAs, Prepares, made}
-use Rattle.status_core.specs.PrivateParts.{Finds}
+use Rattle.prepared_events.specs.Prepared.{Ready, IsReady}
+use Rattle.status_core.specs.PrivateParts.{Finds, ComesAs, Prepares, made}
 
 -- what holds of a result where another does
 pub if_ok : {A E : Type 0} (P Q : A → Type 0) (r : Result A E) → ((a : A) → P a → Q a) → IfOk r P → IfOk r Q

@@ -11,9 +11,9 @@ use Rattle.proof_entries.specs.declared.Entry.{Entry}
 use Rattle.proof_entries.specs.declared.Entry.TheVariants.{Put, Drop, Build, SetProof, Purge}
 use Rattle.core_steps.specs.State.{State}
 use Rattle.core_steps.specs.Outcomes.{told, entering}
-use Rattle.prepared_events.specs.Prepared.{Ready, IsReady, ComesAs, FitsBuilt, FitsTried}
+use Rattle.prepared_events.specs.Prepared.{Ready, IsReady, FitsBuilt, FitsTried}
 use Rattle.prepared_events.specs.Making.{telling, putting, dropping, building, purging, keeping, sending, trying, taking_in}
-use Rattle.status_core.specs.PrivateParts.{without_at}
+use Rattle.status_core.specs.PrivateParts.{without_at, ComesAs}
 use Rattle.status_core.proofs.Made.{made_as}
 
 module _ (s : State) (p : Ready) (small : IsSmallProject s.durable.texts) (reply : Reply) where

@@ -13,17 +13,19 @@ use Rattle.rule_making.specs.declared.RuleFault.{RuleFault}
 use Rattle.rule_making.specs.declared.RuleFault.TheVariants.{OutOfMemory}
 use Rattle.rule_making.specs.Make.{FitsAt}
 use Rattle.core_steps.specs.declared.events.Reply.{Reply}
-use Rattle.core_steps.specs.Outcomes.{told}
+use Rattle.core_steps.specs.Outcomes.{told, StepOutcome}
 use Rattle.core_steps.specs.Editing.{IsFullFor, Edits}
 use Rattle.core_steps.specs.Durable.{text_cmp, ProjectMap}
-use Rattle.core_steps.specs.Private.{AreFactsOf}
+use Rattle.core_steps.specs.Stored.{AreFactsOf}
 use Rattle.proof_entries.specs.declared.Proof.{Proof}
 use Rattle.std.specs.FinMap.{FinMap, contains_key, len}
 use Rattle.status_core.specs.declared.proving.Held.{Held}
 use Rattle.core_steps.specs.Table.{IsTable, IsPresent}
 use Rattle.core_steps.specs.State.{State}
 use Rattle.core_steps.specs.Tickets.{IsOpen}
-use Rattle.prepared_events.specs.Prepared.{without}
+use Rattle.core_steps.specs.declared.events.Event.{Event}
+use Rattle.core_steps.specs.Step.{Comes}
+use Rattle.prepared_events.specs.Prepared.{without, Ready, changed, IsReady}
 
 -- the table of the project has the obligation of the name, whose sequent is well typed; or it has none
 abbrev pub Finds : ProjectMap → List ℕ → Option Obligation → Type 0
@@ -60,3 +62,16 @@ IsMade leaf (Err fault) = fault ≢ OutOfMemory
 abbrev pub IsHeld : FinMap text_cmp Proof → List ℕ → Tree → Held → Type 0
 IsHeld proofs name tree held =
     (held.told ≡ name) × (held.name ≡ name) × AreFactsOf tree held.facts × (contains_key proofs name ≡ false → len proofs < held.room)
+
+-- what comes of what is prepared
+abbrev pub made : Ready → State → StepOutcome
+made p s = record { reply = p.reply; entry = p.entry; new = changed p s }
+
+-- in this state something comes of it, and all is there for it
+pub record ComesAs (s : State) (X : StepOutcome → Type 0) (p : Ready) : Type 0 where
+  pub comes : X (made p s)
+  pub ready : IsReady s p
+
+-- in this state the event comes of it, and all is there for it
+abbrev pub Prepares : State → Event → Ready → Type 0
+Prepares s event p = ComesAs s (Comes s event) p

@@ -9,8 +9,7 @@ ghost use Rattle.core_steps.specs.declared.events.Event.{Event};
 ghost use Rattle.core_steps.specs.declared.events.Question.{Question};
 ghost use Rattle.core_steps.specs.Status.{Shows};
 ghost use Rattle.core_steps.specs.Table.{IsTable};
-ghost use Rattle.prepared_events.specs.Prepared.{Prepares};
-ghost use Rattle.status_core.specs.PrivateParts.{IsFirstOpen};
+ghost use Rattle.status_core.specs.PrivateParts.{IsFirstOpen, Prepares};
 
 use crate::core_state::Core;
 use build_core::Numbered;

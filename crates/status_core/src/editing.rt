@@ -8,8 +8,8 @@ ghost use Rattle.core_steps.specs.declared.events.Event.{Event};
 ghost use Rattle.core_steps.specs.declared.events.Reply.{Reply};
 ghost use Rattle.core_steps.specs.Editing.{IsFullFor, lacking};
 ghost use Rattle.core_steps.specs.Outcomes.{entering};
-ghost use Rattle.prepared_events.specs.Prepared.{BuildsInFewSteps, ComesAs, Prepares};
-ghost use Rattle.status_core.specs.PrivateParts.{RefusesEdit};
+ghost use Rattle.prepared_events.specs.Prepared.{BuildsInFewSteps};
+ghost use Rattle.status_core.specs.PrivateParts.{RefusesEdit, ComesAs, Prepares};
 
 use crate::core_state::Core;
 use build_core::{BuildFault, Builder, few_faults, one_table};

@@ -10,11 +10,10 @@ ghost use Rattle.core_steps.specs.declared.events.Reply.{Reply};
 ghost use Rattle.core_steps.specs.declared.events.Status.{Status};
 ghost use Rattle.proof_entries.specs.declared.Entry.{Entry};
 ghost use Rattle.core_steps.specs.Outcomes.{entering};
-ghost use Rattle.core_steps.specs.Private.{AreFactsOf};
+ghost use Rattle.core_steps.specs.Stored.{AreFactsOf};
 ghost use Rattle.core_steps.specs.Tickets.{EndsTicket, IsPresentStatus, by_prover};
-ghost use Rattle.prepared_events.specs.Prepared.{ComesAs, Prepares};
 ghost use Rattle.table_lookup.specs.Tickets.{IsTicketAt};
-ghost use Rattle.status_core.specs.PrivateParts.{IsHeld, without_at};
+ghost use Rattle.status_core.specs.PrivateParts.{IsHeld, without_at, ComesAs, Prepares};
 
 use crate::core_state::Core;
 use crate::proving::Held;

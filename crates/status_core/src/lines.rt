@@ -5,7 +5,7 @@ ghost use Rattle.sequent_core.specs.Sequents.{IsSequent};
 ghost use Rattle.core_steps.specs.declared.events.Event.{Event};
 ghost use Rattle.core_steps.specs.declared.events.Question.{Question};
 ghost use Rattle.core_steps.specs.Proving.{ShowsTree, goal_of, lines_below, node_lines};
-ghost use Rattle.prepared_events.specs.Prepared.{ComesAs, Prepares};
+ghost use Rattle.status_core.specs.PrivateParts.{ComesAs, Prepares};
 
 use crate::core_state::Core;
 use crate::proving::{does_apply, tree_of};

@@ -9,10 +9,9 @@ ghost use Rattle.rule_making.specs.Make.{Answers, FitsAt};
 ghost use Rattle.proof_steps.specs.Places.{HasLeaf};
 ghost use Rattle.core_steps.specs.declared.events.Event.{Event};
 ghost use Rattle.core_steps.specs.declared.events.Question.{Question};
-ghost use Rattle.core_steps.specs.Private.{AreFactsOf};
+ghost use Rattle.core_steps.specs.Stored.{AreFactsOf};
 ghost use Rattle.core_steps.specs.Proving.{Keeps, Puts, StepsAt, StepsIn, PrunesAt, ShowsAt, stored_tree, tree_in};
-ghost use Rattle.prepared_events.specs.Prepared.{ComesAs, Prepares};
-ghost use Rattle.status_core.specs.PrivateParts.{IsHeld, IsMade, IsShownAt};
+ghost use Rattle.status_core.specs.PrivateParts.{IsHeld, IsMade, IsShownAt, ComesAs, Prepares};
 
 use crate::core_state::Core;
 use core_steps::{Facts, Reply, Room, StoredProof, facts_of, status_by};

@@ -6,8 +6,7 @@ ghost use Rattle.core_steps.specs.declared.events.Event.{Event};
 ghost use Rattle.core_steps.specs.Table.{IsTable};
 ghost use Rattle.core_steps.specs.Outcomes.{Where};
 ghost use Rattle.core_steps.specs.Tickets.{CanTakeNamed, TellsNotOpen, taking, ticket_for};
-ghost use Rattle.prepared_events.specs.Prepared.{ComesAs, Prepares};
-ghost use Rattle.status_core.specs.PrivateParts.{IsFirstOpen};
+ghost use Rattle.status_core.specs.PrivateParts.{IsFirstOpen, ComesAs, Prepares};
 
 use crate::core_state::Core;
 use build_core::one_table;

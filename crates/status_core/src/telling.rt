@@ -3,12 +3,11 @@ ghost use Rattle.std.specs.Prelude.{◌≡◌, ◌<◌, length, slice_get, IfOk,
 ghost use Rattle.std.specs.FinMap as map;
 ghost use Rattle.sequent_core.specs.declared.Ticket.{Ticket};
 ghost use Rattle.core_steps.specs.Outcomes.{told, entering};
-ghost use Rattle.core_steps.specs.Private.{AreFactsOf};
+ghost use Rattle.core_steps.specs.Stored.{AreFactsOf};
 ghost use Rattle.core_steps.specs.Tickets.{tried_with};
 ghost use Rattle.proof_entries.specs.declared.Entry.{Entry};
 ghost use Rattle.core_steps.specs.declared.events.Reply.{Reply};
-ghost use Rattle.prepared_events.specs.Prepared.{ComesAs};
-ghost use Rattle.status_core.specs.PrivateParts.{without_at};
+ghost use Rattle.status_core.specs.PrivateParts.{without_at, ComesAs};
 
 use crate::core_state::Core;
 use core_steps::Reply;

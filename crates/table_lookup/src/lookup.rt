@@ -9,7 +9,7 @@ ghost use Rattle.sequent_core.specs.Sequents.{IsSequent};
 ghost use Rattle.po_rules.specs.Sequents.{AreSequents};
 ghost use Rattle.proof_entries.specs.declared.Proof.{Proof};
 ghost use Rattle.core_steps.specs.Durable.{text_cmp};
-ghost use Rattle.core_steps.specs.Private.{AreFactsOf};
+ghost use Rattle.core_steps.specs.Stored.{AreFactsOf};
 ghost use Rattle.core_steps.specs.declared.events.Status.{Status};
 ghost use Rattle.core_steps.specs.Status.{IsStatus, IsUnsettledBy, origin_of};
 ghost use Rattle.core_steps.specs.Tickets.{CanTake, IsFor, IsPresentStatus, CanStore};

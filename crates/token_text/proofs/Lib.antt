@@ -5,3 +5,4 @@ pub mod Operators
 pub mod Words
 pub mod Names
 pub mod Numbers
+pub mod Following

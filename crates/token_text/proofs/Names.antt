@@ -15,7 +15,8 @@ use Rattle.math_tokens.specs.Texts.{meaning}
 use Rattle.math_grammar.specs.declared.symbols.Symbol.TheVariants as sym
 use Rattle.math_grammar.specs.Tokens.{or_word}
 use Rattle.math_grammar.specs.Grammar.{item}
-use Rattle.token_text.specs.Spacing.{stops, Follows, Fits}
+use Rattle.token_text.specs.Spacing.{Fits}
+use Rattle.token_text.proofs.Following.{stops, Follows}
 use Rattle.token_text.proofs.Tokens.{IsToken, fits, both_true, holds_inside, before_prime, no_form, stopped}
 use Rattle.token_text.proofs.Words.{ends_word, is_lettered, starts_in_word, no_blank_there, none_ends, none_goes_on, name_is_no_sign, name_is_no_word}
 

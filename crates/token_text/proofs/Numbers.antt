@@ -12,7 +12,8 @@ use Rattle.math_tokens.specs.Lexemes.{is_digit, is_digits, a_number, value_after
 use Rattle.math_tokens.specs.Texts.{meaning}
 use Rattle.math_grammar.specs.declared.symbols.Symbol.TheVariants as sym
 use Rattle.math_grammar.specs.Grammar.{item}
-use Rattle.token_text.specs.Spacing.{stops, Follows, Fits}
+use Rattle.token_text.specs.Spacing.{Fits}
+use Rattle.token_text.proofs.Following.{stops, Follows}
 use Rattle.token_text.proofs.Tokens.{IsToken, fits, both_true, stopped}
 use Rattle.token_text.proofs.Words.{is_lettered, digit_in_word, no_blank_there, none_goes_on, number_is_no_sign}
 

@@ -12,7 +12,8 @@ use Rattle.math_grammar.specs.Tokens.{symbol_of}
 use Rattle.math_grammar.specs.Operators.{sign_of, op_form, class_of, raw_sign_of, raw_class_of}
 use Rattle.math_grammar.specs.Grammar.{item}
 use Rattle.math_grammar.proofs.Rows.{any_operator}
-use Rattle.token_text.specs.Spacing.{is_space, stops, Follows, Fits}
+use Rattle.token_text.specs.Spacing.{is_space, Fits}
+use Rattle.token_text.proofs.Following.{stops, Follows}
 use Rattle.token_text.proofs.Signs.{kind_of, is_spaced, is_stopped, stopped_fits, before_blank}
 
 -- an operator with a sign of its own

@@ -16,7 +16,8 @@ use Rattle.math_tokens.specs.Texts.{second_length, blank_length, meaning}
 use Rattle.math_grammar.specs.declared.symbols.Symbol.{Symbol}
 use Rattle.math_grammar.specs.Tokens.{symbol_of}
 use Rattle.math_grammar.specs.Grammar.{item}
-use Rattle.token_text.specs.Spacing.{is_space, stops, Follows, Fits}
+use Rattle.token_text.specs.Spacing.{is_space, Fits}
+use Rattle.token_text.proofs.Following.{stops, Follows}
 use Rattle.token_text.proofs.Tokens.{goes_further, NoneGoesOn, IsToken, both_true, fits, stopped, free_sign}
 
 -- no closing brace: with one, { is a sign of its own

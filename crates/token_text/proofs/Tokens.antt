@@ -12,7 +12,8 @@ use Rattle.math_tokens.specs.Lexemes.{Forms, sign_in, is_digit, is_word, IsLexem
 use Rattle.math_tokens.specs.SignForms.{sign_forms}
 use Rattle.math_tokens.specs.Texts.{blank_length, meaning}
 use Rattle.math_grammar.specs.Tokens.{Item, symbol_of}
-use Rattle.token_text.specs.Spacing.{stops, Follows, Fits}
+use Rattle.token_text.specs.Spacing.{Fits}
+use Rattle.token_text.proofs.Following.{stops, Follows}
 
 -- a form begins with these bytes, and goes on with one that passes
 abbrev pub goes_further : List ℕ → (ℕ → Bool) → List ℕ → Bool

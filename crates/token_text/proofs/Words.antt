@@ -11,7 +11,7 @@ use Rattle.math_tokens.specs.SignForms.{sign_forms}
 use Rattle.math_tokens.specs.Texts.{blank_length}
 use Rattle.math_grammar.specs.declared.symbols.Symbol.{Symbol}
 use Rattle.math_grammar.specs.Tokens.{words, word_in}
-use Rattle.token_text.specs.Spacing.{stops, Follows}
+use Rattle.token_text.proofs.Following.{stops, Follows}
 use Rattle.token_text.proofs.Tokens.{goes_further, NoneGoesOn, both_true, false_unless, clash}
 use Rattle.token_text.proofs.Signs.{opens_set}
 

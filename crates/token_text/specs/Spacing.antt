@@ -1,10 +1,9 @@
 -- Texts that are written token by token.
-use Rattle.std.specs.Prelude.{◌≡◌, ℕ, ◌++◌, ◌==◌, ◌&&◌, ◌||◌, Bool, true, not, List, [], ◌∷◌, length, map, Ok}
-use Rattle.formula_core.specs.Names.{is_in_word, prime}
+use Rattle.std.specs.Prelude.{◌≡◌, ℕ, ◌++◌, ◌==◌, ◌||◌, Bool, true, List, [], ◌∷◌, length, map, Ok}
 use Rattle.math_tokens.specs.declared.lexemes.Lexeme.{Lexeme}
 use Rattle.math_tokens.specs.declared.cutting.TokenKind.{TokenKind}
 use Rattle.math_tokens.specs.declared.cutting.Token.{Token}
-use Rattle.math_tokens.specs.Lexemes.{is_digit, IsLongest}
+use Rattle.math_tokens.specs.Lexemes.{IsLongest}
 use Rattle.math_tokens.specs.SignForms.{sign_forms}
 use Rattle.math_tokens.specs.Texts.{blank_length, meaning, Cut}
 use Rattle.math_grammar.specs.declared.symbols.Symbol.{Symbol}
@@ -13,15 +12,6 @@ use Rattle.math_grammar.specs.Tokens.{Item, symbol_of, items_of}
 -- space, tab, CR or LF
 abbrev pub is_space : ℕ → Bool
 is_space c = c == 32 || (c == 9 || (c == 13 || c == 10))
-
--- a byte that goes on with no word, name or number: no byte of a word, and no prime
-abbrev pub stops : ℕ → Bool
-stops c = not (is_in_word c) && (not (is_digit c) && not (c == prime))
-
--- what follows begins with a byte that passes, if it isn't the end
-abbrev pub Follows : (ℕ → Bool) → List ℕ → Type 0
-Follows passes [] = Unit {0}
-Follows passes (c ∷ rest) = passes c ≡ true
 
 -- the bytes of the token are one of its class where the rest follows: none longer begins there
 pub record Fits (x : Item) (rest : List ℕ) : Type 0 where

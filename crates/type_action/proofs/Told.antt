@@ -3,8 +3,8 @@ use Rattle.std.proofs.Common.{◌≡◌, ◌∙◌, sym, ap, subst, refl, ℕ, L
 use Rattle.std.specs.Result.{IsErrOf}
 use Rattle.type_core.specs.declared.predicate.TypeFault.{TypeFault}
 use Rattle.type_core.specs.declared.predicate.TypeFault.TheVariants as fault
-use Rattle.type_action.specs.Results.{IsOnly, HasNone, HasTwo, IsAdded}
-use Rattle.type_action.specs.Answers.{TellsFault, TellsAfter}
+use Rattle.type_action.specs.Results.{IsOnly, HasNone, HasTwo}
+use Rattle.type_action.specs.Private.{IsAdded, TellsFault, TellsAfter}
 
 -- the values of Q are those of P, each in another form
 pub record IsFormOf {A B : Type 0} (P : A → Type 0) (Q : B → Type 0) (g : A → B) : Type 0 where

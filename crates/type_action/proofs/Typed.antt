@@ -16,8 +16,8 @@ use Rattle.type_core.proofs.WellTyped.{formula_well}
 use Rattle.type_action.specs.CoreActions.{CoreAction, Assign, ChooseIn, ChooseSuch, target_type, with_target, typed_targets, unknown_targets, primed_targets, agree, env_after}
 use Rattle.type_action.specs.Typings.{IsFormulaOf, IsNewValue, AreNewValues, IsActionOf, IsWellAs, IsWellAction}
 use Rattle.type_core.specs.declared.predicate.TypeFault.{TypeFault}
-use Rattle.type_action.specs.Results.{IsOnly, HasNone, HasTwo, IsAdded}
-use Rattle.type_action.specs.Answers.{TellsFault}
+use Rattle.type_action.specs.Results.{IsOnly, HasNone, HasTwo}
+use Rattle.type_action.specs.Private.{IsAdded, TellsFault}
 use Rattle.type_action.proofs.Told.{IsFormOf, IsListOf, list_added, first_none, rest_fault, first_untyped}
 
 pub some_is : {A : Type 0} → (a b : A) → Some a ≡ Some b → a ≡ b

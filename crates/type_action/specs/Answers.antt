@@ -1,37 +1,11 @@
 -- What the answers about an action say.
-use Rattle.std.specs.Prelude.{◌≡◌, ℕ, List, Option, Some, None, Result, Ok, Err}
+use Rattle.std.specs.Prelude.{ℕ, List}
 use Rattle.formula_core.specs.declared.ty.Ty.{Ty}
 use Rattle.formula_core.specs.declared.raw.Action.{Action}
 use Rattle.formula_core.specs.declared.raw.RawAction.{RawAction}
-use Rattle.type_core.specs.declared.predicate.TypeFault.{TypeFault}
-use Rattle.type_core.specs.declared.predicate.TypeFault.TheVariants as fault
-use Rattle.type_core.specs.Unknowns.{first_by_place}
-use Rattle.type_action.specs.CoreActions.{CoreAction, core_action, unknowns_of}
+use Rattle.type_action.specs.CoreActions.{core_action}
 use Rattle.type_action.specs.Typings.{IsActionOf}
-use Rattle.type_action.specs.Results.{IsOnly, HasNone, HasTwo}
 
 -- the written action may be typed so
 abbrev pub IsActionTyping : List (List ℕ × Ty) → RawAction → Action → Type 0
 IsActionTyping env raw a = IsActionOf env (core_action raw) a
-
--- a fault, where no name is unknown
-abbrev pub TellsFault : {A : Type 0} → (A → Type 0) → TypeFault → Type 0
-TellsFault P fault.Clash = HasNone P
-TellsFault P fault.Untyped = HasTwo P
-TellsFault P (fault.Unknown x place) = ⊥
-TellsFault P fault.OutOfMemory = Unit {0}
-
--- a fault, where `u` is the first name that is unknown
-abbrev pub TellsFaultAfter : {A : Type 0} → Option (List ℕ × ℕ) → (A → Type 0) → TypeFault → Type 0
-TellsFaultAfter u P fault.Clash = (u ≡ None) × HasNone P
-TellsFaultAfter u P fault.Untyped = (u ≡ None) × HasTwo P
-TellsFaultAfter u P (fault.Unknown x place) = u ≡ Some (x, place)
-TellsFaultAfter u P fault.OutOfMemory = Unit {0}
-
-abbrev pub TellsAfter : {A : Type 0} → Option (List ℕ × ℕ) → (A → Type 0) → Result A TypeFault → Type 0
-TellsAfter u P (Ok a) = (u ≡ None) × IsOnly P a
-TellsAfter u P (Err e) = TellsFaultAfter u P e
-
--- an answer about an action: its first unknown name goes first
-abbrev pub Tells : List (List ℕ × Ty) → CoreAction → Result Action TypeFault → Type 0
-Tells env a r = TellsAfter (first_by_place (unknowns_of env a)) (IsActionOf env a) r

@@ -1,5 +1,5 @@
 -- One value of a kind, none, or several.
-use Rattle.std.specs.Prelude.{◌≡◌, ◌≢◌, List, ◌++◌}
+use Rattle.std.specs.Prelude.{◌≡◌, ◌≢◌}
 
 -- this one and no other
 pub record IsOnly {A : Type 0} (P : A → Type 0) (a : A) : Type 0 where
@@ -15,9 +15,3 @@ pub record HasTwo {A : Type 0} (P : A → Type 0) : Type 0 where
   pub first : P one
   pub second : P two
   pub apart : one ≢ two
-
--- the list that stands behind the old one is the only one
-pub record IsAdded {A : Type 0} (P : List A → Type 0) (old new : List A) : Type 0 where
-  pub added : List A
-  pub is : new ≡ old ++ added
-  pub only : IsOnly P added

@@ -4,9 +4,9 @@ ghost use Rattle.formula_core.specs.Formulas.{joined};
 ghost use Rattle.type_core.specs.CoreForms.{core_form};
 ghost use Rattle.type_core.specs.Unknowns.{earlier, unknowns};
 ghost use Rattle.type_core.specs.Views.{bare_of};
-ghost use Rattle.type_action.specs.Answers.{TellsFault};
 ghost use Rattle.type_action.specs.CoreActions.{overridden};
-ghost use Rattle.type_action.specs.Results.{IsAdded, IsOnly};
+ghost use Rattle.type_action.specs.Results.{IsOnly};
+ghost use Rattle.type_action.specs.Private.{IsAdded, TellsFault};
 ghost use Rattle.type_action.specs.Typings.{IsFormulaOf, IsNewValue, AreNewValues};
 
 use crate::targets::target_type;

@@ -12,9 +12,10 @@ use Rattle.unification.proofs.Terms.{value-Int, value_of_type}
 use Rattle.type_core.specs.Bare.{Bare}
 use Rattle.type_core.specs.CoreForms.{core_form}
 use Rattle.type_core.specs.Typings.{Types}
-use Rattle.type_core.specs.PrivateGenerated.{generated, built}
+use Rattle.type_core.specs.PrivateGenerated.{generated}
+use Rattle.type_core.proofs.Built.{built}
 use Rattle.type_core.specs.PrivateClosed.{known}
-use Rattle.type_core.specs.Views.{scope_of, numbered, free_scope, expected_term}
+use Rattle.type_core.specs.PrivateViews.{scope_of, numbered, free_scope, expected_term}
 use Rattle.type_core.specs.declared.scope.Entry.{Entry}
 use Rattle.type_core.specs.Answers.{paired, AreValueTypes, IsExpected, IsTypedAs, extended, IsTheTyping, HasNoTyping, HasTwoTypings, IsTheFormula, HasNoFormula, HasTwoFormulas}
 use Rattle.type_core.proofs.Places.{typed_at}

@@ -6,16 +6,17 @@ use Rattle.formula_core.specs.declared.formula.Formula.TheVariants as formula
 use Rattle.formula_core.specs.Rows.{row_of}
 use Rattle.formula_core.specs.Schemes.{Scheme, Letters, AreValues, type_at, operand_schemes, result_scheme, part_schemes, binder_scheme}
 use Rattle.formula_core.specs.Wellness.{is_natural}
-use Rattle.unification.specs.Terms.{Open, variable, value, instance, letters_at}
+use Rattle.unification.specs.Terms.{Open, variable, value, instance}
 use Rattle.unification.specs.Solutions.{Solves}
-use Rattle.unification.proofs.Terms.{value_of_type, value_of_scheme}
+use Rattle.unification.proofs.Terms.{value_of_type, value_of_scheme, letters_at}
 use Rattle.unification.proofs.Unify.{Solves-append}
-use Rattle.type_core.specs.Bare.{Bare, Bares, Bounds, Number, Identifier, Form, Partition, Binding, Ascribed, Broken, nothing, more, unbound, plain, typed, part_count, name_count, has_names}
+use Rattle.type_core.specs.Bare.{Bare, Bares, Bounds, Number, Identifier, Form, Partition, Binding, Ascribed, Broken, nothing, more, unbound, plain, typed, part_count, has_names}
 use Rattle.type_core.specs.Scopes.{Scope, position_of, with_names, IsName}
 use Rattle.type_core.specs.TypeExpressions.{denoted}
 use Rattle.type_core.specs.Partition.{partition_schemes, partition_of}
 use Rattle.type_core.specs.Typings.{AreBound, Types, AllTyped}
-use Rattle.type_core.specs.PrivateGenerated.{width, widths, with_variables, name_equations, condition, type_equations, bound_equations, generated, all_generated, types_at, name_core, built, all_built}
+use Rattle.type_core.specs.PrivateGenerated.{width, widths, with_variables, name_equations, condition, type_equations, bound_equations, generated, all_generated, name_core, name_count}
+use Rattle.type_core.proofs.Built.{types_at, built, all_built}
 use Rattle.type_core.specs.Answers.{AreValueTypes}
 use Rattle.type_core.proofs.Denoted.{denoted_values}
 use Rattle.type_core.proofs.Places.{typed_at, typed_place, values, position-typed, with_names-typed, instances-at, denoted-typed}

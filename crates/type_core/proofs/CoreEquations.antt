@@ -12,8 +12,8 @@ use Rattle.formula_core.specs.declared.raw.Raw.TheFolds.{fold-roll-Raw, para-rol
 use Rattle.formula_core.specs.declared.op.Binder.{Binder}
 use Rattle.formula_core.specs.declared.raw.RawBinder.TheVariants as rawbinder
 use Rattle.type_core.specs.Bare.{Bare, Bares, Bounds, Number, Identifier, Binding, Broken, more, has_names}
-use Rattle.type_core.specs.Views.{in_a_row}
-use Rattle.type_core.specs.CoreForms.{free_step, free_names, free_in_form, free_in_binder, BareBound, bares, bounds, core_step, bound_step, core_form, core_of_form, core_of_lambda, core_of_unnamed, plain_names, once, two, turned, core_of_binder, with_core, bound_part}
+use Rattle.type_core.specs.CoreForms.{free_step, free_names, free_in_form, free_in_binder, BareBound, bares, bounds, core_step, bound_step, core_form, core_of_form, core_of_lambda, core_of_unnamed, plain_names, once, two, turned, core_of_binder}
+use Rattle.type_core.specs.PrivateViews.{with_core, bound_part, in_a_row}
 
 pub core_form-Int : (n : ℤ) (place : ℕ) → core_form (raw.Int n place) ≡ Number n
 core_form-Int n place = ap core_form (sym (rolls-Int n place)) ∙ para-roll-Raw Bare BareBound core_step bound_step (IntF n place)

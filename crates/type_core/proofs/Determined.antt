@@ -7,14 +7,15 @@ use Rattle.formula_core.specs.declared.formula.Formula.{Formula}
 use Rattle.formula_core.specs.declared.formula.Formula.TheVariants as formula
 use Rattle.formula_core.specs.Rows.{row_of}
 use Rattle.formula_core.specs.Schemes.{Scheme, result_scheme, binder_scheme, type_at as type_of_scheme}
-use Rattle.unification.specs.Terms.{Open, instance, letters_at}
+use Rattle.unification.specs.Terms.{Open, instance}
 use Rattle.unification.specs.Known.{type_at, closed}
-use Rattle.unification.proofs.Terms.{value_of_scheme}
+use Rattle.unification.proofs.Terms.{value_of_scheme, letters_at}
 use Rattle.unification.proofs.KnownTypes.{HasTypes, Differ, closed_value, open_differs}
-use Rattle.type_core.specs.Bare.{Bare, Bares, Bounds, Number, Identifier, Form, Partition, Binding, Ascribed, Broken, nothing, more, unbound, plain, typed, name_count}
+use Rattle.type_core.specs.Bare.{Bare, Bares, Bounds, Number, Identifier, Form, Partition, Binding, Ascribed, Broken, nothing, more, unbound, plain, typed}
 use Rattle.type_core.specs.Scopes.{Scope, position_of}
 use Rattle.type_core.specs.Partition.{partition_of}
-use Rattle.type_core.specs.PrivateGenerated.{width, with_variables, name_core, types_at, built, all_built}
+use Rattle.type_core.specs.PrivateGenerated.{width, with_variables, name_core, name_count}
+use Rattle.type_core.proofs.Built.{types_at, built, all_built}
 use Rattle.type_core.specs.PrivateClosed.{before, known_names, known_name, known_form, known_partition, known_binding, known, all_known}
 use Rattle.type_core.proofs.PartitionParts.{same_parts, same_type_of, same_free, same_bound, same_binder_parts, same_binder_type, same_bound_types, same_heads, same_tails, partition_same}
 

@@ -13,7 +13,7 @@ use Rattle.formula_core.specs.declared.ty.Ty.{Ty}
 use Rattle.type_core.specs.Bare.{Bare, Bounds, plain, typed, nothing}
 use Rattle.type_core.specs.Scopes.{Scope, one_further, position_of, has_name}
 use Rattle.type_core.specs.PrivateGenerated.{with_variables, condition, all_generated}
-use Rattle.type_core.specs.Views.{numbered, free_scope, entry, stacked, scope_of, found_of, place_of, terms_of}
+use Rattle.type_core.specs.PrivateViews.{numbered, free_scope, entry, stacked, scope_of, found_of, place_of, terms_of}
 use Rattle.type_core.specs.declared.scope.Entry.{Entry}
 
 pub stacked-push : (scope : Scope Open) (es : List Entry) (e : Entry) → stacked scope (es ++ e ∷ []) ≡ (e.name, variable e.variable) ∷ stacked scope es

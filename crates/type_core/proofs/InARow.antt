@@ -2,7 +2,8 @@
 use Rattle.std.proofs.Common.{◌≡◌, ◌∙◌, sym, ap, refl, ℕ, List, [], ◌∷◌, ◌++◌, map, Option}
 use Rattle.type_core.specs.Bare.{Bares, Bounds, nothing, more}
 use Rattle.type_core.specs.CoreForms.{bounds, bound_before}
-use Rattle.type_core.specs.Views.{bare_of, bound_of, in_a_row}
+use Rattle.type_core.specs.Views.{bare_of}
+use Rattle.type_core.specs.PrivateViews.{bound_of, in_a_row}
 use Rattle.type_core.specs.declared.tree.Tree.{Tree}
 
 -- trees before a row

@@ -13,3 +13,4 @@ pub mod Settled
 pub mod Sound
 pub mod Standing
 pub mod WellTyped
+pub mod Built

@@ -2,12 +2,13 @@
 use Rattle.std.proofs.Common.{◌≡◌, ◌∙◌, ap, refl, ℕ, suc, Bool, true, false, cond, List, [], ◌∷◌, Option, Some, None, bytes_eq, map}
 use Rattle.formula_core.specs.declared.ty.Ty.{Ty}
 use Rattle.formula_core.specs.Schemes.{Scheme, type_at}
-use Rattle.unification.specs.Terms.{Open, variable, value, instance, letters_at}
-use Rattle.unification.proofs.Terms.{value_of_scheme}
+use Rattle.unification.specs.Terms.{Open, variable, value, instance}
+use Rattle.unification.proofs.Terms.{value_of_scheme, letters_at}
 use Rattle.type_core.specs.Bare.{Bare, Bares, Bounds, Number, Identifier, Form, Partition, Binding, Ascribed, Broken, nothing, more, unbound, plain, typed}
 use Rattle.type_core.specs.Scopes.{Scope, one_further, position_of, with_names, has_name}
 use Rattle.type_core.specs.TypeExpressions.{is_carrier, denoted, denoted_form, all_denoted}
-use Rattle.type_core.specs.PrivateGenerated.{with_variables, types_at}
+use Rattle.type_core.specs.PrivateGenerated.{with_variables}
+use Rattle.type_core.proofs.Built.{types_at}
 use Rattle.formula_core.specs.declared.ty.Ty.TheVariants as ty
 
 -- a scope with something else for each of its names

@@ -31,11 +31,6 @@ abbrev pub part_count : Bares → ℕ
 part_count nothing = 0
 part_count (more b bs) = suc (part_count bs)
 
-abbrev pub name_count : Bounds → ℕ
-name_count unbound = 0
-name_count (plain x names) = suc (name_count names)
-name_count (typed x t names) = suc (name_count names)
-
 abbrev pub has_names : Bounds → Bool
 has_names unbound = false
 has_names (plain x names) = true

@@ -12,7 +12,6 @@ use Rattle.formula_core.specs.declared.raw.RawOp.TheVariants as rawop
 use Rattle.formula_core.specs.declared.raw.RawBinder.{RawBinder}
 use Rattle.formula_core.specs.declared.raw.RawBinder.TheVariants as rawbinder
 use Rattle.formula_core.specs.declared.raw.Raw.{Raw}
-use Rattle.formula_core.specs.declared.raw.RawBound.{RawBound}
 use Rattle.formula_core.specs.declared.raw.Raw.TheOpen.{Raw-F, RawBound-F, Int, Name, Node, Bind}
 use Rattle.formula_core.specs.declared.raw.Raw.TheFolds.{fold-Raw, para-Raw}
 use Rattle.type_core.specs.Bare.{Bare, Bares, Bounds, Number, Identifier, Form, Partition, Binding, Ascribed, Broken, nothing, more, unbound, plain, typed, has_names}
@@ -134,11 +133,3 @@ bound_step b = (b.name, option_map (λ p. p.1) b.ty)
 -- the core form of a written formula
 abbrev pub core_form : Raw → Bare
 core_form = para-Raw Bare BareBound core_step bound_step
-
--- a written formula beside its core form
-abbrev pub with_core : Raw → Part
-with_core r = (r, core_form r)
-
--- a name that is bound, with the core form of its type
-abbrev pub bound_part : RawBound → BareBound
-bound_part b = (b.name, option_map core_form b.ty)

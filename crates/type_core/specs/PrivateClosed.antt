@@ -9,9 +9,9 @@ use Rattle.formula_core.specs.Rows.{row_of}
 use Rattle.formula_core.specs.Schemes.{result_scheme, binder_scheme}
 use Rattle.unification.specs.Terms.{Open, instance}
 use Rattle.unification.specs.Known.{type_at, closed}
-use Rattle.type_core.specs.Bare.{Bare, Bares, Bounds, Number, Identifier, Form, Partition, Binding, Ascribed, Broken, nothing, more, unbound, plain, typed, name_count}
+use Rattle.type_core.specs.Bare.{Bare, Bares, Bounds, Number, Identifier, Form, Partition, Binding, Ascribed, Broken, nothing, more, unbound, plain, typed}
 use Rattle.type_core.specs.Scopes.{Scope, position_of}
-use Rattle.type_core.specs.PrivateGenerated.{width, with_variables, name_core}
+use Rattle.type_core.specs.PrivateGenerated.{width, with_variables, name_core, name_count}
 use Rattle.type_core.specs.Partition.{partition_of}
 
 -- a list with one more before it, where both are there

@@ -1,18 +1,23 @@
--- The equations of a bare formula, whose variables are numbered as it is read, and the formula that types of the variables give.
-use Rattle.std.specs.Prelude.{ℕ, suc, ◌+◌, pos, Bool, true, false, List, [], ◌∷◌, ◌++◌, Option, Some, None, map}
+-- The equations of a bare formula, whose variables are numbered as it is read.
+use Rattle.std.specs.Prelude.{ℕ, suc, ◌+◌, Bool, true, false, List, [], ◌∷◌, ◌++◌, Option, Some, None, map}
 use Rattle.formula_core.specs.declared.ty.Ty.{Ty}
 use Rattle.formula_core.specs.declared.op.Binder.{Binder}
 use Rattle.formula_core.specs.declared.formula.Formula.{Formula}
 use Rattle.formula_core.specs.declared.formula.Formula.TheVariants as formula
 use Rattle.formula_core.specs.Rows.{row_of}
-use Rattle.formula_core.specs.Schemes.{operand_schemes, result_scheme, part_schemes, binder_scheme, type_at}
+use Rattle.formula_core.specs.Schemes.{operand_schemes, result_scheme, part_schemes, binder_scheme}
 use Rattle.formula_core.specs.Wellness.{is_natural}
-use Rattle.unification.specs.Terms.{Open, integers, booleans, predicates, variable, open_of, instance, letters_at}
+use Rattle.unification.specs.Terms.{Open, integers, booleans, predicates, variable, open_of, instance}
 use Rattle.unification.specs.Solutions.{Equality}
-use Rattle.type_core.specs.Bare.{Bare, Bares, Bounds, Number, Identifier, Form, Partition, Binding, Ascribed, Broken, nothing, more, unbound, plain, typed, part_count, name_count, has_names}
+use Rattle.type_core.specs.Bare.{Bare, Bares, Bounds, Number, Identifier, Form, Partition, Binding, Ascribed, Broken, nothing, more, unbound, plain, typed, part_count, has_names}
 use Rattle.type_core.specs.Scopes.{Scope, position_of, with_names}
 use Rattle.type_core.specs.TypeExpressions.{denoted}
-use Rattle.type_core.specs.Partition.{partition_schemes, partition_of}
+use Rattle.type_core.specs.Partition.{partition_schemes}
+
+abbrev pub name_count : Bounds → ℕ
+name_count unbound = 0
+name_count (plain x names) = suc (name_count names)
+name_count (typed x t names) = suc (name_count names)
 
 -- how many variables a formula has
 abbrev mutual
@@ -96,28 +101,6 @@ abbrev mutual
 abbrev pub binder_equations : List (List ℕ × Ty) → Scope Open → Binder → Bounds → ℕ → Open → List Equality
 binder_equations env bound binder names n expected = (instance n (binder_scheme binder), expected) ∷ (condition (has_names names) ++ bound_equations env bound names (n + 4))
 
--- the types of variables in a row
-abbrev pub types_at : (ℕ → Ty) → Bounds → ℕ → List Ty
-types_at v unbound n = []
-types_at v (plain x names) n = v n ∷ types_at v names (suc n)
-types_at v (typed x written names) n = v n ∷ types_at v names (suc n)
-
 abbrev pub name_core : List ℕ → Option (ℕ × Open) → Ty → Formula
 name_core x None t = formula.Free x t
 name_core x (Some p) t = formula.Bound p.0 t
-
--- the formula, where the variables have these types
-abbrev mutual
-  pub built : (ℕ → Ty) → Scope Open → Bare → ℕ → Formula
-  built v bound (Number k) n = formula.Int k
-  built v bound (Identifier x place) n = name_core x (position_of x bound) (v n)
-  built v bound (Form op parts) n = formula.Node op (all_built v bound parts (n + 4)) (type_at (letters_at v n) (result_scheme (row_of op)))
-  built v bound (Partition parts) n = partition_of (all_built v bound parts (n + 4))
-  built v bound (Binding binder names parts) n =
-      formula.Bind binder (types_at v names (n + 4)) (all_built v (with_variables names (n + 4) bound) parts (n + 4 + name_count names)) (type_at (letters_at v n) (binder_scheme binder))
-  built v bound (Ascribed e written) n = built v bound e n
-  built v bound (Broken parts) n = formula.Int (pos 0)
-
-  pub all_built : (ℕ → Ty) → Scope Open → Bares → ℕ → List Formula
-  all_built v bound nothing n = []
-  all_built v bound (more b bs) n = built v bound b n ∷ all_built v bound bs (n + width b)

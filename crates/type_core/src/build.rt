@@ -4,11 +4,12 @@ ghost use Rattle.formula_core.specs.Rows.{row_of};
 ghost use Rattle.formula_core.specs.Schemes.{result_scheme, binder_scheme};
 ghost use Rattle.unification.specs.Terms.{instance, term_of};
 ghost use Rattle.unification.specs.Known.{type_at, closed};
-ghost use Rattle.type_core.specs.Bare.{Form, Partition, Binding, name_count};
+ghost use Rattle.type_core.specs.Bare.{Form, Partition, Binding};
 ghost use Rattle.type_core.specs.Scopes.{position_of};
-ghost use Rattle.type_core.specs.PrivateGenerated.{width, widths, with_variables};
+ghost use Rattle.type_core.specs.PrivateGenerated.{width, widths, with_variables, name_count};
 ghost use Rattle.type_core.specs.PrivateClosed.{behind, known_names, known_name, known, all_known, known_form, known_partition, known_binding};
-ghost use Rattle.type_core.specs.Views.{bare_of, bares_of, bounds_of, scope_of};
+ghost use Rattle.type_core.specs.Views.{bare_of, bares_of, bounds_of};
+ghost use Rattle.type_core.specs.PrivateViews.{scope_of};
 
 use crate::collect::{bind_names, count_names, take_variables};
 use crate::partition::make_partition;

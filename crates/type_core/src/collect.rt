@@ -4,12 +4,13 @@ ghost use Rattle.formula_core.specs.Rows.{row_of};
 ghost use Rattle.formula_core.specs.Schemes.{operand_schemes, result_scheme, part_schemes, binder_scheme};
 ghost use Rattle.unification.specs.Terms.{term_of, variable, integers, predicates, open_of, instance};
 ghost use Rattle.unification.specs.Solutions.{equations_of};
-ghost use Rattle.type_core.specs.Bare.{part_count, name_count, has_names};
+ghost use Rattle.type_core.specs.Bare.{part_count, has_names};
 ghost use Rattle.type_core.specs.Scopes.{position_of};
 ghost use Rattle.type_core.specs.TypeExpressions.{denoted};
 ghost use Rattle.type_core.specs.Partition.{partition_schemes};
-ghost use Rattle.type_core.specs.PrivateGenerated.{width, widths, impossible, condition, type_equations, bound_equations, generated, all_generated, binder_equations, with_variables, name_equations};
-ghost use Rattle.type_core.specs.Views.{bare_of, bares_of, bounds_of, scope_of, entry, free_scope, terms_of};
+ghost use Rattle.type_core.specs.PrivateGenerated.{width, widths, impossible, condition, type_equations, bound_equations, generated, all_generated, binder_equations, with_variables, name_equations, name_count};
+ghost use Rattle.type_core.specs.Views.{bare_of, bares_of, bounds_of};
+ghost use Rattle.type_core.specs.PrivateViews.{scope_of, entry, free_scope, terms_of};
 
 use crate::denote::denote;
 use crate::scope::{Entry, name_term};

@@ -2,7 +2,8 @@
 ghost use Rattle.std.specs.Prelude.{◌≡◌, ◌∷◌, [], ℕ, IfOk, Some, None};
 ghost use Rattle.type_core.specs.Bare.{Identifier};
 ghost use Rattle.type_core.specs.TypeExpressions.{is_carrier, power_of, pair_of, denoted, all_denoted, denoted_form};
-ghost use Rattle.type_core.specs.Views.{bare_of, bares_of, scope_of};
+ghost use Rattle.type_core.specs.Views.{bare_of, bares_of};
+ghost use Rattle.type_core.specs.PrivateViews.{scope_of};
 
 use crate::scope::{Entry, is_bound};
 use crate::tree::{Tree, Trees};

@@ -8,7 +8,8 @@ ghost use Rattle.type_core.specs.Answers.{with_name, extended, IsExpected, IsThe
 ghost use Rattle.type_core.specs.CoreForms.{core_form};
 ghost use Rattle.type_core.specs.Laws.{IsExpectedOver, IsStanding, StandsAfter};
 ghost use Rattle.type_core.specs.Unknowns.{unknowns, first_by_place, unknown_in};
-ghost use Rattle.type_core.specs.Views.{bare_of, free_scope, expected_term};
+ghost use Rattle.type_core.specs.Views.{bare_of};
+ghost use Rattle.type_core.specs.PrivateViews.{free_scope, expected_term};
 ghost use Rattle.type_core.specs.PrivateGenerated.{generated};
 ghost use Rattle.unification.specs.Terms.{term_of};
 ghost use Rattle.unification.specs.Solutions.{equations_of};

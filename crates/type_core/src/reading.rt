@@ -2,8 +2,9 @@
 ghost use Rattle.std.specs.Prelude.{◌≡◌, map, IfOk, List, Option};
 ghost use Rattle.std.specs.Option.{option_map};
 ghost use Rattle.type_core.specs.Bare.{has_names};
-ghost use Rattle.type_core.specs.CoreForms.{core_form, core_of_unnamed, with_core, bound_part, bares, bounds};
-ghost use Rattle.type_core.specs.Views.{bare_of, bares_of, bounds_of, bound_of, in_a_row};
+ghost use Rattle.type_core.specs.CoreForms.{core_form, core_of_unnamed, bares, bounds};
+ghost use Rattle.type_core.specs.PrivateViews.{with_core, bound_part, bound_of, in_a_row};
+ghost use Rattle.type_core.specs.Views.{bare_of, bares_of, bounds_of};
 
 use crate::forms::{lambda, make_form, turn};
 use crate::free::free_names_once;

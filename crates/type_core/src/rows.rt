@@ -1,7 +1,8 @@
 //! Lists of trees in a row.
 ghost use Rattle.std.specs.Prelude.{◌≡◌, map, IfOk};
 ghost use Rattle.type_core.specs.CoreForms.{bounds, bound_before};
-ghost use Rattle.type_core.specs.Views.{bare_of, bares_of, bounds_of, bound_of, in_a_row};
+ghost use Rattle.type_core.specs.Views.{bare_of, bares_of, bounds_of};
+ghost use Rattle.type_core.specs.PrivateViews.{bound_of, in_a_row};
 
 use crate::tree::{BoundNames, Tree, Trees, before, plain_name, typed_name};
 use formula_core::{Name, OutOfMemory};

@@ -2,7 +2,7 @@
 ghost use Rattle.std.specs.Prelude.{◌≡◌, ◌+◌, ◌<◌, ◌^◌, length, IfOk, IfSome, IfNone};
 ghost use Rattle.type_core.specs.Scopes.{position_of, has_name};
 ghost use Rattle.type_core.specs.PrivateGenerated.{nearest};
-ghost use Rattle.type_core.specs.Views.{scope_of, free_scope, numbered, place_of, found_of, variable_of, term_in};
+ghost use Rattle.type_core.specs.PrivateViews.{scope_of, free_scope, numbered, place_of, found_of, variable_of, term_in};
 
 use formula_core::{Env, Name, OutOfMemory};
 use std::alloc::Global;

@@ -5,7 +5,7 @@ ghost use Rattle.formula_core.specs.Schemes.{operand_schemes, result_scheme, par
 ghost use Rattle.formula_core.specs.SchemeView.{scheme_of};
 ghost use Rattle.unification.specs.Terms.{term_of, instance, predicates};
 ghost use Rattle.type_core.specs.Partition.{partition_schemes};
-ghost use Rattle.type_core.specs.Views.{terms_of};
+ghost use Rattle.type_core.specs.PrivateViews.{terms_of};
 
 use formula_core::{BinaryRow, Binder, Op, OutOfMemory, Row, Scheme};
 use std::alloc::Global;

@@ -1,16 +1,21 @@
 -- Types of values, and the equations of recursions over types.
 use Rattle.std.proofs.Common.{◌≡◌, ◌∙◌, sym, ap, ℕ, suc, max, true, false, ◌&&◌, List, refl}
+use Rattle.std.specs.Prelude.{◌+◌}
 use Rattle.formula_core.specs.declared.ty.Ty.{Ty, out-Ty}
 use Rattle.formula_core.specs.declared.ty.Ty.TheOpen.{Ty-F, Int as IntF, Bool as BoolF, Given as GivenF, Pow as PowF, Pair as PairF, Truth as TruthF}
 use Rattle.formula_core.specs.declared.ty.Ty.TheVariants as ty
 use Rattle.formula_core.specs.declared.ty.Ty.TheViews.{rolls-Int, rolls-Bool, rolls-Given, rolls-Pow, rolls-Pair, rolls-Truth, outs-Int, outs-Bool, outs-Given, outs-Pow, outs-Pair, outs-Truth}
 use Rattle.formula_core.specs.Types.{is_value_step, is_value_type}
 use Rattle.formula_core.specs.Schemes as scheme
-use Rattle.formula_core.specs.Schemes.{Scheme, type_at}
+use Rattle.formula_core.specs.Schemes.{Scheme, type_at, Letters}
 use Rattle.formula_core.proofs.Equations.{type_fold}
 use Rattle.formula_core.proofs.Types.{type_induction}
 use Rattle.unification.specs.PrivateOrder.{depth_step, depth}
-use Rattle.unification.specs.Terms.{Open, integers, booleans, predicates, carrier, variable, powerset, product, value, open_of_step, open_of, instance, letters_at}
+use Rattle.unification.specs.Terms.{Open, integers, booleans, predicates, carrier, variable, powerset, product, value, open_of_step, open_of, instance}
+
+-- the types of four variables, as those of the letters
+abbrev pub letters_at : (ℕ → Ty) → ℕ → Letters
+letters_at v n = record { alpha = v n; beta = v (n + 1); gamma = v (n + 2); delta = v (n + 3) }
 
 pub value-Int : is_value_type ty.Int ≡ true
 value-Int = type_fold is_value_step IntF _ rolls-Int

@@ -5,7 +5,7 @@ use Rattle.formula_core.specs.declared.ty.Ty.TheVariants as ty
 use Rattle.formula_core.specs.declared.ty.Ty.TheOpen.{Ty-F, Int as IntF, Bool as BoolF, Given as GivenF, Pow as PowF, Pair as PairF, Truth as TruthF}
 use Rattle.formula_core.specs.declared.ty.Ty.TheFolds.{fold-Ty}
 use Rattle.formula_core.specs.Schemes as scheme
-use Rattle.formula_core.specs.Schemes.{Scheme, Letters}
+use Rattle.formula_core.specs.Schemes.{Scheme}
 use Rattle.unification.specs.declared.term.Term.{Term}
 use Rattle.unification.specs.declared.term.Term.TheVariants.{Int, Bool as BoolV, Truth, Given, Var, Pow', Pair'}
 
@@ -62,7 +62,3 @@ instance n scheme.boolean = booleans
 instance n scheme.truth = predicates
 instance n (scheme.power a) = powerset (instance n a)
 instance n (scheme.pair a b) = product (instance n a) (instance n b)
-
--- the types of four variables, as those of the letters
-abbrev pub letters_at : (ℕ → Ty) → ℕ → Letters
-letters_at v n = record { alpha = v n; beta = v (n + 1); gamma = v (n + 2); delta = v (n + 3) }

@@ -3,7 +3,8 @@ ghost use Rattle.std.specs.Prelude.{◌↔◌, IsTrue};
 ghost use Rattle.std.specs.List.{AllByRecursion};
 ghost use Rattle.proof_codec.specs.Parts.{IsOption, IsList};
 ghost use Rattle.proof_codec.specs.Formulas.{IsFitFormula};
-ghost use Rattle.proof_codec.specs.Rules.{IsFitAntecedent, IsFitIdentifier, IsFitKind, IsFitRule};
+ghost use Rattle.proof_codec.specs.Rules.{IsFitIdentifier, IsFitKind, IsFitRule};
+ghost use Rattle.proof_codec.specs.Private.{IsFitAntecedent};
 
 use crate::formula::{are_fit_formulas, is_fit_formula, is_fit_type, is_short};
 use formula_core::{Formula, Name, Ty};

@@ -1,6 +1,6 @@
 use Rattle.std.proofs.Common.{◌≡◌, drop, map, fold}
 use Rattle.formula_core.specs.Formulas.{occurrences, with_new, joined}
-use Rattle.formula_core.specs.Places.{HasPlaces}
+use Rattle.formula_core.specs.PrivatePlaces.{HasPlaces}
 use Rattle.formula_core.proofs.+free.Given as goal
 
 abbrev pub invariant-free::collect_all-loop-item : goal.invariant-free::collect_all-loop-item

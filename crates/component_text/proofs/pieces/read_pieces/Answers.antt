@@ -4,7 +4,8 @@ use Rattle.component_text.specs.Marks.{marks_of}
 use Rattle.component_text.specs.Forms.{limits, parts}
 use Rattle.component_text.specs.Machines.{IsComponent}
 use Rattle.component_text.specs.Faults.{IsUnexpectedAt, IsTooLargeAt}
-use Rattle.component_text.specs.Spelled.{misnamed, HasText}
+use Rattle.component_text.specs.Spelled.{misnamed}
+use Rattle.component_text.specs.PrivatePieces.{HasText}
 use Rattle.component_text.proofs.Utf8.{all_behind}
 use Rattle.component_text.proofs.Texted.{told_wrong_name, told_behind, told_unexpected, told_too_large, component_loosens, component_short, component_named}
 use Rattle.component_text.proofs.pieces.read_pieces.Goals as goal

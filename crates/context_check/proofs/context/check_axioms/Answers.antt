@@ -3,7 +3,8 @@ use Rattle.std.specs.List.{IsDistinct}
 use Rattle.model_core.specs.declared.checked.Checked.TheVariants.{Context}
 use Rattle.check_rules.specs.Contexts.{carrier_set, names_of}
 use Rattle.check_rules.specs.Visible.{entries, names}
-use Rattle.context_check.specs.Views.{names_in, placed, visible}
+use Rattle.context_check.specs.Views.{placed, visible}
+use Rattle.context_check.specs.Private.{names_in}
 use Rattle.context_check.proofs.Contexts.{concluded}
 use Rattle.context_check.proofs.Distinct.{sets_distinct}
 use Rattle.context_check.proofs.context.check_axioms.Goals as goal

@@ -3,7 +3,8 @@ use Rattle.std.specs.List.{zip}
 use Rattle.model_core.specs.Faults.{earlier, first_by_place}
 use Rattle.check_rules.specs.Declarations.{brings_clash, declared_twice}
 use Rattle.check_rules.specs.Visible.{entries, names, seen_from}
-use Rattle.context_check.specs.Views.{names_in, placed, visible}
+use Rattle.context_check.specs.Views.{placed, visible}
+use Rattle.context_check.specs.Private.{names_in}
 use Rattle.context_check.proofs.Contexts.{begun}
 use Rattle.context_check.proofs.Distinct.{all_distinct, nothing_distinct}
 use Rattle.context_check.proofs.context.check_beside.Goals as goal

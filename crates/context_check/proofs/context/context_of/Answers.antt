@@ -3,7 +3,8 @@ use Rattle.std.specs.List.{IsDistinct}
 use Rattle.check_rules.specs.Contexts.{names_of}
 use Rattle.check_rules.specs.Typed.{in_order}
 use Rattle.check_rules.specs.Visible.{entries, origins}
-use Rattle.context_check.specs.Views.{names_in, placed}
+use Rattle.context_check.specs.Views.{placed}
+use Rattle.context_check.specs.Private.{names_in}
 use Rattle.context_check.proofs.context.context_of.Goals as goal
 
 pub checked_env-requires : goal.checked_env-requires

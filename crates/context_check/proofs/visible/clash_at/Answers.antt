@@ -2,7 +2,8 @@ use Rattle.std.proofs.Common.{◌∙◌, ap, sym, map}
 use Rattle.std.specs.List.{zip}
 use Rattle.std.specs.Option.{option_map}
 use Rattle.check_rules.specs.Visible.{identifiers, of_context}
-use Rattle.context_check.specs.Views.{placed, clashes, first_clashing, visible}
+use Rattle.context_check.specs.Views.{placed, clashes, visible}
+use Rattle.context_check.specs.Private.{first_clashing}
 use Rattle.context_check.proofs.Clashes.{first_told, told}
 use Rattle.context_check.proofs.visible.clash_at.Goals as goal
 

@@ -1,5 +1,6 @@
 use Rattle.std.proofs.Common.{◌∙◌, ◌+◌, ap, cond, Some, map, drop}
-use Rattle.context_check.specs.Views.{placed, clashes, first_clashing}
+use Rattle.context_check.specs.Views.{placed, clashes}
+use Rattle.context_check.specs.Private.{first_clashing}
 use Rattle.context_check.proofs.Clashes.{clash_step}
 use Rattle.context_check.proofs.visible.first_clash.Goals as goal
 

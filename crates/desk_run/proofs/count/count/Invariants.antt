@@ -1,4 +1,4 @@
-use Rattle.desk_run.specs.Counting.{HasCounted}
+use Rattle.desk_run.specs.Private.{HasCounted}
 use Rattle.desk_run.proofs.count.count.Given as goal
 
 abbrev pub invariant-loop : goal.invariant-loop

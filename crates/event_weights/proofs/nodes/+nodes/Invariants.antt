@@ -1,5 +1,6 @@
 use Rattle.std.proofs.Common.{◌≡◌, ◌+◌, ◌-◌, ◌^◌, ◌<◌, min, map, drop, sum}
-use Rattle.event_weights.specs.Weights.{raw_nodes, bound_nodes}
+use Rattle.event_weights.specs.Weights.{raw_nodes}
+use Rattle.event_weights.specs.Private.{bound_nodes}
 use Rattle.event_weights.proofs.nodes.+nodes.Given as goal
 
 abbrev pub invariant-nodes_of_all-loop-part : goal.invariant-nodes_of_all-loop-part

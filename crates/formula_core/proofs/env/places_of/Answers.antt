@@ -1,5 +1,5 @@
 use Rattle.std.proofs.Common.{rules, ◌≡◌, ◌∙◌, sym, false, is_some}
-use Rattle.formula_core.specs.Places.{IsNoted}
+use Rattle.formula_core.specs.PrivatePlaces.{IsNoted}
 use Rattle.formula_core.proofs.Places.{place}
 use Rattle.formula_core.proofs.EntryPlaces.{next_noted}
 use Rattle.formula_core.proofs.env.places_of.Goals as goal

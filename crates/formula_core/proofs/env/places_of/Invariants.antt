@@ -1,5 +1,5 @@
 use Rattle.std.proofs.Common.{take}
-use Rattle.formula_core.specs.Places.{AreAtPlaces}
+use Rattle.formula_core.specs.PrivatePlaces.{AreAtPlaces}
 use Rattle.formula_core.proofs.env.places_of.Given as goal
 
 abbrev pub invariant-loop-at : goal.invariant-loop-at

@@ -1,5 +1,5 @@
 use Rattle.std.proofs.Common.{rules, ◌≡◌, sym, subst, ◌++◌, ◌∷◌, []}
-use Rattle.formula_core.specs.Places.{HasPlaces}
+use Rattle.formula_core.specs.PrivatePlaces.{HasPlaces}
 use Rattle.formula_core.proofs.Places.{places_known}
 use Rattle.formula_core.proofs.free.add_at_place.Goals as goal
 

@@ -3,7 +3,7 @@ use Rattle.std.specs.Prelude.{Some}
 use Rattle.std.specs.BTreeMap.{is_at}
 use Rattle.std.specs.Ordering.{nat_cmp}
 use Rattle.std.specs.Cmp.Lexicographic.{slice_cmp}
-use Rattle.formula_core.specs.Places.{HasPlaces}
+use Rattle.formula_core.specs.PrivatePlaces.{HasPlaces}
 use Rattle.formula_core.proofs.Places.{place, places_new}
 use Rattle.formula_core.proofs.free.add_with_place.Goals as goal
 

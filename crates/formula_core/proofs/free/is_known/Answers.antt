@@ -1,5 +1,5 @@
 use Rattle.std.proofs.Common.{◌∙◌, sym, subst}
-use Rattle.formula_core.specs.Places.{IsPlaceOf}
+use Rattle.formula_core.specs.PrivatePlaces.{IsPlaceOf}
 use Rattle.formula_core.proofs.Places.{none_known, known}
 use Rattle.formula_core.proofs.free.is_known.Goals as goal
 

@@ -1,6 +1,7 @@
 -- the word is not among the entries so far
 use Rattle.std.proofs.Common.{◌≡◌, drop}
-use Rattle.math_grammar.specs.Tokens.{word_in, entries}
+use Rattle.math_grammar.specs.Tokens.{word_in}
+use Rattle.math_grammar.specs.Private.{entries}
 use Rattle.math_grammar.proofs.words.word_in.Given as goal
 
 abbrev pub invariant-loop-text : goal.invariant-loop-text

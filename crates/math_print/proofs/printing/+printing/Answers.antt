@@ -1,6 +1,7 @@
 use Rattle.std.proofs.Common.{rules, arith, ◌≡◌, ◌∙◌, ap, sym, ◌-◌, ◌++◌, ◌∷◌, [], false, map, string_bytes}
 use Rattle.math_print.specs.Characters.{bytes, comma_after, separated}
-use Rattle.math_print.specs.Printing.{printed, with_texts, bind_text, name_at, body_text, operand, operator_text}
+use Rattle.math_print.specs.Printing.{printed, bind_text, name_at, body_text, operand, operator_text}
+use Rattle.math_print.specs.Private.{with_texts}
 use Rattle.math_print.specs.declared.levels.Side.TheVariants as side
 use Rattle.std.proofs.lemmas.List.{append-nil}
 use Rattle.math_print.proofs.Equations.{printed-Int, printed-Free, printed-Bound, printed-Bind}

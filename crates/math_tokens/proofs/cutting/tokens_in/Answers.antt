@@ -1,5 +1,5 @@
 use Rattle.std.proofs.Common.{◌≡◌, ◌+◌, ◌<◌, [], drop, length, Some, Ok, ap, subst, arith, append-nil}
-use Rattle.math_tokens.specs.Lexemes.{table}
+use Rattle.math_tokens.specs.Private.{table}
 use Rattle.math_tokens.specs.Texts.{blank_length, IsTokenAt, Cut, at_end, over_blank}
 use Rattle.math_tokens.proofs.Walk.{blank_there, token_ends, one_more, blank_span, fault_cuts}
 use Rattle.math_tokens.proofs.cutting.tokens_in.Goals as goal

@@ -2,8 +2,9 @@
 use Rattle.std.proofs.Common.{◌≤◌, ◌-◌, List, length, Result}
 use Rattle.math_tokens.specs.declared.cutting.Token.{Token}
 use Rattle.math_tokens.specs.declared.cutting.TokenFault.{TokenFault}
-use Rattle.math_tokens.specs.Lexemes.{table}
-use Rattle.math_tokens.specs.Texts.{Cut, behind}
+use Rattle.math_tokens.specs.Private.{table}
+use Rattle.math_tokens.specs.Texts.{Cut}
+use Rattle.math_tokens.proofs.Walk.{behind}
 use Rattle.math_tokens.proofs.cutting.tokens_in.Given as goal
 
 abbrev pub invariant-loop-at : goal.invariant-loop-at

@@ -1,4 +1,4 @@
-use Rattle.math_tokens.specs.Lexemes.{table}
+use Rattle.math_tokens.specs.Private.{table}
 use Rattle.math_tokens.proofs.Fronts.{begins}
 use Rattle.math_tokens.proofs.lexemes.longest_lexeme.Goals as goal
 

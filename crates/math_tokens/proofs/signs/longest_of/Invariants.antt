@@ -1,6 +1,6 @@
 -- the best of the forms so far
 use Rattle.std.proofs.Common.{take}
-use Rattle.math_tokens.specs.Lexemes.{Best, table}
+use Rattle.math_tokens.specs.Private.{Best, table}
 use Rattle.math_tokens.proofs.signs.longest_of.Given as goal
 
 abbrev pub invariant-loop-form : goal.invariant-loop-form

@@ -1,5 +1,4 @@
-use Rattle.proof_codec.specs.Forms.{IsReadAs}
-use Rattle.proof_codec.specs.Parts.{AreItems, items_bytes}
+use Rattle.proof_codec.specs.Private.{IsReadAs, AreItems, items_bytes}
 use Rattle.proof_codec.proofs.coded.items.Given as goal
 
 abbrev pub invariant-loop : goal.invariant-loop

@@ -1,7 +1,6 @@
 use Rattle.std.proofs.Common.{take}
 use Rattle.std.specs.List.{AllByRecursion}
-use Rattle.proof_codec.specs.Forms.{IsWrittenAs}
-use Rattle.proof_codec.specs.Parts.{items_bytes}
+use Rattle.proof_codec.specs.Private.{IsWrittenAs, items_bytes}
 use Rattle.proof_codec.proofs.coded.write_items.Given as goal
 
 abbrev pub invariant-loop-item : goal.invariant-loop-item

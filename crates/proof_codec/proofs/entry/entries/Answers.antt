@@ -1,6 +1,6 @@
 use Rattle.std.proofs.Common.{ℕ, ◌≡◌, ◌-◌, ◌∙◌, length, length-append, sym, ap, subst, arith}
 use Rattle.std.proofs.lemmas.List.{append-nil}
-use Rattle.proof_codec.specs.Forms.{Misses}
+use Rattle.proof_codec.specs.Private.{Misses}
 use Rattle.proof_codec.specs.Entries.{IsEntryBy, bytes_by, IsStuckAt}
 use Rattle.proof_codec.proofs.Chains.{IsChain, chain_on, chain_good, chain_whole, chain_only, chain_stuck, chain_never}
 use Rattle.proof_codec.proofs.Entrance.{not_empty}

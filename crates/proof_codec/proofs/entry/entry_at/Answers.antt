@@ -1,6 +1,6 @@
 use Rattle.std.proofs.Common.{subst}
 use Rattle.std.proofs.lemmas.Result.{err_from_is_err_and}
-use Rattle.proof_codec.specs.Forms.{IsReadAs}
+use Rattle.proof_codec.specs.Private.{IsReadAs}
 use Rattle.proof_codec.specs.Numbers.{IsByte, byte}
 use Rattle.proof_codec.proofs.Entrance.{put_read, no_put, no_drop, set_read, no_set, no_tag}
 use Rattle.proof_codec.proofs.entry.entry_at.Goals as goal

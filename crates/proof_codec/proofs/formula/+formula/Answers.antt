@@ -1,8 +1,8 @@
 use Rattle.std.proofs.Common.{subst, arith}
 use Rattle.std.proofs.lemmas.Result.{err_from_is_err_and}
-use Rattle.proof_codec.specs.Forms.{IsReadAs}
+use Rattle.proof_codec.specs.Private.{IsReadAs, IsFormulaWithin}
 use Rattle.proof_codec.specs.Numbers.{IsByte, byte}
-use Rattle.proof_codec.specs.Formulas.{formula_bytes, IsFormulaWithin}
+use Rattle.proof_codec.specs.Formulas.{formula_bytes}
 use Rattle.proof_codec.proofs.Formulae.{operation_read, no_operation_type, no_operation_parts, no_operator, binding_read, no_binding_type, no_binding_parts, no_binder, behind_first}
 use Rattle.proof_codec.proofs.Items.{one_more, no_items_there, no_list}
 use Rattle.proof_codec.proofs.formula.+formula.Goals as goal

@@ -1,7 +1,6 @@
 use Rattle.std.proofs.Common.{◌+◌, ◌*◌}
-use Rattle.proof_codec.specs.Forms.{IsReadAs}
-use Rattle.proof_codec.specs.Parts.{AreItems, items_bytes}
-use Rattle.proof_codec.specs.Formulas.{formula_bytes, IsFormulaWithin}
+use Rattle.proof_codec.specs.Private.{IsReadAs, AreItems, items_bytes, IsFormulaWithin}
+use Rattle.proof_codec.specs.Formulas.{formula_bytes}
 use Rattle.proof_codec.proofs.formula.+formula.Given as goal
 
 -- two calls lead from a formula to its parts

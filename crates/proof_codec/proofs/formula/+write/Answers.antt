@@ -4,7 +4,7 @@ use Rattle.std.proofs.lemmas.Result.{err_from_is_err_and}
 use Rattle.formula_core.specs.declared.Formula.{Formula}
 use Rattle.formula_core.specs.declared.Formula.TheVariants.{Node, Bind}
 use Rattle.formula_core.specs.Sizes.{greatest, formula_height}
-use Rattle.proof_codec.specs.Formulas.{HasFitParts}
+use Rattle.proof_codec.specs.Private.{HasFitParts}
 use Rattle.proof_codec.proofs.Spelling.{int_written, free_written, bound_written, operation_written, binding_written, fit_parts, lower_parts, fit_bodies, lower_bodies, among}
 use Rattle.proof_codec.proofs.Writing.{kept_before, fitting_at}
 use Rattle.proof_codec.proofs.formula.+write.Goals as goal

@@ -1,9 +1,8 @@
 use Rattle.std.proofs.Common.{◌+◌, ◌*◌, map, take}
 use Rattle.std.specs.List.{AllByRecursion}
 use Rattle.formula_core.specs.Sizes.{greatest, formula_height}
-use Rattle.proof_codec.specs.Forms.{IsWrittenAs}
-use Rattle.proof_codec.specs.Parts.{items_bytes}
-use Rattle.proof_codec.specs.Formulas.{formula_bytes, IsCoded}
+use Rattle.proof_codec.specs.Private.{IsWrittenAs, items_bytes, IsCoded}
+use Rattle.proof_codec.specs.Formulas.{formula_bytes}
 use Rattle.proof_codec.proofs.formula.+write.Given as goal
 
 -- two calls lead from a formula to its parts

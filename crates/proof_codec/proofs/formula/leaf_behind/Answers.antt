@@ -2,8 +2,8 @@ use Rattle.std.proofs.Common.{◌∷◌, sym, subst}
 use Rattle.std.specs.Int.{w128}
 use Rattle.std.proofs.lemmas.Int.{to_z-of_z}
 use Rattle.formula_core.specs.declared.Formula.TheVariants.{Int}
-use Rattle.proof_codec.specs.Forms.{IsReadAs}
-use Rattle.proof_codec.specs.Formulas.{formula_bytes, IsFormulaWithin}
+use Rattle.proof_codec.specs.Private.{IsReadAs, IsFormulaWithin}
+use Rattle.proof_codec.specs.Formulas.{formula_bytes}
 use Rattle.proof_codec.proofs.Literals.{fits_of}
 use Rattle.proof_codec.proofs.Formulae.{int_behind, free_behind, bound_behind}
 use Rattle.proof_codec.proofs.formula.leaf_behind.Goals as goal

@@ -1,6 +1,6 @@
 use Rattle.std.proofs.Common.{sym, subst}
 use Rattle.formula_core.specs.Names.{is_name}
-use Rattle.proof_codec.specs.Forms.{IsReadAs}
+use Rattle.proof_codec.specs.Private.{IsReadAs}
 use Rattle.proof_codec.specs.Numbers.{text_bytes}
 use Rattle.proof_codec.specs.Names.{IsGoodName}
 use Rattle.proof_codec.proofs.ShortNames.{name_read, is_true}

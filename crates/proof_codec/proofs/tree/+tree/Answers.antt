@@ -1,8 +1,8 @@
 use Rattle.std.proofs.Common.{◌-◌, ap, subst, length, arith}
 use Rattle.std.proofs.lemmas.Result.{err_from_is_err_and}
-use Rattle.proof_codec.specs.Forms.{IsReadAs}
+use Rattle.proof_codec.specs.Private.{IsReadAs, IsTreeWithin}
 use Rattle.proof_codec.specs.Numbers.{IsByte, byte}
-use Rattle.proof_codec.specs.ProofTrees.{tree_bytes, IsTreeWithin}
+use Rattle.proof_codec.specs.ProofTrees.{tree_bytes}
 use Rattle.proof_codec.proofs.Branches.{node_read, no_node, node_of, no_children_of, no_rule_there, no_children_there}
 use Rattle.proof_codec.proofs.Items.{one_more, no_items_there, no_list}
 use Rattle.proof_codec.proofs.tree.+tree.Goals as goal

@@ -1,7 +1,6 @@
 use Rattle.std.proofs.Common.{◌+◌, ◌*◌}
-use Rattle.proof_codec.specs.Forms.{IsReadAs}
-use Rattle.proof_codec.specs.Parts.{AreItems, items_bytes}
-use Rattle.proof_codec.specs.ProofTrees.{tree_bytes, IsTreeWithin}
+use Rattle.proof_codec.specs.Private.{IsReadAs, AreItems, items_bytes, IsTreeWithin}
+use Rattle.proof_codec.specs.ProofTrees.{tree_bytes}
 use Rattle.proof_codec.proofs.tree.+tree.Given as goal
 
 -- two calls lead from a tree to its children

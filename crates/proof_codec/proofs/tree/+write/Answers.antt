@@ -4,8 +4,7 @@ use Rattle.std.proofs.lemmas.Result.{err_from_is_err_and}
 use Rattle.formula_core.specs.Sizes.{greatest}
 use Rattle.sequent_core.specs.declared.tree.Tree.{Tree}
 use Rattle.sequent_core.specs.declared.tree.Tree.TheVariants.{Node}
-use Rattle.proof_codec.specs.ProofTrees.{tree_height}
-use Rattle.proof_codec.specs.Private.{HasFitRules}
+use Rattle.proof_codec.specs.Private.{HasFitRules, tree_height}
 use Rattle.proof_codec.proofs.Growing.{node_written, fit_children, lower_children, among_trees}
 use Rattle.proof_codec.proofs.Writing.{kept_before, fitting_at}
 use Rattle.proof_codec.proofs.tree.+write.Goals as goal

@@ -1,10 +1,8 @@
 use Rattle.std.proofs.Common.{◌+◌, ◌*◌, map, take}
 use Rattle.std.specs.List.{AllByRecursion}
 use Rattle.formula_core.specs.Sizes.{greatest}
-use Rattle.proof_codec.specs.Forms.{IsWrittenAs}
-use Rattle.proof_codec.specs.Parts.{items_bytes}
-use Rattle.proof_codec.specs.ProofTrees.{tree_bytes, tree_height}
-use Rattle.proof_codec.specs.Private.{HasGoodRules}
+use Rattle.proof_codec.specs.ProofTrees.{tree_bytes}
+use Rattle.proof_codec.specs.Private.{HasGoodRules, IsWrittenAs, items_bytes, tree_height}
 use Rattle.proof_codec.proofs.tree.+write.Given as goal
 
 -- two calls lead from a tree to its children

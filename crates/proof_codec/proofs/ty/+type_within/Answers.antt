@@ -1,7 +1,7 @@
 use Rattle.std.proofs.Common.{sym, subst, arith}
 use Rattle.std.proofs.lemmas.Result.{err_from_is_err_and}
 use Rattle.formula_core.specs.declared.Ty.TheVariants.{Pair}
-use Rattle.proof_codec.specs.Forms.{IsReadAs}
+use Rattle.proof_codec.specs.Private.{IsReadAs}
 use Rattle.proof_codec.specs.Numbers.{IsByte, byte}
 use Rattle.proof_codec.specs.Types.{type_bytes, IsTypeWithin}
 use Rattle.proof_codec.proofs.Types.{pair_read, no_second}

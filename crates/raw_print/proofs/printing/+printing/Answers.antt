@@ -4,7 +4,8 @@ use Rattle.formula_core.specs.declared.raw.Raw.{Raw}
 use Rattle.math_grammar.specs.declared.symbols.Symbol.TheVariants as symbol
 use Rattle.math_grammar.specs.Characters.{bytes}
 use Rattle.raw_print.specs.Pieces.{Token, text_of}
-use Rattle.raw_print.specs.Printing.{pieces, with_pieces, declared, body, operands, operand, second, side, names_in, with_pattern}
+use Rattle.raw_print.specs.Printing.{pieces, body, operands, operand, second, side, names_in}
+use Rattle.raw_print.specs.Private.{with_pieces, declared, with_pattern}
 use Rattle.math_grammar.specs.Operators.{raw_sign_of, raw_class_of}
 use Rattle.raw_print.proofs.Texts.{on_ok, two_pieces, three_pieces, one_more, all_parts, two_parts, if_ok, call_text, set_text, names_in-pair, none_named, pattern_text, names_in-other, pattern-other}
 use Rattle.raw_print.proofs.Equations.{text-append}

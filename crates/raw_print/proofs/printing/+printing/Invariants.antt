@@ -1,6 +1,7 @@
 use Rattle.std.proofs.Common.{◌≡◌, ◌++◌, ◌+◌, ◌*◌, string_bytes, map, drop}
 use Rattle.raw_print.specs.Pieces.{text_of, behind_commas}
-use Rattle.raw_print.specs.Printing.{pieces, declared}
+use Rattle.raw_print.specs.Printing.{pieces}
+use Rattle.raw_print.specs.Private.{declared}
 use Rattle.raw_print.proofs.Weights.{weight, weights, bound_weight, bound_weights}
 use Rattle.raw_print.proofs.printing.+printing.Given as goal
 

@@ -1,5 +1,6 @@
 use Rattle.std.proofs.Common.{◌≡◌, [], Ok, fold}
-use Rattle.rules_arith.specs.Private.{act_of, keep}
+use Rattle.rules_arith.specs.Private.{act_of}
+use Rattle.rules_arith.proofs.Atoms.{keep}
 use Rattle.rules_arith.proofs.joining.kept.Given as goal
 
 abbrev pub invariant-loop-atom : goal.invariant-loop-atom

@@ -3,7 +3,7 @@ use Rattle.std.specs.Option.{option_map}
 use Rattle.session_streams.specs.Streams.{writing}
 use Rattle.session_streams.specs.declared.ReadEnd.TheVariants.{OutOfMemory}
 use Rattle.session_talk.specs.declared.Ending.TheVariants.{Read}
-use Rattle.session_ends.specs.Statuses.{status_at, line_at}
+use Rattle.session_ends.specs.Private.{status_at, line_at}
 use Rattle.session_ends.specs.Written.{WritesOrFails}
 use Rattle.session_ends.proofs.Whole.{moved, nothing_played}
 use Rattle.session_ends.proofs.ending.end_unplayed.Goals as goal

@@ -4,7 +4,8 @@ use Rattle.rule_table.specs.Rows.{adds, backward, both, forward, proves}
 use Rattle.rule_table.specs.Rules.{IsSound}
 use Rattle.rule_table.specs.Shapes.{bottom}
 use Rattle.well_defined.specs.Predicates.{top}
-use Rattle.short_proofs.specs.Short.{rule_of, IsShortProof}
+use Rattle.short_proofs.specs.Short.{IsShortProof}
+use Rattle.short_proofs.specs.Private.{rule_of}
 use Rattle.short_proofs.proofs.Built.{weaker, whole_as}
 use Rattle.short_proofs.proofs.Forms.{whole_sound}
 use Rattle.short_proofs.proofs.logic.by_whole.Goals as goal

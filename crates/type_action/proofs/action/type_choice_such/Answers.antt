@@ -1,5 +1,5 @@
 use Rattle.std.proofs.Common.{subst}
-use Rattle.type_action.specs.Answers.{Tells}
+use Rattle.type_action.specs.Private.{Tells}
 use Rattle.type_action.specs.CoreActions.{ChooseSuch}
 use Rattle.type_action.proofs.action.type_choice_such.Goals as goal
 

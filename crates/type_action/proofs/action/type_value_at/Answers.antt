@@ -1,6 +1,6 @@
 use Rattle.std.proofs.Common.{◌∙◌, ◌∷◌, [], ap, subst, map}
 use Rattle.type_core.specs.Views.{bare_of}
-use Rattle.type_action.specs.Answers.{Tells}
+use Rattle.type_action.specs.Private.{Tells}
 use Rattle.type_action.specs.CoreActions.{Assign}
 use Rattle.type_action.proofs.action.type_value_at.Goals as goal
 

@@ -1,7 +1,7 @@
 use Rattle.std.proofs.Common.{ap, subst, map}
 use Rattle.type_core.specs.Views.{bare_of}
-use Rattle.type_action.specs.Answers.{TellsFault}
-use Rattle.type_action.specs.Results.{IsAdded, HasNone, HasTwo}
+use Rattle.type_action.specs.Results.{HasNone, HasTwo}
+use Rattle.type_action.specs.Private.{IsAdded, TellsFault}
 use Rattle.type_action.specs.Typings.{IsNewValue, AreNewValues}
 use Rattle.type_action.proofs.Told.{on_ok_map, if_err_map}
 use Rattle.type_action.proofs.Typed.{values_added, values_fault, values_untyped, values_clash}

@@ -1,6 +1,7 @@
 use Rattle.std.proofs.Common.{ap, sym, subst, ◌≡◌, ◌∙◌, OnOk}
 use Rattle.type_core.specs.Bare.{plain, typed}
-use Rattle.type_core.specs.Views.{bare_of, bounds_of, scope_of}
+use Rattle.type_core.specs.Views.{bare_of, bounds_of}
+use Rattle.type_core.specs.PrivateViews.{scope_of}
 use Rattle.type_core.proofs.Entries.{bind_plain, bind_typed, kept_step, on_ok}
 use Rattle.type_core.proofs.collect.+bind_names.Goals as goal
 

@@ -1,6 +1,7 @@
 use Rattle.std.proofs.Common.{ap, sym, subst, ◌≡◌, IfOk}
 use Rattle.type_core.specs.TypeExpressions.{denoted}
-use Rattle.type_core.specs.Views.{bare_of, scope_of}
+use Rattle.type_core.specs.Views.{bare_of}
+use Rattle.type_core.specs.PrivateViews.{scope_of}
 use Rattle.type_core.proofs.denote.+denote.Goals as goal
 
 pub denote-returns-in-Identifier : goal.denote-returns-in-Identifier

@@ -1,7 +1,8 @@
 use Rattle.std.proofs.Common.{rules, subst, ap, sym, ◌≡◌, ◌∙◌, IfOk, map, length}
 use Rattle.type_core.specs.Bare.{Broken, Binding}
-use Rattle.type_core.specs.CoreForms.{core_form, core_of_unnamed, turned, bounds, bound_part, with_core}
-use Rattle.type_core.specs.Views.{bare_of, bounds_of, in_a_row}
+use Rattle.type_core.specs.CoreForms.{core_form, core_of_unnamed, turned, bounds}
+use Rattle.type_core.specs.PrivateViews.{bound_part, with_core, in_a_row}
+use Rattle.type_core.specs.Views.{bare_of, bounds_of}
 use Rattle.type_core.proofs.CoreEquations.{read_node, read_plain, read_lambda, read_named, read_unnamed, unnamed_broken, unnamed_two}
 use Rattle.type_core.proofs.reading.+read.Goals as goal
 

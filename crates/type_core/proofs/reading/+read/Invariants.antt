@@ -1,6 +1,7 @@
 use Rattle.std.proofs.Common.{◌≡◌, map, take}
-use Rattle.type_core.specs.CoreForms.{core_form, bound_part}
-use Rattle.type_core.specs.Views.{bare_of, bound_of}
+use Rattle.type_core.specs.CoreForms.{core_form}
+use Rattle.type_core.specs.PrivateViews.{bound_part, bound_of}
+use Rattle.type_core.specs.Views.{bare_of}
 use Rattle.type_core.proofs.reading.+read.Given as goal
 
 abbrev pub invariant-read_all-loop-part : goal.invariant-read_all-loop-part

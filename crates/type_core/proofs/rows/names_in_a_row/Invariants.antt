@@ -1,6 +1,7 @@
 use Rattle.std.proofs.Common.{◌≡◌, length, map}
 use Rattle.type_core.specs.CoreForms.{bounds}
-use Rattle.type_core.specs.Views.{bounds_of, bound_of}
+use Rattle.type_core.specs.Views.{bounds_of}
+use Rattle.type_core.specs.PrivateViews.{bound_of}
 use Rattle.type_core.proofs.InARow.{names_before}
 use Rattle.type_core.proofs.rows.names_in_a_row.Given as goal
 

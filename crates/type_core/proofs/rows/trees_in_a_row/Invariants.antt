@@ -1,5 +1,6 @@
 use Rattle.std.proofs.Common.{◌≡◌, length, map}
-use Rattle.type_core.specs.Views.{bare_of, bares_of, in_a_row}
+use Rattle.type_core.specs.Views.{bare_of, bares_of}
+use Rattle.type_core.specs.PrivateViews.{in_a_row}
 use Rattle.type_core.proofs.InARow.{row_before}
 use Rattle.type_core.proofs.rows.trees_in_a_row.Given as goal
 

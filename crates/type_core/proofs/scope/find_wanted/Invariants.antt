@@ -1,6 +1,6 @@
 use Rattle.std.proofs.Common.{◌≡◌, drop}
 use Rattle.type_core.specs.Scopes.{position_of}
-use Rattle.type_core.specs.Views.{numbered, found_of}
+use Rattle.type_core.specs.PrivateViews.{numbered, found_of}
 use Rattle.type_core.proofs.scope.find_wanted.Given as goal
 
 abbrev pub invariant-loop-i : goal.invariant-loop-i

@@ -1,5 +1,5 @@
 use Rattle.std.proofs.Common.{◌∙◌}
-use Rattle.type_core.specs.Views.{scope_of}
+use Rattle.type_core.specs.PrivateViews.{scope_of}
 use Rattle.type_core.proofs.Entries.{is_bound}
 use Rattle.type_core.proofs.scope.is_bound.Goals as goal
 

@@ -1,6 +1,6 @@
 use Rattle.std.proofs.Common.{◌≡◌, ◌∷◌, replicate}
 use Rattle.unification.specs.Terms.{term_of}
-use Rattle.type_core.specs.Views.{terms_of}
+use Rattle.type_core.specs.PrivateViews.{terms_of}
 use Rattle.type_core.proofs.terms.copies.Given as goal
 
 abbrev pub invariant-loop-k : goal.invariant-loop-k

@@ -2,7 +2,7 @@ use Rattle.std.proofs.Common.{ap, sym, subst, ◌≡◌, ◌∙◌, IfOk, map}
 use Rattle.formula_core.specs.Schemes.{operand_schemes}
 use Rattle.formula_core.specs.SchemeView.{scheme_of}
 use Rattle.unification.specs.Terms.{instance}
-use Rattle.type_core.specs.Views.{terms_of}
+use Rattle.type_core.specs.PrivateViews.{terms_of}
 use Rattle.type_core.proofs.Entries.{copies-instances}
 use Rattle.type_core.proofs.terms.operand_terms.Goals as goal
 

@@ -1,7 +1,7 @@
 use Rattle.std.proofs.Common.{rules, ◌≡◌, ◌∙◌, sym, ap, subst, true, take}
 use Rattle.std.specs.Bool.{OnTrue}
 use Rattle.formula_core.specs.Env.{type_in}
-use Rattle.formula_core.specs.Places.{AreAtPlaces, type_there}
+use Rattle.formula_core.specs.PrivatePlaces.{AreAtPlaces, type_there}
 use Rattle.formula_core.proofs.Places.{place}
 use Rattle.formula_core.proofs.EntryPlaces.{distinct_taken, taken, type_by_place}
 use Rattle.formula_core.proofs.env.NameTable.get.Goals as goal

@@ -1,6 +1,6 @@
 use Rattle.std.proofs.Common.{◌≡◌, ◌++◌, length, rules, arith, vec_len, subst}
 use Rattle.std.specs.List.{All}
-use Rattle.outside.specs.DiskCalls.{IsInside}
+use Rattle.outside.specs.Private.{IsInside}
 use Rattle.std.proofs.lemmas.Grind.{common_steps}
 use Rattle.outside.proofs.Kept.{one_more}
 use Rattle.outside.proofs.disk_entry.Log.note_write.Goals as goal

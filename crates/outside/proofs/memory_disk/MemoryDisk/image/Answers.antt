@@ -1,5 +1,5 @@
 use Rattle.std.proofs.Common.{IsTrue, subst, rules}
-use Rattle.outside.specs.DiskCalls.{are_possible}
+use Rattle.outside.specs.Private.{are_possible}
 use Rattle.outside.specs.DiskMemory.{first_of}
 use Rattle.outside.proofs.Stopped.{image_of, moment_of, extreme_of, filled_of}
 use Rattle.outside.proofs.memory_disk.MemoryDisk.image.Goals as goal

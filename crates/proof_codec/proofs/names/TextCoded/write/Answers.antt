@@ -1,5 +1,5 @@
 use Rattle.std.proofs.Common.{ap, length, subst, arith}
-use Rattle.proof_codec.specs.Forms.{WritesAs}
+use Rattle.proof_codec.specs.Private.{WritesAs}
 use Rattle.proof_codec.specs.Numbers.{IsText, text_bytes}
 use Rattle.proof_codec.proofs.names.TextCoded.write.Goals as goal
 

@@ -1,6 +1,6 @@
 use Rattle.std.proofs.Common.{arith, sym, subst}
 use Rattle.std.proofs.lemmas.Str.{is_utf8-from_IsUtf8, IsUtf8-from_is_utf8}
-use Rattle.proof_codec.specs.Forms.{IsReadAs}
+use Rattle.proof_codec.specs.Private.{IsReadAs}
 use Rattle.proof_codec.specs.Numbers.{IsText, text_bytes}
 use Rattle.proof_codec.proofs.Texts.{text_read, no_text}
 use Rattle.proof_codec.proofs.reader.Reader.text.Goals as goal

@@ -1,6 +1,6 @@
 use Rattle.std.proofs.Common.{◌∙◌, sym, subst}
 use Rattle.std.proofs.lemmas.Result.{err_from_is_err_and}
-use Rattle.proof_codec.specs.Forms.{IsReadAs}
+use Rattle.proof_codec.specs.Private.{IsReadAs}
 use Rattle.proof_codec.specs.Numbers.{IsByte, byte}
 use Rattle.proof_codec.proofs.KindForms.{goal_read, no_goal, hyp_read, no_hyp, plain_read}
 use Rattle.proof_codec.proofs.rule.RuleKindCoded.read.Goals as goal

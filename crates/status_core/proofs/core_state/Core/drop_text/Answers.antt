@@ -5,7 +5,7 @@ use Rattle.core_steps.specs.State.{State}
 use Rattle.core_steps.specs.Outcomes.{entering}
 use Rattle.core_steps.proofs.Projects.{remove_small}
 use Rattle.prepared_events.specs.Making.{dropping}
-use Rattle.prepared_events.specs.Prepared.{ComesAs}
+use Rattle.status_core.specs.PrivateParts.{ComesAs}
 use Rattle.status_core.proofs.Readied.{comes_dropping}
 use Rattle.status_core.proofs.core_state.Core.drop_text.Goals as goal
 

@@ -8,8 +8,7 @@ use Rattle.sequent_core.specs.declared.Attempt.{Attempt}
 use Rattle.core_steps.specs.declared.events.Event.TheVariants.{Finish}
 use Rattle.core_steps.specs.State.{State}
 use Rattle.core_steps.specs.Tickets.{EndsTicket, IsPresentStatus}
-use Rattle.status_core.specs.PrivateParts.{without_at}
-use Rattle.prepared_events.specs.Prepared.{Prepares}
+use Rattle.status_core.specs.PrivateParts.{without_at, Prepares}
 use Rattle.status_core.proofs.Finding.{found_sequent}
 use Rattle.status_core.proofs.Ending.{result_as, noted_named, no_memory_named, finish_result}
 use Rattle.status_core.proofs.core_state.Core.finish_at.Goals as goal

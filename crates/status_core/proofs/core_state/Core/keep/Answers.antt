@@ -4,7 +4,7 @@ use Rattle.std.specs.FinMap.{contains_key, len}
 use Rattle.proof_entries.specs.declared.Entry.TheVariants.{SetProof}
 use Rattle.core_steps.specs.State.{State}
 use Rattle.core_steps.specs.Outcomes.{entering}
-use Rattle.prepared_events.specs.Prepared.{ComesAs}
+use Rattle.status_core.specs.PrivateParts.{ComesAs}
 use Rattle.status_core.proofs.Readied.{comes_keeping}
 use Rattle.status_core.proofs.core_state.Core.keep.Goals as goal
 

@@ -4,8 +4,7 @@ use Rattle.std.specs.FinMap.{contains_key, len}
 use Rattle.proof_entries.specs.declared.Entry.TheVariants.{SetProof}
 use Rattle.core_steps.specs.State.{State}
 use Rattle.core_steps.specs.Outcomes.{entering}
-use Rattle.prepared_events.specs.Prepared.{ComesAs}
-use Rattle.status_core.specs.PrivateParts.{without_at}
+use Rattle.status_core.specs.PrivateParts.{without_at, ComesAs}
 use Rattle.status_core.proofs.Readied.{comes_keeping_in}
 use Rattle.status_core.proofs.core_state.Core.keep_in.Goals as goal
 

@@ -1,6 +1,6 @@
 use Rattle.std.proofs.Common.{subst}
 use Rattle.core_steps.specs.Proving.{Keeps}
-use Rattle.prepared_events.specs.Prepared.{ComesAs}
+use Rattle.status_core.specs.PrivateParts.{ComesAs}
 use Rattle.status_core.proofs.core_state.Core.keep_tree.Goals as goal
 
 pub returns : goal.returns

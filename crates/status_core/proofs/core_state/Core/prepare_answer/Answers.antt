@@ -2,7 +2,7 @@ use Rattle.std.proofs.Common.{sym, subst}
 use Rattle.std.specs.Prelude.{IfOk}
 use Rattle.core_steps.specs.declared.events.Question.{Question}
 use Rattle.core_steps.specs.declared.events.Event.TheVariants.{Ask}
-use Rattle.prepared_events.specs.Prepared.{Prepares}
+use Rattle.status_core.specs.PrivateParts.{Prepares}
 use Rattle.status_core.proofs.core_state.Core.prepare_answer.Goals as goal
 
 pub returns-in-Statuses-clause-prepared : goal.returns-in-Statuses-clause-prepared

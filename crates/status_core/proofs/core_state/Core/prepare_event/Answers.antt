@@ -2,7 +2,7 @@ use Rattle.std.proofs.Common.{◌∙◌, sym, ap, subst}
 use Rattle.std.specs.Prelude.{IfOk, Some, None}
 use Rattle.core_steps.specs.declared.events.Event.{Event}
 use Rattle.core_steps.specs.declared.events.Event.TheVariants.{Take}
-use Rattle.prepared_events.specs.Prepared.{Prepares}
+use Rattle.status_core.specs.PrivateParts.{Prepares}
 use Rattle.status_core.proofs.core_state.Core.prepare_event.Goals as goal
 
 pub prepare_take-requires : goal.prepare_take-requires

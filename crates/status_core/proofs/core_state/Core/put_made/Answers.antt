@@ -6,8 +6,7 @@ use Rattle.proof_steps.specs.Places.{HasLeaf}
 use Rattle.core_steps.specs.declared.events.Reply.TheVariants.{Rule as RuleReply}
 use Rattle.core_steps.specs.Outcomes.{told}
 use Rattle.core_steps.specs.Proving.{Puts}
-use Rattle.status_core.specs.PrivateParts.{IsMade}
-use Rattle.prepared_events.specs.Prepared.{ComesAs}
+use Rattle.status_core.specs.PrivateParts.{IsMade, ComesAs}
 use Rattle.status_core.proofs.Made.{as_made}
 use Rattle.status_core.proofs.core_state.Core.put_made.Goals as goal
 

@@ -6,7 +6,7 @@ use Rattle.core_steps.specs.State.{State}
 use Rattle.core_steps.specs.Outcomes.{entering}
 use Rattle.core_steps.proofs.Projects.{put_small}
 use Rattle.prepared_events.specs.Making.{putting}
-use Rattle.prepared_events.specs.Prepared.{ComesAs}
+use Rattle.status_core.specs.PrivateParts.{ComesAs}
 use Rattle.status_core.proofs.Readied.{comes_putting}
 use Rattle.status_core.proofs.core_state.Core.put_text.Goals as goal
 

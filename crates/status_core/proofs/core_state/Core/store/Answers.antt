@@ -6,8 +6,7 @@ use Rattle.core_steps.specs.declared.events.Reply.TheVariants.{Stored}
 use Rattle.core_steps.specs.declared.events.Status.TheVariants.{Discharged}
 use Rattle.core_steps.specs.Outcomes.{entering}
 use Rattle.core_steps.specs.Tickets.{by_prover}
-use Rattle.prepared_events.specs.Prepared.{ComesAs}
-use Rattle.status_core.specs.PrivateParts.{IsHeld, without_at}
+use Rattle.status_core.specs.PrivateParts.{IsHeld, without_at, ComesAs}
 use Rattle.status_core.proofs.core_state.Core.store.Goals as goal
 
 pub store_held-requires-clause-held : goal.store_held-requires-clause-held

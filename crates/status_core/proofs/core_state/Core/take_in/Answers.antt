@@ -1,8 +1,7 @@
 use Rattle.std.proofs.Common.{◌≡◌, ◌<◌, sym, subst, length}
 use Rattle.core_steps.specs.State.{State}
 use Rattle.core_steps.specs.Outcomes.{told}
-use Rattle.prepared_events.specs.Prepared.{ComesAs}
-use Rattle.status_core.specs.PrivateParts.{without_at}
+use Rattle.status_core.specs.PrivateParts.{without_at, ComesAs}
 use Rattle.status_core.proofs.Readied.{comes_taking_in}
 use Rattle.status_core.proofs.core_state.Core.take_in.Goals as goal
 

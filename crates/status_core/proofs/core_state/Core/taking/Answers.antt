@@ -3,7 +3,7 @@ use Rattle.core_steps.specs.declared.events.Reply.TheVariants.{Taken}
 use Rattle.core_steps.specs.State.{State}
 use Rattle.core_steps.specs.Tickets.{taking, ticket_for}
 use Rattle.prepared_events.specs.Making.{sending}
-use Rattle.prepared_events.specs.Prepared.{ComesAs}
+use Rattle.status_core.specs.PrivateParts.{ComesAs}
 use Rattle.status_core.proofs.Readied.{comes_sending}
 use Rattle.status_core.proofs.core_state.Core.taking.Goals as goal
 

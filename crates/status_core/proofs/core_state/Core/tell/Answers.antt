@@ -1,7 +1,7 @@
 use Rattle.std.proofs.Common.{◌≡◌, subst}
 use Rattle.core_steps.specs.State.{State}
 use Rattle.core_steps.specs.Outcomes.{told}
-use Rattle.prepared_events.specs.Prepared.{ComesAs}
+use Rattle.status_core.specs.PrivateParts.{ComesAs}
 use Rattle.status_core.proofs.Readied.{comes_telling}
 use Rattle.status_core.proofs.core_state.Core.tell.Goals as goal
 

@@ -3,8 +3,7 @@ use Rattle.std.specs.Prelude.{Some, slice_get}
 use Rattle.core_steps.specs.State.{State}
 use Rattle.core_steps.specs.Outcomes.{told}
 use Rattle.core_steps.specs.Tickets.{tried_with}
-use Rattle.prepared_events.specs.Prepared.{ComesAs}
-use Rattle.status_core.specs.PrivateParts.{without_at}
+use Rattle.status_core.specs.PrivateParts.{without_at, ComesAs}
 use Rattle.status_core.proofs.Finished.{comes_trying, same_ticket}
 use Rattle.status_core.proofs.core_state.Core.try_in.Goals as goal
 

@@ -5,7 +5,8 @@ use Rattle.unification.specs.Terms.{term_of, instance}
 use Rattle.type_core.specs.Bare.{part_count}
 use Rattle.unification.specs.Solutions.{equations_of}
 use Rattle.type_core.specs.PrivateGenerated.{condition, all_generated}
-use Rattle.type_core.specs.Views.{bares_of, scope_of, free_scope, terms_of}
+use Rattle.type_core.specs.Views.{bares_of}
+use Rattle.type_core.specs.PrivateViews.{scope_of, free_scope, terms_of}
 use Rattle.type_core.proofs.Entries.{end_condition, collected_form}
 use Rattle.type_core.proofs.collect.+collect.Goals as goal
 

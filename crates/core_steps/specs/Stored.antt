@@ -4,8 +4,8 @@ use Rattle.sequent_core.specs.declared.Sequent.{Sequent}
 use Rattle.sequent_core.specs.declared.Tree.{Tree}
 use Rattle.sequent_core.specs.declared.Tree.TheVariants.{Leaf}
 use Rattle.sequent_core.specs.Trees.{Applies, is_closed, is_reviewed}
-use Rattle.proof_deps.specs.declared.Deps.{Deps}
 use Rattle.sequent_core.specs.Sequents.{IsSequent}
+use Rattle.proof_deps.specs.declared.Deps.{Deps}
 use Rattle.proof_deps.specs.Deps.{FitsIn}
 use Rattle.core_steps.specs.declared.events.Status.{Status}
 use Rattle.core_steps.specs.declared.events.Status.TheVariants.{Unattempted, Pending, Reviewed, Discharged, Broken}

@@ -1,4 +1,4 @@
--- Where names stand in a list of identifiers.
+-- Where names stand in a list of identifiers. Private contracts alone cite this.
 use Rattle.std.specs.Prelude.{◌≡◌, ℕ, true, false, List, Option, Some, None, bytes_eq, cond, if◌then◌else◌}
 use Rattle.std.specs.List.{AllByRecursion, slice_get}
 use Rattle.std.specs.Map.{lookup}
