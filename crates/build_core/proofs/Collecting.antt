@@ -15,7 +15,7 @@ use Rattle.po_rules.specs.Tables.{obligations_of}
 use Rattle.build_core.specs.declared.owns.Own.{Own}
 use Rattle.build_core.specs.Projects.{Project, has_text}
 use Rattle.build_core.specs.Tables.{refined_in, counted_nodes}
-use Rattle.build_core.specs.Private.{Outcomes, found, Sets, abstraction_in, IsOwn, OwnFrom, OwnsOf, HaveComponents, PassesAt}
+use Rattle.build_core.specs.Private.{Outcomes, found, Sets, abstraction_in, IsOwn, OwnFrom, OwnsOf, HaveComponents, PassesLimitAt}
 use Rattle.build_core.proofs.OwnLists.{AreOwn, HaveOwns}
 use Rattle.build_core.proofs.Found.{set_cases, named_one}
 use Rattle.build_core.proofs.Limits.{table_cons, all_fit}
@@ -75,9 +75,9 @@ count_fits n (o ∷ os) few =
     one = by (nat_lt table_limit n) refl
 
 -- the count of a table, where it passes the limit in the obligations of one component
-pub passes_whole : (table list others : List Obligation) (nodes n : ℕ) → nodes ≡ table_nodes table → nodes ≤ table_limit → PassesAt list nodes n → n ≡ counted_nodes (table ++ (list ++ others))
+pub passes_whole : (table list others : List Obligation) (nodes n : ℕ) → nodes ≡ table_nodes table → nodes ≤ table_limit → PassesLimitAt list nodes n → n ≡ counted_nodes (table ++ (list ++ others))
 passes_whole table list others nodes n is few passes =
-    let here : n ≡ count nodes list = passes.1 ∙ counted (gathering.behind nodes) list in
+    let here : n ≡ count nodes list = passes.1 ∙ counted (gathering.begun_at nodes) list in
     let before : count 0 table ≡ nodes = count_fits 0 table (omega (arith, is, few)) ∙ omega (arith, is) in
     let whole : count 0 (table ++ (list ++ others)) ≡ n =
     count_more 0 table (list ++ others) ∙ ap (λ m. count m (list ++ others)) before ∙ count_more nodes list others
@@ -87,10 +87,10 @@ passes_whole table list others nodes n is few passes =
 -- ONE COMPONENT
 
 -- what is gathered of a component, within the limit
-pub gathered_made : (n : ℕ) (list : List Obligation) (g : Gathered) → n ≤ table_limit → g ≡ gathered (gathering.behind n) list → g.nodes ≤ table_limit →
+pub gathered_made : (n : ℕ) (list : List Obligation) (g : Gathered) → n ≤ table_limit → g ≡ gathered (gathering.begun_at n) list → g.nodes ≤ table_limit →
     (g.obligations ≡ list) × (g.nodes ≡ n + table_nodes list)
 gathered_made n list g few is fits =
-    let all = all_fit (gathering.behind n) list few (subst (λ (h : Gathered). h.nodes ≤ table_limit) is fits) in
+    let all = all_fit (gathering.begun_at n) list few (subst (λ (h : Gathered). h.nodes ≤ table_limit) is fits) in
     (ap (λ (h : Gathered). h.obligations) is ∙ all.0, ap (λ (h : Gathered). h.nodes) is ∙ all.1)
 
 -- what is found

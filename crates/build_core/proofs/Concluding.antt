@@ -16,7 +16,7 @@ use Rattle.component_text.specs.Spelled.{IsRead}
 use Rattle.check_rules.specs.Contexts.{Outcome}
 use Rattle.static_check.specs.declared.settled.Order.{Order}
 use Rattle.static_check.specs.Settling as ordering
-use Rattle.static_check.specs.Settling.{own_name, references, has, IfPresent, IsSettled, ReferencesFirst, IsComponentOrder}
+use Rattle.static_check.specs.Settling.{own_name, references, has_component, IfPresent, IsSettled, ReferencesFirst, IsComponentOrder}
 use Rattle.build_core.specs.Projects.{Project, Reading, has_text, wanting, wanted_references, references_in, IsPart, ConcludesFrom, ChecksBy, IsSettledBy, IsCyclic, Checks, settled, cyclic}
 use Rattle.build_core.specs.Private.{Outcomes, found, Sets, AreRead, outcomes_at, AreSet, ConcludesIn, IsToldCyclic, AreConcluded, HaveComponents, AreVerdicts}
 use Rattle.build_core.proofs.Found.{set_there, set_keeps, set_cases, its_value, is_found, not_found, among_last, among_first, among_here, or_second, named_one, its_text}
@@ -96,7 +96,7 @@ module _ (project : Project) (distinct : IsDistinct bytes_eq (keys_of project)) 
       let a = all_read.read c in' in
       read_one project distinct name text a.0 reading (Ok c) there (subst (λ n. Contains project (n, a.0)) same a.1) is (subst (λ n. IsRead n a.0 (Ok c)) same a.2)
 
-  has_its_text : (name : List ℕ) → has components name ≡ true → has_text project name ≡ true
+  has_its_text : (name : List ℕ) → has_component components name ≡ true → has_text project name ≡ true
   has_its_text name e =
       let c = named_one components name e in
       let a = all_read.read c.0 c.1 in
@@ -115,7 +115,7 @@ module _ (project : Project) (distinct : IsDistinct bytes_eq (keys_of project)) 
       by true e =
           let t = its_text project r.name e in
           elim (all_read.all r.name t.0 t.1) [
-            | inl there ↦ elim present [ inl among ↦ gone (covers r.name among) | inr never ↦ unequal (has components r.name) there never ]
+            | inl there ↦ elim present [ inl among ↦ gone (covers r.name among) | inr never ↦ unequal (has_component components r.name) there never ]
             | inr faulty ↦ gone (keeps r.name faulty)
           ]
 
@@ -211,26 +211,26 @@ module _ (project : Project) (distinct : IsDistinct bytes_eq (keys_of project)) 
       later_among : (x : List ℕ) (xs : List (List ℕ)) (n : List ℕ) → is_among xs n ≡ true → is_among (x ∷ xs) n ≡ true
       later_among x xs n e = or_second (bytes_eq n x) (is_among xs n) e
 
-  present_there : (P Q : List ℕ → Type 0) → ((n : List ℕ) → P n → has components n ≡ true → Q n) → (r : Ref) → P r.name ⊎ (has_text project r.name ≡ false) → IfPresent components Q r
-  present_there P Q f r h = by (has components r.name) refl
+  present_there : (P Q : List ℕ → Type 0) → ((n : List ℕ) → P n → has_component components n ≡ true → Q n) → (r : Ref) → P r.name ⊎ (has_text project r.name ≡ false) → IfPresent components Q r
+  present_there P Q f r h = by (has_component components r.name) refl
     where
-      by : (b : Bool) → has components r.name ≡ b → IfPresent components Q r
+      by : (b : Bool) → has_component components r.name ≡ b → IfPresent components Q r
       by false e = inr e
       by true e = elim h [ inl more ↦ inl (f r.name more e) | inr none ↦ unequal (has_text project r.name) (has_its_text r.name e) none ]
 
   -- What is settled by texts is settled by components, where it is one.
-  settled_there : (k : ℕ) (n : List ℕ) → IsSettledBy project k n → has components n ≡ true → ordering.IsSettledBy components k n
+  settled_there : (k : ℕ) (n : List ℕ) → IsSettledBy project k n → has_component components n ≡ true → ordering.IsSettledAmong components k n
   settled_there zero n s e = absurd s
   settled_there (suc k) n s e =
       let c = named_one components n e in
       let is : s.1 ≡ Ok c.0 = reading_is c.0 n s.0 s.1 c.1 c.2 s.2 s.3 in
       let refs = subst (λ r. AllByRecursion (λ (x : Ref × Bool). IsSettledBy project k x.0.name ⊎ (has_text project x.0.name ≡ false)) (references_in r)) is s.4 in
-      let present = present_there (IsSettledBy project k) (ordering.IsSettledBy components k) (settled_there k) in (
+      let present = present_there (IsSettledBy project k) (ordering.IsSettledAmong components k) (settled_there k) in (
         c.0,
         c.1,
         c.2,
-        of_wanted (IfPresent components (ordering.IsSettledBy components k)) c.0
-            (all_so (λ (x : Ref × Bool). IsSettledBy project k x.0.name ⊎ (has_text project x.0.name ≡ false)) (λ (x : Ref × Bool). IfPresent components (ordering.IsSettledBy components k) x.0)
+        of_wanted (IfPresent components (ordering.IsSettledAmong components k)) c.0
+            (all_so (λ (x : Ref × Bool). IsSettledBy project k x.0.name ⊎ (has_text project x.0.name ≡ false)) (λ (x : Ref × Bool). IfPresent components (ordering.IsSettledAmong components k) x.0)
             (λ x. present x.0) (wanted_references c.0) refs),
       )
 
@@ -289,11 +289,11 @@ module _ (project : Project) (distinct : IsDistinct bytes_eq (keys_of project)) 
             ap (λ m. fault_at m kind.Cyclic (heading c).place []) same,
           )
 
-      either : (n : List ℕ) → has components n ≡ true → (b : Bool) → is_among h.0.sorted n ≡ b → IsSome (found behind n)
+      either : (n : List ℕ) → has_component components n ≡ true → (b : Bool) → is_among h.0.sorted n ≡ b → IsSome (found behind n)
       either n has_it true e = told.2 n (by_rounds.2 n e)
       either n has_it false e = told.1 n ((h.2.cyclic n).1 (has_it, λ s. unequal (is_among h.0.sorted n) ((h.2.sorted n).1 s) e))
 
-  reading_has : (n text : List ℕ) (c : RawComponent) → Contains project (n, text) → IsRead n text (Ok c) → has components n ≡ true
+  reading_has : (n text : List ℕ) (c : RawComponent) → Contains project (n, text) → IsRead n text (Ok c) → has_component components n ≡ true
   reading_has n text c there is = elim (all_read.all n text there) [
     | inl has_it ↦ has_it
     | inr faulty ↦
@@ -303,11 +303,11 @@ module _ (project : Project) (distinct : IsDistinct bytes_eq (keys_of project)) 
   ]
 
   -- a component without fault is one of the components
-  pub checked_has : (n : List ℕ) (checked : Checked) → Checks project n (Ok checked) → has components n ≡ true
+  pub checked_has : (n : List ℕ) (checked : Checked) → Checks project n (Ok checked) → has_component components n ≡ true
   checked_has n checked (settled zero h) = absurd h
   checked_has n checked (settled (suc k) h) = by h.1 h.3 h.4
     where
-      by : (reading : Reading) → IsRead n h.0 reading → ConcludesFrom project (ChecksBy project k) reading (Ok checked) → has components n ≡ true
+      by : (reading : Reading) → IsRead n h.0 reading → ConcludesFrom project (ChecksBy project k) reading (Ok checked) → has_component components n ≡ true
       by (Ok c) is follows = reading_has n h.0 c h.2 is
       by (Err fault) is follows = absurd (never follows)
         where

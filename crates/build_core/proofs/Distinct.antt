@@ -17,7 +17,7 @@ use Rattle.check_rules.specs.Components.{ChecksBeside}
 use Rattle.sequent_core.specs.declared.sequent.Obligation.{Obligation}
 use Rattle.po_rules.specs.Tables.{obligations_of}
 use Rattle.name_laws.specs.Labels.{IsPlain, AreOnce, HasPlainNames, HasDistinctLabels}
-use Rattle.name_laws.specs.Laws.{component_name, HaveDistinctNames, IsWellNamed, IsTableOf}
+use Rattle.name_laws.specs.Laws.{component_name, HaveDistinctNames, IsWellNamed, IsNamedTable}
 use Rattle.name_laws.proofs.Checked.{checked_names, checked_labels, name_kept}
 use Rattle.name_laws.proofs.Declared.{ok, passes}
 use Rattle.name_laws.proofs.Obligations.{distinct_names}
@@ -74,20 +74,20 @@ module _ (project : Project) where
   plain_component (Context c) h = h.name
   plain_component (Machine m) h = h.name
 
-  given_named : (name : List ℕ) (own : List Obligation) → Gives project name own → (own ≡ []) ⊎ IsTableOf (name, own)
+  given_named : (name : List ℕ) (own : List Obligation) → Gives project name own → (own ≡ []) ⊎ IsNamedTable (name, own)
   given_named name own (inl h) = inl h.2
   given_named name own (inr h) =
       let n = named name h.2 h.6 in
       let d = distinct_names h.2 h.3 n.0 (abstraction_named (refined_in h.1) h.3 h.7) in
-      inr (subst (λ os. IsTableOf (name, os)) (sym h.8)
-      (subst (λ c. IsTableOf (c, obligations_of h.2 h.3)) n.1 (plain_component h.2 n.0.0, d.0, d.1)))
+      inr (subst (λ os. IsNamedTable (name, os)) (sym h.8)
+      (subst (λ c. IsNamedTable (c, obligations_of h.2 h.3)) n.1 (plain_component h.2 n.0.0, d.0, d.1)))
 
   -- the tables of the components that have obligations
   record HasTables (entries : Project) (table : List Obligation) : Type 0 where
     pub tables : List (List ℕ × List Obligation)
     pub is : table ≡ for_each (λ t. t.1) tables
     pub once : AreOnce (map (λ t. t.0) tables)
-    pub each : AllByRecursion IsTableOf tables
+    pub each : AllByRecursion IsNamedTable tables
     pub others : (name : List ℕ) → AllByRecursion (λ y. bytes_eq name y ≡ false) (keys_of entries) → AllByRecursion (λ y. bytes_eq name y ≡ false) (map (λ t. t.0) tables)
 
   tables_in : (entries : Project) (table : List Obligation) → AreOnce (keys_of entries) → AreObligations project entries table → HasTables entries table

@@ -11,7 +11,7 @@ use Rattle.std.proofs.lemmas.Map.Keys.{IsDistinct-from_sorted}
 use Rattle.std.proofs.lemmas.Slice.Eq.{bytes_eq-Decides}
 use Rattle.model_core.specs.declared.component.RawComponent.{RawComponent}
 use Rattle.model_core.specs.Each.{is_among}
-use Rattle.static_check.specs.Settling.{own_name, has}
+use Rattle.static_check.specs.Settling.{own_name, has_component}
 use Rattle.build_core.specs.Projects.{Project, has_text}
 use Rattle.build_core.specs.Private.{found, Sets}
 
@@ -121,16 +121,16 @@ pub later : {A : Type 0} (xs : List A) (y x : A) → Contains xs x → Contains 
 later xs y x h = (suc h.0, omega (arith, h.1), h.2)
 
 -- a component has its name
-pub has_own : (components : List RawComponent) (c : RawComponent) → Contains components c → has components (own_name c) ≡ true
+pub has_own : (components : List RawComponent) (c : RawComponent) → Contains components c → has_component components (own_name c) ≡ true
 has_own components c h = by components h.0 h.1 h.2
   where
-    by : (cs : List RawComponent) (k : ℕ) → k < length cs → get_or cs k c ≡ c → has cs (own_name c) ≡ true
+    by : (cs : List RawComponent) (k : ℕ) → k < length cs → get_or cs k c ≡ c → has_component cs (own_name c) ≡ true
     by [] k lt is = absurd (omega (arith, lt))
     by (d ∷ cs) zero lt is = or_first (bytes_eq (own_name c) (own_name d)) _ (ap (λ e. bytes_eq (own_name c) (own_name e)) is ∙ itself (own_name c))
     by (d ∷ cs) (suc k) lt is = or_second (bytes_eq (own_name c) (own_name d)) _ (by cs k (omega (arith, lt)) is)
 
 -- and a name that one has is that of a component
-pub named_one : (components : List RawComponent) (name : List ℕ) → has components name ≡ true → (c : RawComponent) × Contains components c × (own_name c ≡ name)
+pub named_one : (components : List RawComponent) (name : List ℕ) → has_component components name ≡ true → (c : RawComponent) × Contains components c × (own_name c ≡ name)
 named_one [] name e = absurd (never e)
   where
     never : false ≡ true → ⊥

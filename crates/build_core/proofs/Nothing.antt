@@ -6,7 +6,7 @@ use Rattle.model_core.specs.declared.fault.Fault.{Fault}
 use Rattle.model_core.specs.declared.checked.Checked.{Checked}
 use Rattle.sequent_core.specs.declared.sequent.Obligation.{Obligation}
 use Rattle.build_core.specs.Projects.{Project, Checks}
-use Rattle.build_core.specs.Tables.{IsTable, IsOfName, IsPlaceOf}
+use Rattle.build_core.specs.Tables.{IsTableOf, IsOfName, IsPlaceInTable}
 use Rattle.build_core.specs.Private.{Outcomes, found, AreListed, IsJudged, AreOwnsOf}
 use Rattle.build_core.proofs.Tables.{one_table}
 use Rattle.build_core.proofs.Taken.{verdict_found}
@@ -40,13 +40,13 @@ pub nothing_owned : AreOwnsOf [] []
 nothing_owned name own e = none_some own e
 
 -- the place in the one table
-pub place_in : (project : Project) (outcomes : Outcomes) → IsJudged project outcomes → (mine table : List Obligation) → IsTable project mine → IsTable project table →
-    (name : List ℕ) (place : Option ℕ) → IsPlaceOf mine name place → IsPlaceOf table name place
-place_in project outcomes judged mine table a b name place is = subst (λ t. IsPlaceOf t name place) (one_table project judged.once mine table a b) is
+pub place_in : (project : Project) (outcomes : Outcomes) → IsJudged project outcomes → (mine table : List Obligation) → IsTableOf project mine → IsTableOf project table →
+    (name : List ℕ) (place : Option ℕ) → IsPlaceInTable mine name place → IsPlaceInTable table name place
+place_in project outcomes judged mine table a b name place is = subst (λ t. IsPlaceInTable t name place) (one_table project judged.once mine table a b) is
 
 -- the obligation there
-pub found_in : (project : Project) (outcomes : Outcomes) → IsJudged project outcomes → (mine table : List Obligation) → IsTable project mine → IsTable project table →
-    (name : List ℕ) (at : ℕ) (o : Obligation) → IsPlaceOf mine name (Some at) → o ≡ get_or mine at o → IsOfName table name (Some o)
+pub found_in : (project : Project) (outcomes : Outcomes) → IsJudged project outcomes → (mine table : List Obligation) → IsTableOf project mine → IsTableOf project table →
+    (name : List ℕ) (at : ℕ) (o : Obligation) → IsPlaceInTable mine name (Some at) → o ≡ get_or mine at o → IsOfName table name (Some o)
 found_in project outcomes judged mine table a b name at o place is =
     subst (λ t. IsOfName t name (Some o)) (one_table project judged.once mine table a b) (of_place mine name at o place is)
 

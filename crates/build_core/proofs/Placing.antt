@@ -11,8 +11,8 @@ use Rattle.std.proofs.lemmas.List.{length-append, length-take-le, length-map, ge
 use Rattle.std.proofs.Math.Seq.{take-append_seam, get_or-append_seam}
 use Rattle.model_core.proofs.Firsts.{taken_more}
 use Rattle.sequent_core.specs.declared.sequent.Obligation.{Obligation}
-use Rattle.build_core.specs.Tables.{IsOfName, IsPlaceOf}
-use Rattle.build_core.specs.Private.{found, Sets, HasPlaces}
+use Rattle.build_core.specs.Tables.{IsOfName, IsPlaceInTable}
+use Rattle.build_core.specs.Private.{found, Sets, IndexesTable}
 use Rattle.build_core.proofs.Found.{tied, same, itself}
 use Rattle.build_core.proofs.Rounds.{unequal}
 
@@ -36,7 +36,7 @@ taken_mapped f xs i x lt is = ap (map f) (taken_more xs i x lt is) ∙ mapped_mo
 
 -- PLACES
 
-further : (table : List Obligation) (o : Obligation) (name : List ℕ) (place : Option ℕ) → o.name ≢ name → IsPlaceOf table name place → IsPlaceOf (table ++ o ∷ []) name place
+further : (table : List Obligation) (o : Obligation) (name : List ℕ) (place : Option ℕ) → o.name ≢ name → IsPlaceInTable table name place → IsPlaceInTable (table ++ o ∷ []) name place
 further table o name None apart is = all_both (λ p. p.name ≢ name) table o is apart
 further table o name (Some at) apart is = (
   omega (arith, is.0, length-append table (o ∷ [])),
@@ -44,58 +44,58 @@ further table o name (Some at) apart is = (
   λ d. rw (get_or_append_left table (o ∷ []) d at is.0) (is.2 d),
 )
 
-further_there : (table : List Obligation) (o : Obligation) (name : List ℕ) (at : ℕ) → IsPlaceOf table name (Some at) → IsPlaceOf (table ++ o ∷ []) name (Some at)
+further_there : (table : List Obligation) (o : Obligation) (name : List ℕ) (at : ℕ) → IsPlaceInTable table name (Some at) → IsPlaceInTable (table ++ o ∷ []) name (Some at)
 further_there table o name at is = (
   omega (arith, is.0, length-append table (o ∷ [])),
   rw (take-append-le at table (o ∷ []) (omega (arith, is.0))) is.1,
   λ d. rw (get_or_append_left table (o ∷ []) d at is.0) (is.2 d),
 )
 
-last_place : (table : List Obligation) (o : Obligation) → AllByRecursion (λ p. p.name ≢ o.name) table → IsPlaceOf (table ++ o ∷ []) o.name (Some (length table))
+last_place : (table : List Obligation) (o : Obligation) → AllByRecursion (λ p. p.name ≢ o.name) table → IsPlaceInTable (table ++ o ∷ []) o.name (Some (length table))
 last_place table o apart =
     (omega (arith, length-append table (o ∷ [])), rw take-append_seam apart, λ d. ap (λ p. p.name) (get_or-append_seam table o [] d))
 
-module _ (table : List Obligation) (o : Obligation) (places : List (List ℕ × ℕ)) (has : HasPlaces table places) where
+module _ (table : List Obligation) (o : Obligation) (places : List (List ℕ × ℕ)) (has : IndexesTable table places) where
   -- an obligation whose name is new
-  pub place_new : (next : List (List ℕ × ℕ)) → found places o.name ≡ None → Sets places o.name (length table) next → HasPlaces (table ++ o ∷ []) next
+  pub place_new : (next : List (List ℕ × ℕ)) → found places o.name ≡ None → Sets places o.name (length table) next → IndexesTable (table ++ o ∷ []) next
   place_new next none sets name = by (is_at (slice_cmp nat_cmp o.name) name) refl
     where
-      by : (b : Bool) → is_at (slice_cmp nat_cmp o.name) name ≡ b → IsPlaceOf (table ++ o ∷ []) name (found next name)
+      by : (b : Bool) → is_at (slice_cmp nat_cmp o.name) name ≡ b → IsPlaceInTable (table ++ o ∷ []) name (found next name)
       by true at =
           let here : o.name ≡ name = same o.name name (sym (tied o.name name) ∙ at) in
-          let new = subst (IsPlaceOf table o.name) none (has o.name) in
-          subst (IsPlaceOf (table ++ o ∷ []) name) (sym (sets name ∙ ap (λ x. cond x (Some (length table)) (found places name)) at))
-          (subst (λ n. IsPlaceOf (table ++ o ∷ []) n (Some (length table))) here (last_place table o new))
+          let new = subst (IsPlaceInTable table o.name) none (has o.name) in
+          subst (IsPlaceInTable (table ++ o ∷ []) name) (sym (sets name ∙ ap (λ x. cond x (Some (length table)) (found places name)) at))
+          (subst (λ n. IsPlaceInTable (table ++ o ∷ []) n (Some (length table))) here (last_place table o new))
       by false at =
           let apart : o.name ≢ name = λ e. unequal (is_at (slice_cmp nat_cmp o.name) name) (tied o.name name ∙ subst (λ n. bytes_eq o.name n ≡ true) e (itself o.name)) at in
-          subst (IsPlaceOf (table ++ o ∷ []) name) (sym (sets name ∙ ap (λ x. cond x (Some (length table)) (found places name)) at)) (further table o name (found places name) apart (has name))
+          subst (IsPlaceInTable (table ++ o ∷ []) name) (sym (sets name ∙ ap (λ x. cond x (Some (length table)) (found places name)) at)) (further table o name (found places name) apart (has name))
 
   -- an obligation whose name isn't
-  pub place_old : (at : ℕ) → found places o.name ≡ Some at → HasPlaces (table ++ o ∷ []) places
+  pub place_old : (at : ℕ) → found places o.name ≡ Some at → IndexesTable (table ++ o ∷ []) places
   place_old at there name = by (bytes_eq o.name name) refl
     where
-      by : (b : Bool) → bytes_eq o.name name ≡ b → IsPlaceOf (table ++ o ∷ []) name (found places name)
+      by : (b : Bool) → bytes_eq o.name name ≡ b → IsPlaceInTable (table ++ o ∷ []) name (found places name)
       by true e =
           let here : o.name ≡ name = same o.name name e in
           let place : found places name ≡ Some at = ap (found places) (sym here) ∙ there in
-          subst (IsPlaceOf (table ++ o ∷ []) name) (sym place) (further_there table o name at (subst (IsPlaceOf table name) place (has name)))
+          subst (IsPlaceInTable (table ++ o ∷ []) name) (sym place) (further_there table o name at (subst (IsPlaceInTable table name) place (has name)))
       by false e = further table o name (found places name) (λ f. unequal (bytes_eq o.name name) (subst (λ n. bytes_eq o.name n ≡ true) f (itself o.name)) e) (has name)
 
 -- the same of obligations that are taken from a list
-pub place_added : {X : Type 0} (f : X → Obligation) (xs : List X) (i : ℕ) (x : X) (places next : List (List ℕ × ℕ)) (key : List ℕ) → HasPlaces (map f (take i xs)) places → i < length xs → x ≡ get_or xs i x →
-    found places (f x).name ≡ None → key ≡ (f x).name → Sets places key i next → HasPlaces (map f (take (i + 1) xs)) next
+pub place_added : {X : Type 0} (f : X → Obligation) (xs : List X) (i : ℕ) (x : X) (places next : List (List ℕ × ℕ)) (key : List ℕ) → IndexesTable (map f (take i xs)) places → i < length xs → x ≡ get_or xs i x →
+    found places (f x).name ≡ None → key ≡ (f x).name → Sets places key i next → IndexesTable (map f (take (i + 1) xs)) next
 place_added f xs i x places next key has lt is none named sets =
     let count : i ≡ length (map f (take i xs)) = omega (arith, length-map (take i xs) f, length-take-le i xs (omega (arith, lt))) in
-    subst (λ t. HasPlaces t next) (sym (taken_mapped f xs i x lt is))
+    subst (λ t. IndexesTable t next) (sym (taken_mapped f xs i x lt is))
     (place_new (map f (take i xs)) (f x) places has next none (subst (λ k. Sets places k (length (map f (take i xs))) next) named (subst (λ n. Sets places key n next) count sets)))
 
-pub place_kept : {X : Type 0} (f : X → Obligation) (xs : List X) (i : ℕ) (x : X) (places : List (List ℕ × ℕ)) (at : ℕ) → HasPlaces (map f (take i xs)) places → i < length xs → x ≡ get_or xs i x →
-    found places (f x).name ≡ Some at → HasPlaces (map f (take (i + 1) xs)) places
+pub place_kept : {X : Type 0} (f : X → Obligation) (xs : List X) (i : ℕ) (x : X) (places : List (List ℕ × ℕ)) (at : ℕ) → IndexesTable (map f (take i xs)) places → i < length xs → x ≡ get_or xs i x →
+    found places (f x).name ≡ Some at → IndexesTable (map f (take (i + 1) xs)) places
 place_kept f xs i x places at has lt is there =
-    subst (λ t. HasPlaces t places) (sym (taken_mapped f xs i x lt is)) (place_old (map f (take i xs)) (f x) places has at there)
+    subst (λ t. IndexesTable t places) (sym (taken_mapped f xs i x lt is)) (place_old (map f (take i xs)) (f x) places has at there)
 
 -- the obligation at the place of its name
-pub of_place : (table : List Obligation) (name : List ℕ) (at : ℕ) (o : Obligation) → IsPlaceOf table name (Some at) → o ≡ get_or table at o → IsOfName table name (Some o)
+pub of_place : (table : List Obligation) (name : List ℕ) (at : ℕ) (o : Obligation) → IsPlaceInTable table name (Some at) → o ≡ get_or table at o → IsOfName table name (Some o)
 of_place table name at o place is = ((at, place.0, sym is), ap (λ p. p.name) is ∙ place.2 o)
 
 -- COPIES

@@ -4,8 +4,8 @@ use Rattle.std.specs.List.{AllByRecursion}
 use Rattle.std.proofs.lemmas.List.{length-map, map-append, take-map}
 use Rattle.sequent_core.specs.declared.sequent.Obligation.{Obligation}
 use Rattle.name_laws.proofs.Lists.{all_map, all_unmap}
-use Rattle.build_core.specs.Tables.{IsPlaceOf}
-use Rattle.build_core.specs.Private.{found, HasPlaces, obligation_names}
+use Rattle.build_core.specs.Tables.{IsPlaceInTable}
+use Rattle.build_core.specs.Private.{found, IndexesTable, obligation_names}
 use Rattle.build_core.proofs.Listed.{at_mapped}
 use Rattle.build_core.proofs.Placing.{mapped_at, taken_mapped}
 
@@ -14,7 +14,7 @@ use Rattle.build_core.proofs.Placing.{mapped_at, taken_mapped}
 apart : (xs ys : List Obligation) (name : List ℕ) → obligation_names xs ≡ obligation_names ys → AllByRecursion (λ o. o.name ≢ name) xs → AllByRecursion (λ o. o.name ≢ name) ys
 apart xs ys name e all = all_unmap (λ n. n ≢ name) (λ (o : Obligation). o.name) ys (subst (AllByRecursion (λ n. n ≢ name)) e (all_map (λ n. n ≢ name) (λ (o : Obligation). o.name) xs all))
 
-same_place : (one other : List Obligation) (name : List ℕ) → obligation_names one ≡ obligation_names other → (place : Option ℕ) → IsPlaceOf one name place → IsPlaceOf other name place
+same_place : (one other : List Obligation) (name : List ℕ) → obligation_names one ≡ obligation_names other → (place : Option ℕ) → IsPlaceInTable one name place → IsPlaceInTable other name place
 same_place one other name e None is = apart one other name e is
 same_place one other name e (Some i) is = (
   omega (arith, is.0, length-map one (λ (o : Obligation). o.name), length-map other (λ (o : Obligation). o.name), ap length e),
@@ -23,7 +23,7 @@ same_place one other name e (Some i) is = (
 )
 
 -- the places in a table are those in another one of the same names
-pub same_places : (one other : List Obligation) (places : List (List ℕ × ℕ)) → obligation_names one ≡ obligation_names other → HasPlaces one places → HasPlaces other places
+pub same_places : (one other : List Obligation) (places : List (List ℕ × ℕ)) → obligation_names one ≡ obligation_names other → IndexesTable one places → IndexesTable other places
 same_places one other places e has name = same_place one other name e (found places name) (has name)
 
 -- NAMES ONE BY ONE

@@ -12,7 +12,7 @@ use Rattle.model_core.specs.declared.checked.Checked.{Checked}
 use Rattle.check_rules.specs.Contexts.{Outcome}
 use Rattle.check_rules.specs.Components.{ChecksBeside}
 use Rattle.static_check.specs.declared.settled.Order.{Order}
-use Rattle.static_check.specs.Settling.{own_name, has, IsSettled, IsComponentOrder}
+use Rattle.static_check.specs.Settling.{own_name, has_component, IsSettled, IsComponentOrder}
 use Rattle.static_check.specs.Parts.{ArePartsOf}
 use Rattle.build_core.specs.Projects.{wanted_references}
 use Rattle.build_core.specs.Private.{Outcomes, Sets, AreSet, ConcludesIn, HaveNames, faults_at, parts_at}
@@ -63,13 +63,13 @@ among_at [] i name lt is = absurd (omega (arith, lt))
 among_at (x ∷ names) zero name lt is = or_first (bytes_eq name x) _ (ap (bytes_eq name) (sym is) ∙ itself name)
 among_at (x ∷ names) (suc i) name lt is = or_second (bytes_eq name x) _ (among_at names i name (omega (arith, lt)) is)
 
-pub has_at : (components : List RawComponent) (names : List (List ℕ)) (i : ℕ) (name : List ℕ) → HaveNames components names → i < length names → name ≡ get_or names i name → has components name ≡ true
+pub has_at : (components : List RawComponent) (names : List (List ℕ)) (i : ℕ) (name : List ℕ) → HaveNames components names → i < length names → name ≡ get_or names i name → has_component components name ≡ true
 has_at components names i name have lt is = have name (among_at names i name lt is)
 
 module _ (components : List RawComponent) (order : Order) (is_order : IsComponentOrder components order) where
   pub sorted_names : HaveNames components order.sorted
   sorted_names name among = by ((is_order.sorted name).0 among)
     where
-      by : IsSettled components name → has components name ≡ true
+      by : IsSettled components name → has_component components name ≡ true
       by (zero, h) = absurd h
-      by (suc k, h) = subst (λ n. has components n ≡ true) h.2 (has_own components h.0 h.1)
+      by (suc k, h) = subst (λ n. has_component components n ≡ true) h.2 (has_own components h.0 h.1)

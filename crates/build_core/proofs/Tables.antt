@@ -19,9 +19,9 @@ use Rattle.check_rules.specs.Components.{ChecksBeside}
 use Rattle.sequent_core.specs.declared.sequent.Obligation.{Obligation}
 use Rattle.po_rules.specs.Tables.{obligations_of}
 use Rattle.build_core.specs.Projects.{Project, has_text, wanted_references, wanting, reference_row, reference_faults, checked_in, IsPart, ConcludesFrom, ChecksBy, Checks, settled, cyclic}
-use Rattle.build_core.specs.Tables.{refined_in, IsAbstraction, Gives, AreObligations, IsTable, faults_in, warnings_in, AreGiven}
+use Rattle.build_core.specs.Tables.{refined_in, IsAbstraction, Gives, AreObligations, IsTableOf, faults_in, warnings_in, AreGiven}
 use Rattle.build_core.specs.Laws.{HasOneTable, HasOneListOfFaults, HasOneListOfWarnings}
-use Rattle.build_core.specs.Private.{Outcomes, found, AreComponentsIn, machine_in, abstraction_in, OwnFrom, IsOwn, given_at, given_in, AreVerdicts}
+use Rattle.build_core.specs.Private.{Outcomes, found, AreComponentsIn, machine_in_outcome, abstraction_in, OwnFrom, IsOwn, given_at, given_in, AreVerdicts}
 use Rattle.build_core.proofs.OwnLists.{AreOwn}
 use Rattle.build_core.proofs.Found.{its_value, its_text}
 use Rattle.build_core.proofs.Rounds.{read_one, verdict_one, is_there, same_component}
@@ -137,7 +137,7 @@ module _ (project : Project) (distinct : IsDistinct bytes_eq (keys_of project)) 
         let t = its_text project r.name (has_verdict r.name (Ok (Machine m.0)) m.1) in
         let o = its_value (found outcomes r.name) (verdicts.whole r.name t.0 t.1) in
         let same = verdict_one project distinct r.name o.0 (Ok (Machine m.0)) (verdicts.sound r.name o.0 o.1) m.1 in
-        (m.0, m.1, ap machine_in (o.1 ∙ ap (λ x. Some x) same))
+        (m.0, m.1, ap machine_in_outcome (o.1 ∙ ap (λ x. Some x) same))
 
   module _ (components : List RawComponent) (outcomes : Outcomes) (all_read : AreComponentsIn project components) (verdicts : AreVerdicts project outcomes) where
     pub own_gives : (name text : List ℕ) (own : List Obligation) → Contains project (name, text) → IsOwn components outcomes name own → Gives project name own
@@ -165,7 +165,7 @@ module _ (project : Project) (distinct : IsDistinct bytes_eq (keys_of project)) 
           own.4,
         )
 
-    pub own_table : (table : List Obligation) → AreOwn components outcomes project table → IsTable project table
+    pub own_table : (table : List Obligation) → AreOwn components outcomes project table → IsTableOf project table
     own_table table own = own_obligations [] project table refl own
 
     given_entries : {X : Type 0} (each : List ℕ → Outcome → List X) (before entries : Project) → before ++ entries ≡ project → AreGiven each project entries (given_in each outcomes entries)

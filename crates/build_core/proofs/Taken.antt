@@ -21,7 +21,7 @@ use Rattle.po_rules.specs.Tables.{obligations_of}
 use Rattle.build_core.specs.Moved.{IsResult, IsMoved}
 use Rattle.build_core.specs.Projects.{Project, has_text, wanting, wanted_references, references_in, reference_row, IsPart, Concludes, ConcludesFrom, ChecksBy, IsSettledBy, Checks, settled, cyclic}
 use Rattle.build_core.specs.Tables.{refined_in, Gives}
-use Rattle.build_core.specs.Private.{Outcomes, found, Sets, outcomes_at, faults_at, ConcludesIn, IsJudged, IsComponentIn, AreSteady, IsSteady, is_true, is_kept, are_same, all_kept, keeps_obligations, machine_in, abstraction_in}
+use Rattle.build_core.specs.Private.{Outcomes, found, Sets, outcomes_at, faults_at, ConcludesIn, IsJudged, IsComponentIn, AreSteady, IsSteady, is_true, is_kept, are_same, all_kept, keeps_obligations, machine_in_outcome, abstraction_in}
 use Rattle.build_core.proofs.Found.{tied, same, itself, later, its_value, its_text}
 use Rattle.build_core.proofs.Rounds.{unequal, looked_up, same_some, read_one, by_settled, verdict_one}
 use Rattle.build_core.proofs.Referred.{none_first, both_empty, not_empty}
@@ -355,7 +355,7 @@ module _ (old : Project) (was : Outcomes) (judged : IsJudged old was) where
 
       abstraction : (refines : Option Ref) → list_all (λ r. is_kept kept r.name) (option_to_list refines) ≡ true → abstraction_in was refines ≡ abstraction_in now refines
       abstraction None g = refl
-      abstraction (Some r) g = ap machine_in (steady.same r.name (and_first (is_kept kept r.name) true g))
+      abstraction (Some r) g = ap machine_in_outcome (steady.same r.name (and_first (is_kept kept r.name) true g))
 
 module _ (old : Project) (was : Outcomes) (judged : IsJudged old was) (new : Project) (once : IsDistinct bytes_eq (keys_of new)) (c : RawComponent) (component : IsComponentIn new c)
     (kept : List (List ℕ × Bool)) (stands : (are_same (found old (own_name c)) (found new (own_name c)) && all_kept kept c) ≡ true) where

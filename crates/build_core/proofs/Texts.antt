@@ -8,9 +8,9 @@ use Rattle.model_core.proofs.Firsts.{taken_more}
 use Rattle.model_core.specs.declared.component.RawComponent.{RawComponent}
 use Rattle.component_text.specs.Spelled.{IsRead}
 use Rattle.check_rules.specs.Contexts.{Outcome}
-use Rattle.static_check.specs.Settling.{own_name, has}
+use Rattle.static_check.specs.Settling.{own_name, has_component}
 use Rattle.build_core.specs.Projects.{Project, Reading}
-use Rattle.build_core.specs.Private.{Outcomes, found, Sets, IsComponentIn, IsFaultIn, AreRead, Adds, IsIndex}
+use Rattle.build_core.specs.Private.{Outcomes, found, Sets, IsComponentIn, IsFaultIn, AreRead, Collects, IsIndex}
 use Rattle.build_core.proofs.Found.{set_there, set_keeps, set_cases, is_found, has_own, named_one}
 
 module _ (done : Project) (name text : List ℕ) where
@@ -23,10 +23,10 @@ module _ (done : Project) (name text : List ℕ) where
   kept_fault : (n : List ℕ) (o : Outcome) → IsFaultIn done n o → IsFaultIn more n o
   kept_fault n o h = (h.0, h.1, Contains-append_left done ((name, text) ∷ []) (n, h.0) h.2, h.3, h.4)
 
-  has_more : (components : List RawComponent) (c : RawComponent) (n : List ℕ) → has components n ≡ true → has (components ++ c ∷ []) n ≡ true
+  has_more : (components : List RawComponent) (c : RawComponent) (n : List ℕ) → has_component components n ≡ true → has_component (components ++ c ∷ []) n ≡ true
   has_more components c n e =
       let d = named_one components n e in
-      subst (λ m. has (components ++ c ∷ []) m ≡ true) d.2 (has_own (components ++ c ∷ []) d.0 (Contains-append_left components (c ∷ []) d.0 d.1))
+      subst (λ m. has_component (components ++ c ∷ []) m ≡ true) d.2 (has_own (components ++ c ∷ []) d.0 (Contains-append_left components (c ∷ []) d.0 d.1))
 
   abbrev entry : List ℕ → List ℕ → List ℕ × List ℕ
   entry n t = (n, t)
@@ -34,7 +34,7 @@ module _ (done : Project) (name text : List ℕ) where
   same_names : (n t : List ℕ) → entry name text ≡ entry n t → name ≡ n
   same_names n t e = ap (λ p. p.0) e
 
-  pub one_read : (components : List RawComponent) (outcomes : Outcomes) (reading : Reading) (others : List RawComponent) (next : Outcomes) → AreRead done components outcomes → IsRead name text reading → Adds name reading components outcomes others next → AreRead more others next
+  pub one_read : (components : List RawComponent) (outcomes : Outcomes) (reading : Reading) (others : List RawComponent) (next : Outcomes) → AreRead done components outcomes → IsRead name text reading → Collects name reading components outcomes others next → AreRead more others next
   one_read components outcomes (Ok c) others next all is adds =
       let named = is.named in
       subst (λ cs. AreRead more cs next) (sym adds.0) (subst (λ os. AreRead more (components ++ c ∷ []) os) (sym adds.1) (record {
@@ -45,7 +45,7 @@ module _ (done : Project) (name text : List ℕ) where
         faulted = λ n o e. kept_fault n o (all.faulted n o e);
         all = λ n t in'. elim (Contains-push_cases done (name, text) (n, t) in') [
           | inl old ↦ elim (all.all n t old) [ inl has_it ↦ inl (has_more components c n has_it) | inr there ↦ inr there ]
-          | inr here ↦ inl (subst (λ m. has (components ++ c ∷ []) m ≡ true) (named ∙ same_names n t here) (has_own (components ++ c ∷ []) c (Contains-push components c)))
+          | inr here ↦ inl (subst (λ m. has_component (components ++ c ∷ []) m ≡ true) (named ∙ same_names n t here) (has_own (components ++ c ∷ []) c (Contains-push components c)))
         ];
         few = omega (arith, length-append components (c ∷ []), length-append done ((name, text) ∷ []), all.few);
       }))
@@ -102,10 +102,10 @@ one_placed components i c index next lt is before sets =
     sooner : (j : ℕ) (n : List ℕ) → j < length (take i components) → HoldsAt (λ d. own_name d ≡ n) (take i components) j → HoldsAt (λ d. own_name d ≡ n) (take i components ++ c ∷ []) j
     sooner j n within holds = λ d. ap own_name (get_or_append_left (take i components) (c ∷ []) d j within) ∙ holds d
 
-    last_or : (n : List ℕ) → has (take i components ++ c ∷ []) n ≡ true → (has (take i components) n ≡ true) ⊎ (own_name c ≡ n)
+    last_or : (n : List ℕ) → has_component (take i components ++ c ∷ []) n ≡ true → (has_component (take i components) n ≡ true) ⊎ (own_name c ≡ n)
     last_or n e =
         let d = named_one (take i components ++ c ∷ []) n e in
         elim (Contains-push_cases (take i components) c d.0 d.1) [
-          | inl old ↦ inl (subst (λ m. has (take i components) m ≡ true) d.2 (has_own (take i components) d.0 old))
+          | inl old ↦ inl (subst (λ m. has_component (take i components) m ≡ true) d.2 (has_own (take i components) d.0 old))
           | inr here ↦ inr (ap own_name here ∙ d.2)
         ]

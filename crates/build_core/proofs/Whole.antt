@@ -6,7 +6,7 @@ use Rattle.sequent_core.specs.declared.sequent.Obligation.{Obligation}
 use Rattle.po_rules.specs.Gathering.{table_limit}
 use Rattle.build_core.specs.declared.owns.Own.{Own}
 use Rattle.build_core.specs.Projects.{Project}
-use Rattle.build_core.specs.Tables.{IsTable, AreGiven, IsTooLarge, counted_nodes}
+use Rattle.build_core.specs.Tables.{IsTableOf, AreGiven, IsTooLargeOf, counted_nodes}
 use Rattle.build_core.specs.Private.{Outcomes, AreConcluded, AreVerdicts, AreOwnsOf, AreJudged, IsBegun, own_list, given_in}
 use Rattle.build_core.proofs.OwnLists.{AreOwn, HaveOwns}
 use Rattle.build_core.proofs.Found.{its_text}
@@ -34,8 +34,8 @@ module _ (project : Project) (components : List RawComponent) (outcomes : Outcom
       let t = its_text project name h.0 in
       (own_gives project judged.judged.once components outcomes judged.read judged.judged.verdicts name t.0 (own_list own) t.1 h.1.0, h.1.1)
 
-  pub whole_table : (table : List Obligation) → AreOwn components outcomes project table → IsTable project table
+  pub whole_table : (table : List Obligation) → AreOwn components outcomes project table → IsTableOf project table
   whole_table table own = own_table project judged.judged.once components outcomes judged.read judged.judged.verdicts table own
 
-  pub whole_full : (table : List Obligation) (n : ℕ) → AreOwn components outcomes project table → table_limit < n → n ≡ counted_nodes table → IsTooLarge project n
+  pub whole_full : (table : List Obligation) (n : ℕ) → AreOwn components outcomes project table → table_limit < n → n ≡ counted_nodes table → IsTooLargeOf project n
   whole_full table n own more is = (table, whole_table table own, more, is)

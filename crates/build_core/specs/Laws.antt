@@ -7,7 +7,7 @@ use Rattle.sequent_core.specs.declared.sequent.Obligation.{Obligation}
 use Rattle.check_rules.specs.Contexts.{Outcome}
 use Rattle.name_laws.specs.Laws.{HaveDistinctNames}
 use Rattle.build_core.specs.Projects.{Project, Checks}
-use Rattle.build_core.specs.Tables.{IsTable, AreFaults, AreWarnings}
+use Rattle.build_core.specs.Tables.{IsTableOf, AreFaultsOf, AreWarningsOf}
 
 abbrev pub HasOneVerdict : Type 0
 HasOneVerdict =
@@ -17,24 +17,24 @@ HasOneVerdict =
 abbrev pub HasOneTable : Type 0
 HasOneTable =
     (project : Project) → IsDistinct bytes_eq (keys_of project) → (one two : List Obligation) →
-    IsTable project one → IsTable project two → one ≡ two
+    IsTableOf project one → IsTableOf project two → one ≡ two
 
 abbrev pub HasOneListOfFaults : Type 0
 HasOneListOfFaults =
     (project : Project) → IsDistinct bytes_eq (keys_of project) → (one two : List FaultLine) →
-    AreFaults project one → AreFaults project two → one ≡ two
+    AreFaultsOf project one → AreFaultsOf project two → one ≡ two
 
 abbrev pub HasOneListOfWarnings : Type 0
 HasOneListOfWarnings =
     (project : Project) → IsDistinct bytes_eq (keys_of project) → (one two : List (List ℕ × List ℕ)) →
-    AreWarnings project one → AreWarnings project two → one ≡ two
+    AreWarningsOf project one → AreWarningsOf project two → one ≡ two
 
 -- no two obligations of a project have the same name
 abbrev pub HasDistinctObligations : Type 0
 HasDistinctObligations =
     (project : Project) → IsDistinct bytes_eq (keys_of project) → (table : List Obligation) →
-    IsTable project table → HaveDistinctNames table
+    IsTableOf project table → HaveDistinctNames table
 
 -- a component has at most one fault
 abbrev pub HasFewFaults : Type 0
-HasFewFaults = (project : Project) → (faults : List FaultLine) → AreFaults project faults → length faults ≤ length project
+HasFewFaults = (project : Project) → (faults : List FaultLine) → AreFaultsOf project faults → length faults ≤ length project

@@ -16,8 +16,8 @@ abbrev pub Differs : Project → Project → List ℕ → Type 0
 Differs old new name = (before : Option Outcome) × (behind : Option Outcome) × IsResult old name before × IsResult new name behind × (before ≢ behind)
 
 -- a component references this name
-abbrev pub References : Project → List ℕ → List ℕ → Type 0
-References project name other =
+abbrev pub RefersTo : Project → List ℕ → List ℕ → Type 0
+RefersTo project name other =
     (text : List ℕ) × (reading : Reading) × (r : Ref × Bool) × Contains project (name, text) × IsRead name text reading
     × Contains (references_in reading) r × (r.0.name ≡ other)
 
@@ -25,7 +25,7 @@ References project name other =
 abbrev pub IsMoved : Project → Project → List ℕ → Type 0
 IsMoved old new name =
     (text : List ℕ) × Contains new (name, text)
-    × ((Contains old (name, text) → ⊥) ⊎ ((other : List ℕ) × References new name other × Differs old new other))
+    × ((Contains old (name, text) → ⊥) ⊎ ((other : List ℕ) × RefersTo new name other × Differs old new other))
 
 -- at most one step for each of some components that moved, each counted once
 abbrev pub HasFewSteps : Project → Project → ℕ → ℕ → Type 0

@@ -22,14 +22,14 @@ use Rattle.model_core.specs.declared.checked.CheckedMachine.{CheckedMachine}
 use Rattle.component_text.specs.Spelled.{IsRead}
 use Rattle.check_rules.specs.Contexts.{Outcome}
 use Rattle.static_check.specs.declared.settled.Order.{Order}
-use Rattle.static_check.specs.Settling.{own_name, has, IsComponentOrder}
+use Rattle.static_check.specs.Settling.{own_name, has_component, IsComponentOrder}
 use Rattle.sequent_core.specs.declared.sequent.Obligation.{Obligation}
 use Rattle.po_rules.specs.Gathering.{gathered, table_nodes, table_limit}
 use Rattle.po_rules.specs.Tables.{obligations_of}
 use Rattle.po_generate.specs.Laws as gathering
 use Rattle.build_core.specs.Projects.{Project, Reading, wanted_references, is_wanted, reference_row, checked_in, Concludes, Checks}
 use Rattle.build_core.specs.declared.owns.Own.{Own}
-use Rattle.build_core.specs.Tables.{refined_in, IsPlaceOf, Gives}
+use Rattle.build_core.specs.Tables.{refined_in, IsPlaceInTable, Gives}
 
 -- what the map of these entries has at a name
 abbrev pub found : {X : Type 0} → List (List ℕ × X) → List ℕ → Option X
@@ -58,18 +58,18 @@ IsFaultIn project name outcome =
 pub record AreRead (project : Project) (components : List RawComponent) (outcomes : Outcomes) : Type 0 where
   pub read : (c : RawComponent) → Contains components c → IsComponentIn project c
   pub faulted : (name : List ℕ) (outcome : Outcome) → found outcomes name ≡ Some outcome → IsFaultIn project name outcome
-  pub all : (name text : List ℕ) → Contains project (name, text) → (has components name ≡ true) ⊎ IsSome (found outcomes name)
+  pub all : (name text : List ℕ) → Contains project (name, text) → (has_component components name ≡ true) ⊎ IsSome (found outcomes name)
   pub few : length components ≤ length project
 
 -- a reading is added to the components or to the faults
-abbrev pub Adds : List ℕ → Reading → List RawComponent → Outcomes → List RawComponent → Outcomes → Type 0
-Adds name (Ok c) components outcomes more others = (more ≡ components ++ c ∷ []) × (others ≡ outcomes)
-Adds name (Err fault) components outcomes more others = (more ≡ components) × Sets outcomes name (Err fault) others
+abbrev pub Collects : List ℕ → Reading → List RawComponent → Outcomes → List RawComponent → Outcomes → Type 0
+Collects name (Ok c) components outcomes more others = (more ≡ components ++ c ∷ []) × (others ≡ outcomes)
+Collects name (Err fault) components outcomes more others = (more ≡ components) × Sets outcomes name (Err fault) others
 
 -- the place of a component with each name that one has
 pub record IsIndex (components : List RawComponent) (index : List (List ℕ × ℕ)) : Type 0 where
   pub place : (name : List ℕ) (i : ℕ) → found index name ≡ Some i → (i < length components) × HoldsAt (λ c. own_name c ≡ name) components i
-  pub all : (name : List ℕ) → has components name ≡ true → IsSome (found index name)
+  pub all : (name : List ℕ) → has_component components name ≡ true → IsSome (found index name)
 
 -- the components of a project that are read, with the place of each
 pub record AreListed (project : Project) (components : List RawComponent) (index : List (List ℕ × ℕ)) : Type 0 where
@@ -114,7 +114,7 @@ IsToldCyclic c before outcome = outcome ≡ Err (fault_at (own_name c) kind.Cycl
 
 -- each of these names is that of a component
 abbrev pub HaveNames : List RawComponent → List (List ℕ) → Type 0
-HaveNames components names = (name : List ℕ) → is_among names name ≡ true → has components name ≡ true
+HaveNames components names = (name : List ℕ) → is_among names name ≡ true → has_component components name ≡ true
 
 -- first the components that are settled, in an order with references first, and then those that never are
 abbrev pub AreConcluded : List RawComponent → Outcomes → Outcomes → Type 0
@@ -133,14 +133,14 @@ given_at each (Some outcome) = each outcome
 abbrev pub given_in : {X : Type 0} → (List ℕ → Outcome → List X) → Outcomes → Project → List X
 given_in each outcomes entries = for_each (λ e. given_at (each e.1) (found outcomes e.0)) entries
 
-abbrev pub machine_in : Option Outcome → Option CheckedMachine
-machine_in (Some (Ok (Machine m))) = Some m
-machine_in _ = None
+abbrev pub machine_in_outcome : Option Outcome → Option CheckedMachine
+machine_in_outcome (Some (Ok (Machine m))) = Some m
+machine_in_outcome _ = None
 
 -- the checked machine at a reference
 abbrev pub abstraction_in : Outcomes → Option Ref → Option CheckedMachine
 abstraction_in outcomes None = None
-abstraction_in outcomes (Some r) = machine_in (found outcomes r.name)
+abstraction_in outcomes (Some r) = machine_in_outcome (found outcomes r.name)
 
 -- the obligations of a component of this name, where it has no fault
 abbrev pub OwnFrom : List RawComponent → Outcomes → List ℕ → Option Outcome → List Obligation → Type 0
@@ -153,7 +153,7 @@ IsOwn components outcomes name own = OwnFrom components outcomes name (found out
 
 -- each component without fault is one of these
 abbrev pub HaveComponents : List RawComponent → Outcomes → Type 0
-HaveComponents components outcomes = (name : List ℕ) (checked : Checked) → found outcomes name ≡ Some (Ok checked) → has components name ≡ true
+HaveComponents components outcomes = (name : List ℕ) (checked : Checked) → found outcomes name ≡ Some (Ok checked) → has_component components name ≡ true
 
 -- BUILDERS
 
@@ -166,8 +166,8 @@ abbrev pub obligation_names : List Obligation → List (List ℕ)
 obligation_names table = map (λ o. o.name) table
 
 -- the map has the place of each name
-abbrev pub HasPlaces : List Obligation → List (List ℕ × ℕ) → Type 0
-HasPlaces table places = (name : List ℕ) → IsPlaceOf table name (found places name)
+abbrev pub IndexesTable : List Obligation → List (List ℕ × ℕ) → Type 0
+IndexesTable table places = (name : List ℕ) → IsPlaceInTable table name (found places name)
 
 abbrev pub is_true : Option Bool → Bool
 is_true (Some b) = b
@@ -240,12 +240,12 @@ abbrev pub AreMade : Checked → Option CheckedMachine → Own → Type 0
 AreMade checked abstraction own = (own_list own ≡ obligations_of checked abstraction) × IsCounted own
 
 -- those of a component
-abbrev pub IsGiven : Project → List ℕ → Own → Type 0
-IsGiven project name own = Gives project name (own_list own) × IsCounted own
+abbrev pub IsOwnOf : Project → List ℕ → Own → Type 0
+IsOwnOf project name own = Gives project name (own_list own) × IsCounted own
 
 -- the obligations of each component
 abbrev pub AreOwnsOf : Project → List (List ℕ × Own) → Type 0
-AreOwnsOf project owns = (name : List ℕ) (own : Own) → found owns name ≡ Some own → IsGiven project name own
+AreOwnsOf project owns = (name : List ℕ) (own : Own) → found owns name ≡ Some own → IsOwnOf project name own
 
 -- those of a component of this name
 abbrev pub OwnsOf : List RawComponent → Outcomes → List ℕ → Own → Type 0
@@ -257,5 +257,5 @@ keeps_obligations old new kept c =
     (are_same (found old (own_name c)) (found new (own_name c)) && is_kept kept (own_name c)) && list_all (λ r. is_kept kept r.name) (option_to_list (refined_in c))
 
 -- n nodes are counted where these obligations, behind so many nodes of others, pass the limit
-abbrev pub PassesAt : List Obligation → ℕ → ℕ → Type 0
-PassesAt list before n = (table_limit < n) × (n ≡ (gathered (gathering.behind before) list).nodes)
+abbrev pub PassesLimitAt : List Obligation → ℕ → ℕ → Type 0
+PassesLimitAt list before n = (table_limit < n) × (n ≡ (gathered (gathering.begun_at before) list).nodes)

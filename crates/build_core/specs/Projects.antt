@@ -26,12 +26,12 @@ abbrev pub Reading : Type 0
 Reading = Result RawComponent Fault
 
 -- at most 256 components, whose texts have at most 65,536 bytes each
-abbrev pub IsSmall : Project → Type 0
-IsSmall project = (length project ≤ 256) × AllByRecursion (λ entry. length entry.1 ≤ 65536) project
+abbrev pub IsSmallList : Project → Type 0
+IsSmallList project = (length project ≤ 256) × AllByRecursion (λ entry. length entry.1 ≤ 65536) project
 
 -- fewer than 2^32 components, whose texts have at most 65,536 bytes each
-abbrev pub IsBuildable : Project → Type 0
-IsBuildable project = (length project < 2 ^ 32) × AllByRecursion (λ entry. length entry.1 ≤ 65536) project
+abbrev pub IsBuildableList : Project → Type 0
+IsBuildableList project = (length project < 2 ^ 32) × AllByRecursion (λ entry. length entry.1 ≤ 65536) project
 
 abbrev pub has_text : Project → List ℕ → Bool
 has_text project name = is_among (keys_of project) name

@@ -9,7 +9,7 @@ use Rattle.model_core.specs.declared.checked.Checked.{Checked}
 use Rattle.model_core.specs.declared.checked.Checked.TheVariants.{Context, Machine}
 use Rattle.model_core.specs.declared.checked.CheckedMachine.{CheckedMachine}
 use Rattle.component_text.specs.Spelled.{IsRead}
-use Rattle.component_tokens.specs.Positions.{position_of}
+use Rattle.component_tokens.specs.Positions.{position_in_text}
 use Rattle.build_core.specs.declared.fault_line.FaultLine.{FaultLine}
 use Rattle.sequent_core.specs.declared.sequent.Obligation.{Obligation}
 use Rattle.check_rules.specs.Contexts.{Outcome}
@@ -41,12 +41,12 @@ AreObligations project (entry ∷ entries) table =
     (own : List Obligation) × (others : List Obligation) × Gives project entry.0 own × AreObligations project entries others × (table ≡ own ++ others)
 
 -- the table of a project: the obligations of its components, in byte order of their names
-abbrev pub IsTable : Project → List Obligation → Type 0
-IsTable project table = AreObligations project project table
+abbrev pub IsTableOf : Project → List Obligation → Type 0
+IsTableOf project table = AreObligations project project table
 
 -- a fault of a text, with the line and the column of its place there
 abbrev pub line_of : List ℕ → Fault → FaultLine
-line_of text fault = record { fault = fault; line = (position_of text fault.place).line; column = (position_of text fault.place).column }
+line_of text fault = record { fault = fault; line = (position_in_text text fault.place).line; column = (position_in_text text fault.place).column }
 
 abbrev pub faults_in : List ℕ → Outcome → List FaultLine
 faults_in text (Err fault) = line_of text fault ∷ []
@@ -65,19 +65,20 @@ AreGiven {X} each project (entry ∷ entries) all =
     (outcome : Outcome) × (others : List X) × Checks project entry.0 outcome × AreGiven each project entries others × (all ≡ each entry.1 outcome ++ others)
 
 -- the first fault of each component that has one, with its line and column, in byte order of the components' names
-abbrev pub AreFaults : Project → List FaultLine → Type 0
-AreFaults project faults = AreGiven faults_in project project faults
+abbrev pub AreFaultsOf : Project → List FaultLine → Type 0
+AreFaultsOf project faults = AreGiven faults_in project project faults
 
-abbrev pub AreWarnings : Project → List (List ℕ × List ℕ) → Type 0
-AreWarnings project warnings = AreGiven warnings_in project project warnings
+abbrev pub AreWarningsOf : Project → List (List ℕ × List ℕ) → Type 0
+AreWarningsOf project warnings = AreGiven warnings_in project project warnings
 
 -- The formula nodes that are counted of a table in its order, until they pass the limit.
 abbrev pub counted_nodes : List Obligation → ℕ
 counted_nodes table = (gathered (record { obligations = []; nodes = 0 }) table).nodes
 
 -- n formula nodes of the table of a project are counted, and these are more than a table may have
-abbrev pub IsTooLarge : Project → ℕ → Type 0
-IsTooLarge project n = (table : List Obligation) × IsTable project table × (table_limit < n) × (n ≡ counted_nodes table)
+abbrev pub IsTooLargeOf : Project → ℕ → Type 0
+IsTooLargeOf project n =
+    (table : List Obligation) × IsTableOf project table × (table_limit < n) × (n ≡ counted_nodes table)
 
 -- the obligation of a name in a table
 abbrev pub IsOfName : List Obligation → List ℕ → Option Obligation → Type 0
@@ -85,6 +86,6 @@ IsOfName table name None = AllByRecursion (λ o. o.name ≢ name) table
 IsOfName table name (Some o) = Contains table o × (o.name ≡ name)
 
 -- the place of the first obligation of a name in a table
-abbrev pub IsPlaceOf : List Obligation → List ℕ → Option ℕ → Type 0
-IsPlaceOf table name None = AllByRecursion (λ o. o.name ≢ name) table
-IsPlaceOf table name (Some at) = (at < length table) × AllByRecursion (λ o. o.name ≢ name) (take at table) × HoldsAt (λ o. o.name ≡ name) table at
+abbrev pub IsPlaceInTable : List Obligation → List ℕ → Option ℕ → Type 0
+IsPlaceInTable table name None = AllByRecursion (λ o. o.name ≢ name) table
+IsPlaceInTable table name (Some at) = (at < length table) × AllByRecursion (λ o. o.name ≢ name) (take at table) × HoldsAt (λ o. o.name ≡ name) table at

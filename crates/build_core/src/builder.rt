@@ -4,8 +4,8 @@ ghost use Rattle.std.specs.Prelude.{◌≡◌, ◌<◌, ◌≤◌, ◌+◌, ℕ,
 ghost use Rattle.std.specs.Arc.{arc_value};
 ghost use Rattle.sequent_core.specs.declared.sequent.Obligation.{Obligation};
 ghost use Rattle.po_rules.specs.Gathering.{table_limit, table_nodes};
-ghost use Rattle.build_core.specs.Projects.{IsSmall};
-ghost use Rattle.build_core.specs.Tables.{AreFaults, AreWarnings, IsTable};
+ghost use Rattle.build_core.specs.Projects.{IsSmallList};
+ghost use Rattle.build_core.specs.Tables.{AreFaultsOf, AreWarningsOf, IsTableOf};
 
 use crate::built::{BuildFault, Built};
 use crate::fault_line::FaultLine;
@@ -25,13 +25,13 @@ pub fn build<L: Ledger>(
     texts: &BTreeMap<Name, Text>,
     steps: &mut Steps<L>,
 ) -> Result<Built, BuildFault>
-    requires small { IsSmall texts.now.entries }
-    ensures table { IfOk result (λ b. IsTable texts.now.entries b.obligations.items) }
-    ensures faults { IfOk result (λ b. AreFaults texts.now.entries b.faults.items) }
-    ensures warnings { IfOk result (λ b. AreWarnings texts.now.entries b.warnings.items) }
+    requires small { IsSmallList texts.now.entries }
+    ensures table { IfOk result (λ b. IsTableOf texts.now.entries b.obligations.items) }
+    ensures faults { IfOk result (λ b. AreFaultsOf texts.now.entries b.faults.items) }
+    ensures warnings { IfOk result (λ b. AreWarningsOf texts.now.entries b.warnings.items) }
     ensures fits { IfOk result (λ b. table_nodes b.obligations.items ≤ table_limit) }
     ensures full { (n : ℕ) → IsErrOf result (BuildFault.TableFull n) →
-        (table : List Obligation) × IsTable texts.now.entries table × (table_limit < n) × (n ≤ table_nodes table) }
+        (table : List Obligation) × IsTableOf texts.now.entries table × (table_limit < n) × (n ≤ table_nodes table) }
     ensures steps { steps.new ≤ steps.old + length texts.now.entries }
 {
     let builder = Builder::new(alloc, texts, steps)?;

@@ -10,8 +10,8 @@ ghost use Rattle.po_rules.specs.Gathering.{table_limit, table_nodes};
 ghost use Rattle.po_rules.specs.Tables.{obligations_of};
 ghost use Rattle.model_core.specs.declared.checked.Checked.{Checked};
 ghost use Rattle.static_check.specs.Settling.{own_name};
-ghost use Rattle.build_core.specs.Tables.{IsTable, IsTooLarge, faults_in, refined_in, warnings_in};
-ghost use Rattle.build_core.specs.Private.{AreJudged, AreMade, AreOwnsOf, AreSteady, IsComponentIn, IsIndex, IsJudged, IsOwn, OwnsOf, PassesAt, Sets, abstraction_in, found, given_at, given_in, keeps_obligations, machine_in, own_list};
+ghost use Rattle.build_core.specs.Tables.{IsTableOf, IsTooLargeOf, faults_in, refined_in, warnings_in};
+ghost use Rattle.build_core.specs.Private.{AreJudged, AreMade, AreOwnsOf, AreSteady, IsComponentIn, IsIndex, IsJudged, IsOwn, OwnsOf, PassesLimitAt, Sets, abstraction_in, found, given_at, given_in, keeps_obligations, machine_in_outcome, own_list};
 
 use crate::before::{Before, has_same_text, is_kept, is_refined_kept};
 use crate::built::BuildFault;
@@ -30,7 +30,7 @@ use std::collections::BTreeMap;
 use std::sync::Arc;
 
 fn machine_in<'a>(outcome: Option<&'a Result<Checked, Fault>>) -> Option<&'a CheckedMachine>
-    ensures { option_copied result ≡ machine_in (option_copied outcome.entry) }
+    ensures { option_copied result ≡ machine_in_outcome (option_copied outcome.entry) }
 {
     match outcome {
         Some(Ok(Checked::Machine(machine))) => Some(machine),
@@ -101,7 +101,7 @@ fn make_own(
     ensures made { IfOk result (λ own. AreMade checked.now (option_copied abstraction.entry) own) }
     ensures fits { IfOk result (λ own. nodes + own.nodes ≤ table_limit) }
     ensures full { (n : ℕ) → IsErrOf result (BuildFault.TableFull n) →
-        PassesAt (obligations_of checked.now (option_copied abstraction.entry)) nodes n }
+        PassesLimitAt (obligations_of checked.now (option_copied abstraction.entry)) nodes n }
 {
     let mut out = Gathered {
         obligations: Vec::new(alloc),
@@ -136,7 +136,7 @@ fn take_or_make(
     ensures made { IfOk result (λ own. AreMade checked.now (option_copied abstraction.entry) own) }
     ensures fits { IfOk result (λ own. nodes + own.nodes ≤ table_limit) }
     ensures full { (n : ℕ) → IsErrOf result (BuildFault.TableFull n) →
-        PassesAt (obligations_of checked.now (option_copied abstraction.entry)) nodes n }
+        PassesLimitAt (obligations_of checked.now (option_copied abstraction.entry)) nodes n }
 {
     match kept {
         Some(own) if own.nodes <= TABLE_LIMIT - nodes => Ok(own.share(alloc)?),
@@ -162,7 +162,7 @@ fn own_of(
     ensures own { IfOk result (λ own. OwnsOf judged.now.components judged.now.progress.outcomes name.now own) }
     ensures fits { IfOk result (λ own. nodes + own.nodes ≤ table_limit) }
     ensures full { (n : ℕ) → IsErrOf result (BuildFault.TableFull n) → (list : List Obligation)
-        × IsOwn judged.now.components judged.now.progress.outcomes name.now list × PassesAt list nodes n }
+        × IsOwn judged.now.components judged.now.progress.outcomes name.now list × PassesLimitAt list nodes n }
 {
     match judged.progress.outcomes.get(name) {
         Some(Ok(checked)) => {
@@ -216,10 +216,10 @@ pub fn collect(
     requires judged { AreJudged texts.now.entries judged.now.components judged.now.progress.outcomes }
     requires index { IsIndex judged.now.components judged.now.index.entries }
     requires steady { AreSteady before.now.outcomes.now judged.now.progress.outcomes judged.now.progress.kept.entries }
-    ensures table { IfOk result (λ out. IsTable texts.now.entries (map arc_value out.obligations.items)) }
+    ensures table { IfOk result (λ out. IsTableOf texts.now.entries (map arc_value out.obligations.items)) }
     ensures fits { IfOk result (λ out. table_nodes (map arc_value out.obligations.items) ≤ table_limit) }
     ensures owns { IfOk result (λ out. AreOwnsOf texts.now.entries out.owns.entries) }
-    ensures full { (n : ℕ) → IsErrOf result (BuildFault.TableFull n) → IsTooLarge texts.now.entries n }
+    ensures full { (n : ℕ) → IsErrOf result (BuildFault.TableFull n) → IsTooLargeOf texts.now.entries n }
 {
     let mut out = Collected {
         owns: BTreeMap::new(alloc),

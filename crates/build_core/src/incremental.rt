@@ -9,9 +9,9 @@ ghost use Rattle.sequent_core.specs.declared.sequent.Obligation.{Obligation};
 ghost use Rattle.model_core.specs.declared.checked.Checked.{Checked};
 ghost use Rattle.po_rules.specs.Gathering.{table_limit, table_nodes};
 ghost use Rattle.build_core.specs.Moved.{HasFewSteps};
-ghost use Rattle.build_core.specs.Private.{AreListed, AreOwnsOf, HasPlaces, IsJudged};
-ghost use Rattle.build_core.specs.Projects.{Checks, IsBuildable};
-ghost use Rattle.build_core.specs.Tables.{AreFaults, AreWarnings, IsOfName, IsPlaceOf, IsTable, IsTooLarge};
+ghost use Rattle.build_core.specs.Private.{AreListed, AreOwnsOf, IndexesTable, IsJudged};
+ghost use Rattle.build_core.specs.Projects.{Checks, IsBuildableList};
+ghost use Rattle.build_core.specs.Tables.{AreFaultsOf, AreWarningsOf, IsOfName, IsPlaceInTable, IsTableOf, IsTooLargeOf};
 
 use crate::before::Before;
 use crate::built::BuildFault;
@@ -89,9 +89,9 @@ impl Builder {
         project: &BTreeMap<Name, Text>,
         steps: &mut Steps<L>,
     ) -> Result<Builder, BuildFault>
-        requires small { IsBuildable project.now.entries }
+        requires small { IsBuildableList project.now.entries }
         ensures built { IfOk result (λ builder. builder ≡ project.now.entries) }
-        ensures full { (n : ℕ) → IsErrOf result (BuildFault.TableFull n) → IsTooLarge project.now.entries n }
+        ensures full { (n : ℕ) → IsErrOf result (BuildFault.TableFull n) → IsTooLargeOf project.now.entries n }
         ensures steps { steps.new ≤ steps.old + length project.now.entries }
     {
         let nothing = Builder::empty(alloc)?;
@@ -108,9 +108,9 @@ impl Builder {
         project: &BTreeMap<Name, Text>,
         steps: &mut Steps<L>,
     ) -> Result<Builder, BuildFault>
-        requires small { IsBuildable project.now.entries }
+        requires small { IsBuildableList project.now.entries }
         ensures built { IfOk result (λ builder. builder ≡ project.now.entries) }
-        ensures full { (n : ℕ) → IsErrOf result (BuildFault.TableFull n) → IsTooLarge project.now.entries n }
+        ensures full { (n : ℕ) → IsErrOf result (BuildFault.TableFull n) → IsTooLargeOf project.now.entries n }
         ensures steps { HasFewSteps self.now project.now.entries steps.old steps.new }
     {
         let before = Before {
@@ -135,7 +135,7 @@ impl Builder {
 
     /// The obligations with the numbers of their hypotheses, in byte order of the components' names.
     pub fn table(&self) -> &[Arc<Numbered>]
-        ensures table { IsTable self.now (map arc_value result.now) }
+        ensures table { IsTableOf self.now (map arc_value result.now) }
         ensures fits { table_nodes (map arc_value result.now) ≤ table_limit }
     {
         self.table.as_slice()
@@ -143,7 +143,7 @@ impl Builder {
 
     /// The obligation of a name.
     pub fn obligation(&self, name: &PoName) -> Option<&Obligation>
-        ensures exact { (table : List Obligation) → IsTable self.now table →
+        ensures exact { (table : List Obligation) → IsTableOf self.now table →
             IsOfName table name.now (option_copied result) }
     {
         match self.places.get(name) {
@@ -154,14 +154,14 @@ impl Builder {
 
     /// The place in the table of the obligation of a name.
     pub fn place(&self, name: &PoName) -> Option<usize>
-        ensures exact { (table : List Obligation) → IsTable self.now table → IsPlaceOf table name.now result }
+        ensures exact { (table : List Obligation) → IsTableOf self.now table → IsPlaceInTable table name.now result }
     {
         self.places.get(name).copied()
     }
 
     /// The first fault of each component that has one, in byte order of the components' names.
     pub fn faults(&self) -> &[FaultLine]
-        ensures faults { AreFaults self.now result.now }
+        ensures faults { AreFaultsOf self.now result.now }
     {
         self.faults.as_slice()
     }
@@ -169,7 +169,7 @@ impl Builder {
     /// Each machine without fault with each event of its abstraction that none of its events refines or extends, in
     /// byte order of the machines' names.
     pub fn warnings(&self) -> &[(Name, Name)]
-        ensures warnings { AreWarnings self.now result.now }
+        ensures warnings { AreWarningsOf self.now result.now }
     {
         self.warnings.as_slice()
     }
@@ -194,13 +194,13 @@ fn build_from<L: Ledger>(
     texts: &BTreeMap<Name, Text>,
     steps: &mut Steps<L>,
 ) -> Result<Builder, BuildFault>
-    requires small { IsBuildable texts.now.entries }
+    requires small { IsBuildableList texts.now.entries }
     requires listed { AreListed before.now.texts.now.entries before.now.components.now before.now.index.now.entries }
     requires before { IsJudged before.now.texts.now.entries before.now.outcomes.now }
     requires owns { AreOwnsOf before.now.texts.now.entries before.now.owns.now.entries }
-    requires placed { HasPlaces (map arc_value before.now.table.now) (arc_value before.now.places.now).entries }
+    requires placed { IndexesTable (map arc_value before.now.table.now) (arc_value before.now.places.now).entries }
     ensures built { IfOk result (λ builder. builder ≡ texts.now.entries) }
-    ensures full { (n : ℕ) → IsErrOf result (BuildFault.TableFull n) → IsTooLarge texts.now.entries n }
+    ensures full { (n : ℕ) → IsErrOf result (BuildFault.TableFull n) → IsTooLargeOf texts.now.entries n }
     ensures steps { HasFewSteps before.now.texts.now.entries texts.now.entries steps.old steps.new }
 {
     let judged = judge(alloc, before, texts, steps)?;

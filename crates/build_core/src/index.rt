@@ -2,7 +2,7 @@
 
 ghost use Rattle.std.specs.Prelude.{◌≡◌, true, IfOk, OnOk};
 ghost use Rattle.std.specs.List.{Contains};
-ghost use Rattle.static_check.specs.Settling.{has, own_name};
+ghost use Rattle.static_check.specs.Settling.{has_component, own_name};
 ghost use Rattle.build_core.specs.Private.{IsIndex, Sets};
 
 use crate::components::Components;
@@ -45,7 +45,7 @@ pub fn component_of<'a>(
     name: &Name,
 ) -> &'a RawComponent
     requires index { IsIndex components.now index.now.entries }
-    requires there { has components.now name.now ≡ true }
+    requires there { has_component components.now name.now ≡ true }
     ensures there { Contains components.now result.now }
     ensures named { own_name result.now ≡ name.now }
 {

@@ -2,7 +2,7 @@
 
 ghost use Rattle.std.specs.Prelude.{◌≡◌, ◌↔◌, ◌<◌, ◌+◌, length, map, take, IfOk, IsTrue, OnOk};
 ghost use Rattle.std.specs.Arc.{arc_value};
-ghost use Rattle.build_core.specs.Private.{HasPlaces, obligation_names};
+ghost use Rattle.build_core.specs.Private.{IndexesTable, obligation_names};
 
 use crate::before::Before;
 use crate::numbered::Numbered;
@@ -19,8 +19,8 @@ fn note_place(
     at: usize,
 ) -> Result<(), OutOfMemory>
     requires within { at < length obligations.now }
-    requires places { HasPlaces (map arc_value (take at obligations.now)) places.old.entries }
-    ensures { OnOk result (HasPlaces (map arc_value (take (at + 1) obligations.now)) places.new.entries) }
+    requires places { IndexesTable (map arc_value (take at obligations.now)) places.old.entries }
+    ensures { OnOk result (IndexesTable (map arc_value (take (at + 1) obligations.now)) places.new.entries) }
 {
     let name = &obligations[at].obligation().name;
     match places.get(name) {
@@ -37,7 +37,7 @@ fn places_of(
     alloc: Global,
     obligations: &[Arc<Numbered>],
 ) -> Result<BTreeMap<PoName, usize>, OutOfMemory>
-    ensures { IfOk result (λ places. HasPlaces (map arc_value obligations.now) places.entries) }
+    ensures { IfOk result (λ places. IndexesTable (map arc_value obligations.now) places.entries) }
 {
     let mut places = BTreeMap::new(alloc);
     for at in 0..obligations.len() {
@@ -68,8 +68,8 @@ pub fn kept_places(
     before: &Before<'_>,
     table: &[Arc<Numbered>],
 ) -> Result<Arc<BTreeMap<PoName, usize>>, OutOfMemory>
-    requires { HasPlaces (map arc_value before.now.table.now) (arc_value before.now.places.now).entries }
-    ensures { IfOk result (λ places. HasPlaces (map arc_value table.now) (arc_value places).entries) }
+    requires { IndexesTable (map arc_value before.now.table.now) (arc_value before.now.places.now).entries }
+    ensures { IfOk result (λ places. IndexesTable (map arc_value table.now) (arc_value places).entries) }
 {
     if same_names(before.table, table) {
         let places = Arc::try_clone(before.places)?;

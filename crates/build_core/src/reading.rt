@@ -6,7 +6,7 @@ ghost use Rattle.std.specs.List.{AllByRecursion, IsDistinct};
 ghost use Rattle.std.specs.Map.{keys_of};
 ghost use Rattle.component_text.specs.Spelled.{IsRead};
 ghost use Rattle.build_core.specs.Projects.{Reading};
-ghost use Rattle.build_core.specs.Private.{Adds, AreListed, AreRead, are_same, found};
+ghost use Rattle.build_core.specs.Private.{Collects, AreListed, AreRead, are_same, found};
 
 use crate::before::Before;
 use crate::components::Components;
@@ -48,7 +48,7 @@ fn add_reading(
     name: &Name,
     reading: Result<RawComponent, Fault>,
 ) -> Result<(), OutOfMemory>
-    ensures { OnOk result (Adds name.now reading readings.old.components readings.old.outcomes
+    ensures { OnOk result (Collects name.now reading readings.old.components readings.old.outcomes
         readings.new.components readings.new.outcomes) }
 {
     match reading {
@@ -107,7 +107,7 @@ fn add_text(
     requires short { length text.now ≤ 65536 }
     requires listed { AreListed before.now.texts.now.entries before.now.components.now before.now.index.now.entries }
     ensures { OnOk result ((reading : Reading) × IsRead name.now text.now reading
-        × Adds name.now reading readings.old.components readings.old.outcomes
+        × Collects name.now reading readings.old.components readings.old.outcomes
         readings.new.components readings.new.outcomes) }
 {
     let kept = kept_component(before, name, text)?;

@@ -1,6 +1,6 @@
 //! Projects, cut into components and built.
 ghost use Rattle.std.specs.Prelude.{◌≡◌, ◌<◌, IfSome};
-ghost use Rattle.build_core.specs.Projects.{IsBuildable};
+ghost use Rattle.build_core.specs.Projects.{IsBuildableList};
 
 use crate::rebuilt::add_rebuilt;
 use crate::sequents::add_sequent;
@@ -32,7 +32,7 @@ pub fn answer(alloc: Global, title: &str, text: &str, out: &mut String) -> Optio
 
 // Builds from nothing, with a counter of steps that nobody reads.
 fn built<L: Ledger>(alloc: Global, texts: &BTreeMap<Name, Text>, blank: Blank) -> Option<Builder>
-    requires small { IsBuildable texts.now.entries }
+    requires small { IsBuildableList texts.now.entries }
     requires name { blank.name ≡ L.name }
     requires parts { blank.parts ≡ L.parts }
     requires some { 0 < blank.parts }

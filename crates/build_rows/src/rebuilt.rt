@@ -1,6 +1,6 @@
 //! Projects that are built again after an edit.
 ghost use Rattle.std.specs.Prelude.{◌≡◌, ◌<◌};
-ghost use Rattle.build_core.specs.Projects.{IsBuildable};
+ghost use Rattle.build_core.specs.Projects.{IsBuildableList};
 
 use crate::texts::{are_buildable, texts_of};
 use build_core::{Builder, FaultLine, Numbered};
@@ -51,8 +51,8 @@ fn add_often(
     behind: &BTreeMap<Name, Text>,
     out: &mut String,
 ) -> Option<()>
-    requires before { IsBuildable before.now.entries }
-    requires behind { IsBuildable behind.now.entries }
+    requires before { IsBuildableList before.now.entries }
+    requires behind { IsBuildableList behind.now.entries }
 {
     rebuild_often::<Brand>(alloc, before, behind, Blank::new(1), out)
 }
@@ -63,8 +63,8 @@ fn add_once(
     behind: &BTreeMap<Name, Text>,
     out: &mut String,
 ) -> Option<()>
-    requires before { IsBuildable before.now.entries }
-    requires behind { IsBuildable behind.now.entries }
+    requires before { IsBuildableList before.now.entries }
+    requires behind { IsBuildableList behind.now.entries }
 {
     rebuild::<Brand>(alloc, before, behind, Blank::new(1), out)
 }
@@ -76,8 +76,8 @@ fn rebuild<L: Ledger>(
     blank: Blank,
     out: &mut String,
 ) -> Option<()>
-    requires before { IsBuildable before.now.entries }
-    requires behind { IsBuildable behind.now.entries }
+    requires before { IsBuildableList before.now.entries }
+    requires behind { IsBuildableList behind.now.entries }
     requires name { blank.name ≡ L.name }
     requires parts { blank.parts ≡ L.parts }
     requires some { 0 < blank.parts }
@@ -110,8 +110,8 @@ fn rebuild_often<L: Ledger>(
     blank: Blank,
     out: &mut String,
 ) -> Option<()>
-    requires before { IsBuildable before.now.entries }
-    requires behind { IsBuildable behind.now.entries }
+    requires before { IsBuildableList before.now.entries }
+    requires behind { IsBuildableList behind.now.entries }
     requires name { blank.name ≡ L.name }
     requires parts { blank.parts ≡ L.parts }
     requires some { 0 < blank.parts }

@@ -1,6 +1,6 @@
 //! The texts of a project, by the names of its components.
 ghost use Rattle.std.specs.Prelude.{IsTrue};
-ghost use Rattle.build_core.specs.Projects.{IsBuildable};
+ghost use Rattle.build_core.specs.Projects.{IsBuildableList};
 
 use check_input::{InputError, parts_of};
 use formula_core::{Name, Text};
@@ -33,7 +33,7 @@ pub fn texts_of(alloc: Global, text: &str) -> Option<Option<BTreeMap<Name, Text>
 
 /// Whether a builder takes the texts.
 pub fn are_buildable(texts: &BTreeMap<Name, Text>) -> bool
-    ensures { IsTrue result → IsBuildable texts.now.entries }
+    ensures { IsTrue result → IsBuildableList texts.now.entries }
 {
     if texts.len() > MOST {
         return false;

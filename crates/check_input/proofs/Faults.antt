@@ -4,7 +4,7 @@ use Rattle.model_core.specs.Each.{is_among}
 use Rattle.check_input.specs.declared.input.InputFault.{InputFault}
 use Rattle.check_input.specs.declared.input.InputFault.TheVariants as fault
 use Rattle.check_input.specs.Inputs.{Component, Numbered, first_fault, without_lines, without_fault}
-use Rattle.check_input.specs.PrivateParts.{names_of, fault_here, checked}
+use Rattle.check_input.specs.PrivateParts.{component_names, fault_here, validated}
 use Rattle.check_input.proofs.Sets.{map-push}
 
 abbrev among : Bool → Bool → Bool → InputFault → InputFault → InputFault → Option InputFault → Option InputFault
@@ -35,17 +35,17 @@ module _ (before : List (List ℕ)) (p : Numbered) (parts : List Numbered) where
 
 -- these stand before the rest of all components, and none of them is a fault
 pub record AreBefore (all : List Numbered) (parts : List Component) (rest : List Numbered) : Type 0 where
-  pub fault_of_all : first_fault [] all ≡ first_fault (names_of parts) rest
+  pub fault_of_all : first_fault [] all ≡ first_fault (component_names parts) rest
   pub all_parts : without_lines all ≡ parts ++ without_lines rest
 
 module _ (all : List Numbered) (parts : List Component) (rest : List Numbered) (h : AreBefore all parts rest) where
-  pub one_added : (p : Numbered) (behind : List Numbered) (more : List Component) → p ∷ behind ≡ rest → fault_here (names_of parts) p ≡ None → more ≡ parts ++ p.1 ∷ [] → AreBefore all more behind
+  pub one_added : (p : Numbered) (behind : List Numbered) (more : List Component) → p ∷ behind ≡ rest → fault_here (component_names parts) p ≡ None → more ≡ parts ++ p.1 ∷ [] → AreBefore all more behind
   one_added p behind more first right added = record {
-    fault_of_all = h.fault_of_all ∙ (ap (first_fault (names_of parts)) (sym first) ∙ (later_fault (names_of parts) p behind right
-        ∙ ap (λ xs. first_fault xs behind) (sym (ap names_of added ∙ map-push (λ (q : Component). q.0) parts p.1))));
+    fault_of_all = h.fault_of_all ∙ (ap (first_fault (component_names parts)) (sym first) ∙ (later_fault (component_names parts) p behind right
+        ∙ ap (λ xs. first_fault xs behind) (sym (ap component_names added ∙ map-push (λ (q : Component). q.0) parts p.1))));
     all_parts = h.all_parts ∙ (ap (λ ps. parts ++ without_lines ps) (sym first) ∙ (sym (append_assoc parts (p.1 ∷ []) (without_lines behind)) ∙ ap (λ xs. xs ++ without_lines behind) (sym added)));
   }
 
-  pub fault_found : (p : Numbered) (behind : List Numbered) (f : InputFault) → p ∷ behind ≡ rest → fault_here (names_of parts) p ≡ Some f → checked all ≡ Err f
+  pub fault_found : (p : Numbered) (behind : List Numbered) (f : InputFault) → p ∷ behind ≡ rest → fault_here (component_names parts) p ≡ Some f → validated all ≡ Err f
   fault_found p behind f first wrong =
-      ap (without_fault all) (h.fault_of_all ∙ (ap (first_fault (names_of parts)) (sym first) ∙ fault_now (names_of parts) p behind f wrong))
+      ap (without_fault all) (h.fault_of_all ∙ (ap (first_fault (component_names parts)) (sym first) ∙ fault_now (component_names parts) p behind f wrong))

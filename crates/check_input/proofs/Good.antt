@@ -7,7 +7,7 @@ use Rattle.model_core.specs.Each.{is_among}
 use Rattle.check_input.specs.declared.input.InputFault.{InputFault}
 use Rattle.check_input.specs.declared.input.InputFault.TheVariants as fault
 use Rattle.check_input.specs.Headings.{heading_of, is_blank_text}
-use Rattle.check_input.specs.Inputs.{Component, Numbered, whole_lines, line_feeds, headed, numbered, after_front, without_lines, first_fault, without_fault, made_of, parts_in, IsInput}
+use Rattle.check_input.specs.Inputs.{Component, Numbered, whole_lines, line_feeds, headed, numbered, after_front, without_lines, first_fault, without_fault, made_of, input_parts, IsInput}
 use Rattle.check_input.specs.Laws.{AreGoodFrom, PartsAreGood}
 use Rattle.check_input.proofs.HeadingLines.{heading_is_identifier}
 
@@ -34,7 +34,7 @@ front_named : (front : List ℕ) (ns : List Numbered) → AreNamed ns → AreNam
 front_named front [] h = tt
 front_named front (n ∷ ns) h = h
 
-named : (bytes : List ℕ) → AreNamed (parts_in bytes)
+named : (bytes : List ℕ) → AreNamed (input_parts bytes)
 named bytes =
     let h = headed (whole_lines bytes) in
     front_named h.front (numbered (1 + line_feeds h.front) h.parts) (numbered_named (1 + line_feeds h.front) h.parts (headed_named (whole_lines bytes)))
@@ -66,9 +66,9 @@ made (n ∷ ns) found names h =
     let o = no_fault (n ∷ ns) (first_fault [] (n ∷ ns)) found h in
     subst (AreGoodFrom 0) o.1 (good [] (n ∷ ns) names o.0)
 
-chosen : (blank : Bool) (bytes : List ℕ) (found : List Component) → Ok found ≡ cond blank (Ok []) (made_of (parts_in bytes)) → AreGoodFrom 0 found
+chosen : (blank : Bool) (bytes : List ℕ) (found : List Component) → Ok found ≡ cond blank (Ok []) (made_of (input_parts bytes)) → AreGoodFrom 0 found
 chosen true bytes found h = let none : [] ≡ found = cc in subst (AreGoodFrom 0) none tt
-chosen false bytes found h = made (parts_in bytes) found (named bytes) (sym h)
+chosen false bytes found h = made (input_parts bytes) found (named bytes) (sym h)
 
 pub parts_are_good : PartsAreGood
 parts_are_good bytes parts h = elim h [

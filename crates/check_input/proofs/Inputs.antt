@@ -6,12 +6,12 @@ use Rattle.std.proofs.lemmas.Str.{IsUtf8-from_is_utf8, is_utf8-from_IsUtf8}
 use Rattle.check_input.specs.declared.input.InputFault.{InputFault}
 use Rattle.check_input.specs.declared.input.InputFault.TheVariants as fault
 use Rattle.check_input.specs.Headings.{is_blank_text}
-use Rattle.check_input.specs.Inputs.{Component, Numbered, first_fault, without_fault, made_of, parts_in, IsInput}
+use Rattle.check_input.specs.Inputs.{Component, Numbered, first_fault, without_fault, made_of, input_parts, IsInput}
 use Rattle.check_input.specs.Laws.{HasOneInput}
-use Rattle.check_input.specs.PrivateParts.{checked, outcome}
+use Rattle.check_input.specs.PrivateParts.{validated, outcome}
 
 -- ---- what a text is that isn't blank
-some_parts : (parts : List Numbered) (found : List Component) → (length found ≡ 0 → ⊥) → checked parts ≡ Ok found → made_of parts ≡ Ok found
+some_parts : (parts : List Numbered) (found : List Component) → (length found ≡ 0 → ⊥) → validated parts ≡ Ok found → made_of parts ≡ Ok found
 some_parts [] [] some h = absurd (some refl)
 some_parts [] (p ∷ found) some h = cc
 some_parts (q ∷ parts) found some h = h
@@ -20,27 +20,27 @@ no_such_parts : (parts : List Numbered) (o : Option InputFault) (q : Numbered) �
 no_such_parts parts None q h = cc
 no_such_parts parts (Some f) q h = cc
 
-no_parts : (parts : List Numbered) (found : List Component) → length found ≡ 0 → checked parts ≡ Ok found → made_of parts ≡ Err fault.NoHeading
+no_parts : (parts : List Numbered) (found : List Component) → length found ≡ 0 → validated parts ≡ Ok found → made_of parts ≡ Err fault.NoHeading
 no_parts [] found none h = refl
 no_parts (q ∷ parts) [] none h = absurd (no_such_parts parts (first_fault [] (q ∷ parts)) q h)
 no_parts (q ∷ parts) (p ∷ found) none h = absurd (omega arith)
 
-a_fault : (parts : List Numbered) (f : InputFault) → checked parts ≡ Err f → made_of parts ≡ Err f
+a_fault : (parts : List Numbered) (f : InputFault) → validated parts ≡ Err f → made_of parts ≡ Err f
 a_fault [] f h = cc
 a_fault (q ∷ parts) f h = h
 
 module _ (text : List ℕ) (written : is_blank_text text ≡ false) where
-  as_parts : outcome text ≡ made_of (parts_in text)
-  as_parts = ap (λ b. cond b (Ok []) (made_of (parts_in text))) written
+  as_parts : outcome text ≡ made_of (input_parts text)
+  as_parts = ap (λ b. cond b (Ok []) (made_of (input_parts text))) written
 
-  pub some_outcome : (found : List Component) (n : ℕ) → n ≡ length found → false ≡ (n == 0) → checked (parts_in text) ≡ Ok found → outcome text ≡ Ok found
-  some_outcome found n is some h = as_parts ∙ some_parts (parts_in text) found (λ none. grind (arith, nat_tests)) h
+  pub some_outcome : (found : List Component) (n : ℕ) → n ≡ length found → false ≡ (n == 0) → validated (input_parts text) ≡ Ok found → outcome text ≡ Ok found
+  some_outcome found n is some h = as_parts ∙ some_parts (input_parts text) found (λ none. grind (arith, nat_tests)) h
 
-  pub no_heading : (found : List Component) (n : ℕ) → n ≡ length found → true ≡ (n == 0) → checked (parts_in text) ≡ Ok found → outcome text ≡ Err fault.NoHeading
-  no_heading found n is none h = as_parts ∙ no_parts (parts_in text) found (grind (arith, nat_tests)) h
+  pub no_heading : (found : List Component) (n : ℕ) → n ≡ length found → true ≡ (n == 0) → validated (input_parts text) ≡ Ok found → outcome text ≡ Err fault.NoHeading
+  no_heading found n is none h = as_parts ∙ no_parts (input_parts text) found (grind (arith, nat_tests)) h
 
-  pub outcome_fault : (f : InputFault) → checked (parts_in text) ≡ Err f → outcome text ≡ Err f
-  outcome_fault f h = as_parts ∙ a_fault (parts_in text) f h
+  pub outcome_fault : (f : InputFault) → validated (input_parts text) ≡ Err f → outcome text ≡ Err f
+  outcome_fault f h = as_parts ∙ a_fault (input_parts text) f h
 
 -- ---- bytes are one input
 one_of : (bytes : List ℕ) (b : Bool) → is_utf8 bytes ≡ b → (input : Result (List Component) InputFault) × IsInput bytes input

@@ -8,7 +8,7 @@ use Rattle.std.proofs.lemmas.Cmp.{nat_list_eq_equiv}
 use Rattle.std.proofs.lemmas.Map.Text.{is_eq-slice_cmp}
 use Rattle.model_core.specs.Each.{is_among}
 use Rattle.check_input.specs.Inputs.{Component}
-use Rattle.check_input.specs.PrivateParts.{has, AreNames, names_of}
+use Rattle.check_input.specs.PrivateParts.{has, AreNames, component_names}
 
 at_more : (key : Bor (List ℕ)) (s n : BTreeSet (Bor (List ℕ))) → Updates (λ x y. slice_cmp nat_cmp x.now y.now) s n key true → (text : List ℕ) →
     has n text ≡ cond (bytes_eq key.now text) true (has s text)
@@ -37,4 +37,4 @@ pub one_more : (key : Bor (List ℕ)) (s n : BTreeSet (Bor (List ℕ))) → Upda
 one_more key s n u parts text h name =
     at_more key s n u name
     ∙ (ap (λ b. cond (bytes_eq key.now name) true b) (h name)
-    ∙ (sym (among_more (names_of parts) key.now name) ∙ ap (λ xs. is_among xs name) (sym (map-push (λ (p : Component). p.0) parts (key.now, text)))))
+    ∙ (sym (among_more (component_names parts) key.now name) ∙ ap (λ xs. is_among xs name) (sym (map-push (λ (p : Component). p.0) parts (key.now, text)))))

@@ -3,7 +3,7 @@ use Rattle.std.proofs.Common.{◌≡◌, ◌∙◌, ap, refl, sym, ℕ, Bool, tr
 use Rattle.std.proofs.lemmas.List.{append_assoc}
 use Rattle.check_input.specs.declared.input.InputFault.{InputFault}
 use Rattle.check_input.specs.Headings.{heading_of, is_blank_text}
-use Rattle.check_input.specs.Inputs.{Component, Numbered, in_first_line, whole_lines, line_feeds, headed, numbered, after_front, without_lines, first_fault, without_fault, made_of, parts_in, IsInput}
+use Rattle.check_input.specs.Inputs.{Component, Numbered, in_first_line, whole_lines, line_feeds, headed, numbered, after_front, without_lines, first_fault, without_fault, made_of, input_parts, IsInput}
 use Rattle.check_input.specs.Laws.{texts_of, PartsMakeTheInput}
 
 -- ---- lines
@@ -44,7 +44,7 @@ in_front : (front : List ℕ) (parts : List Numbered) (q : Numbered) (rest : Lis
 in_front front [] q rest h = cc
 in_front front (p ∷ parts) q rest h = append_assoc front p.1.1 (texts_of (without_lines parts))
 
-whole : (bytes : List ℕ) (q : Numbered) (rest : List Numbered) → parts_in bytes ≡ q ∷ rest → texts_of (without_lines (parts_in bytes)) ≡ bytes
+whole : (bytes : List ℕ) (q : Numbered) (rest : List Numbered) → input_parts bytes ≡ q ∷ rest → texts_of (without_lines (input_parts bytes)) ≡ bytes
 whole bytes q rest h =
     let front = (headed (whole_lines bytes)).front in
     let parts = (headed (whole_lines bytes)).parts in
@@ -58,7 +58,7 @@ no_fault : (parts : List Numbered) (o : Option InputFault) (found : List Compone
 no_fault parts None found h = cc
 no_fault parts (Some f) found h = cc
 
-made : (bytes : List ℕ) (ns : List Numbered) (found : List Component) → parts_in bytes ≡ ns → made_of ns ≡ Ok found → texts_of found ≡ bytes
+made : (bytes : List ℕ) (ns : List Numbered) (found : List Component) → input_parts bytes ≡ ns → made_of ns ≡ Ok found → texts_of found ≡ bytes
 made bytes [] found e h = cc
 made bytes (q ∷ rest) found e h =
     let same : without_lines (q ∷ rest) ≡ found = no_fault (q ∷ rest) (first_fault [] (q ∷ rest)) found h in
@@ -68,6 +68,6 @@ pub parts_make_the_input : PartsMakeTheInput
 parts_make_the_input bytes parts written h = elim h [
   | inl bad ↦ cc
   | inr fine ↦
-      let made_so : Ok parts ≡ made_of (parts_in bytes) = fine.1 ∙ ap (λ b. cond b (Ok []) (made_of (parts_in bytes))) written in
-      made bytes (parts_in bytes) parts refl (sym made_so)
+      let made_so : Ok parts ≡ made_of (input_parts bytes) = fine.1 ∙ ap (λ b. cond b (Ok []) (made_of (input_parts bytes))) written in
+      made bytes (input_parts bytes) parts refl (sym made_so)
 ]

@@ -55,8 +55,8 @@ numbered_parts h = after_front h.front (numbered (1 + line_feeds h.front) h.part
 
 -- The components of a text with the lines of their headings, counted from 1. The first begins at the text's start, each
 -- other one with its heading line.
-abbrev pub parts_in : List ℕ → List Numbered
-parts_in bytes = numbered_parts (headed (whole_lines bytes))
+abbrev pub input_parts : List ℕ → List Numbered
+input_parts bytes = numbered_parts (headed (whole_lines bytes))
 
 -- The first of these that has the name of an earlier one, is one more than 256, or has a text of more than 65,536 bytes,
 -- where `before` are the names before.
@@ -85,4 +85,4 @@ made_of (p ∷ parts) = without_fault (p ∷ parts) (first_fault [] (p ∷ parts
 abbrev pub IsInput : List ℕ → Result (List Component) InputFault → Type 0
 IsInput bytes input =
     ((IsUtf8 bytes → ⊥) × (input ≡ Err fault.NotUtf8))
-    ⊎ (IsUtf8 bytes × (input ≡ (if is_blank_text bytes then Ok [] else made_of (parts_in bytes))))
+    ⊎ (IsUtf8 bytes × (input ≡ (if is_blank_text bytes then Ok [] else made_of (input_parts bytes))))

@@ -11,21 +11,21 @@ use Rattle.check_input.specs.declared.input.InputFault.TheVariants as fault
 use Rattle.check_input.specs.declared.cutting.Piece.{Piece}
 use Rattle.check_input.specs.Headings.{is_blank_text}
 use Rattle.check_input.specs.PrivateCutting.{numbered_of}
-use Rattle.check_input.specs.Inputs.{Component, Numbered, parts_in, first_fault, without_fault, made_of}
+use Rattle.check_input.specs.Inputs.{Component, Numbered, input_parts, first_fault, without_fault, made_of}
 
 -- whether the set has the text
 abbrev pub has : BTreeSet (Bor (List ℕ)) → List ℕ → Bool
 has set text = sorted.contains_by (λ k. slice_cmp nat_cmp text k.now) set
 
-abbrev pub names_of : List Component → List (List ℕ)
-names_of parts = map (λ p. p.0) parts
+abbrev pub component_names : List Component → List (List ℕ)
+component_names parts = map (λ p. p.0) parts
 
 -- the set has the names of these components
 abbrev pub AreNames : BTreeSet (Bor (List ℕ)) → List Component → Type 0
-AreNames set parts = (name : List ℕ) → has set name ≡ is_among (names_of parts) name
+AreNames set parts = (name : List ℕ) → has set name ≡ is_among (component_names parts) name
 
-abbrev pub component_of : Piece → Component
-component_of p = (p.name.now, p.text.now)
+abbrev pub component_of_piece : Piece → Component
+component_of_piece p = (p.name.now, p.text.now)
 
 -- what is wrong with a component behind so many others, of which these are the names
 abbrev pub fault_among : (List ℕ → Bool) → ℕ → Numbered → Option InputFault
@@ -40,12 +40,12 @@ fault_here before p = fault_among (is_among before) (length before) p
 
 -- what is wrong with a component behind these
 abbrev pub fault_behind : List Component → Piece → Option InputFault
-fault_behind parts p = fault_here (names_of parts) (numbered_of p)
+fault_behind parts p = fault_here (component_names parts) (numbered_of p)
 
 -- the components, or the first fault
-abbrev pub checked : List Numbered → Result (List Component) InputFault
-checked parts = without_fault parts (first_fault [] parts)
+abbrev pub validated : List Numbered → Result (List Component) InputFault
+validated parts = without_fault parts (first_fault [] parts)
 
 -- what a text is as an input
 abbrev pub outcome : List ℕ → Result (List Component) InputFault
-outcome text = if is_blank_text text then Ok [] else made_of (parts_in text)
+outcome text = if is_blank_text text then Ok [] else made_of (input_parts text)

@@ -2,9 +2,9 @@
 ghost use Rattle.std.specs.Prelude.{◌≡◌, ◌≤◌, ◌++◌, ◌∷◌, [], Ok, Err, Some, None, IfOk, OnOk, IsErrOf, length, true};
 ghost use Rattle.formula_core.specs.Names.{is_identifier};
 ghost use Rattle.check_input.specs.declared.input.InputFault.{InputFault};
-ghost use Rattle.check_input.specs.Inputs.{IsInput, parts_in};
+ghost use Rattle.check_input.specs.Inputs.{IsInput, input_parts};
 ghost use Rattle.check_input.specs.PrivateCutting.{numbered_of};
-ghost use Rattle.check_input.specs.PrivateParts.{has, AreNames, fault_among, fault_behind, component_of, checked, outcome};
+ghost use Rattle.check_input.specs.PrivateParts.{has, AreNames, fault_among, fault_behind, component_of_piece, validated, outcome};
 
 use crate::cutting::{Piece, Rest, next_piece};
 use crate::headings::is_blank_text;
@@ -50,8 +50,8 @@ fn parts_of_text(alloc: Global, text: &str) -> Result<Vec<(Name, Text)>, InputEr
 /// The components that the heading lines of a text begin.
 fn cut_parts(alloc: Global, text: &str) -> Result<Vec<(Name, Text)>, InputError>
     requires small { length text.now ≤ 67108864 }
-    ensures parts { IfOk result (λ parts. checked (parts_in text.now) ≡ Ok parts.items) }
-    ensures fault { (f : InputFault) → IsErrOf result (InputError.Fault f) → checked (parts_in text.now) ≡ Err f }
+    ensures parts { IfOk result (λ parts. validated (input_parts text.now) ≡ Ok parts.items) }
+    ensures fault { (f : InputFault) → IsErrOf result (InputError.Fault f) → validated (input_parts text.now) ≡ Err f }
 {
     let mut names = BTreeSet::new(alloc);
     let mut parts = Vec::new(alloc);
@@ -73,7 +73,7 @@ fn add<'a>(
     requires seen { AreNames names.old parts.old.items }
     requires name { is_identifier piece.name.now ≡ true }
     ensures seen { OnOk result (AreNames names.new parts.new.items) }
-    ensures added { OnOk result (parts.new.items ≡ parts.old.items ++ component_of piece.entry ∷ []) }
+    ensures added { OnOk result (parts.new.items ≡ parts.old.items ++ component_of_piece piece.entry ∷ []) }
     ensures right { OnOk result (fault_behind parts.old.items piece.entry ≡ None) }
     ensures fault { (f : InputFault) → IsErrOf result (InputError.Fault f)
         → fault_behind parts.old.items piece.entry ≡ Some f }
@@ -111,7 +111,7 @@ fn fault_of(
 
 fn component_of(alloc: Global, piece: Piece<'_>) -> Result<(Name, Text), OutOfMemory>
     requires name { is_identifier piece.name.now ≡ true }
-    ensures { IfOk result (λ component. component ≡ component_of piece.entry) }
+    ensures { IfOk result (λ component. component ≡ component_of_piece piece.entry) }
 {
     let name = name_of(alloc, piece.name)?;
     let text = Text::of(alloc, piece.text)?;

@@ -1,6 +1,6 @@
 //! Projects, cut into components, and what comes of each component.
 ghost use Rattle.std.specs.Prelude.{◌≡◌, ◌<◌, IsTrue};
-ghost use Rattle.build_core.specs.Projects.{IsBuildable};
+ghost use Rattle.build_core.specs.Projects.{IsBuildableList};
 
 use crate::texts::add_fault;
 use build_core::Builder;
@@ -44,7 +44,7 @@ fn add_parts(alloc: Global, parts: Vec<(Name, Text)>, out: &mut String) -> Optio
 
 // Whether a builder takes the texts.
 fn are_buildable(texts: &BTreeMap<Name, Text>) -> bool
-    ensures { IsTrue result → IsBuildable texts.now.entries }
+    ensures { IsTrue result → IsBuildableList texts.now.entries }
 {
     if texts.len() > MOST {
         return false;
@@ -59,7 +59,7 @@ fn are_buildable(texts: &BTreeMap<Name, Text>) -> bool
 
 // Builds from nothing, with a counter of steps that nobody reads.
 fn built<L: Ledger>(alloc: Global, texts: &BTreeMap<Name, Text>, blank: Blank) -> Option<Builder>
-    requires small { IsBuildable texts.now.entries }
+    requires small { IsBuildableList texts.now.entries }
     requires name { blank.name ≡ L.name }
     requires parts { blank.parts ≡ L.parts }
     requires some { 0 < blank.parts }

@@ -38,8 +38,8 @@ context_declarations name extends declared axioms parents =
 abbrev pub context_env : List Ref → Visible → Entries
 context_env sets v = entries v.constants ++ map carrier_set sets
 
-abbrev pub context_of : List ℕ → List Ref → Visible → List Labelled → Entries → CheckedContext
-context_of name declared v axioms env = record {
+abbrev pub checked_context_of : List ℕ → List Ref → Visible → List Labelled → Entries → CheckedContext
+checked_context_of name declared v axioms env = record {
   name = name;
   ancestors = v.contexts;
   env = entries v.constants ++ in_order env (names_of declared);
@@ -58,7 +58,7 @@ abbrev pub ChecksAxioms : List ℕ → List Ref → List Ref → List RawLabelle
 ChecksAxioms name sets constants axioms v outcome =
     (typed : List Labelled) × (faults : List Fault) × (env : Entries)
     × AreTyped name (context_env sets v) (names_of constants) axioms typed faults env
-    × unless (faults ++ never_typed name env constants) (Context (context_of name (sets ++ constants) v typed env)) outcome
+    × unless (faults ++ never_typed name env constants) (Context (checked_context_of name (sets ++ constants) v typed env)) outcome
 
 -- Kinds 10 and 11, or else what the axioms give.
 abbrev pub ChecksContext : List ℕ → List Ref → List Ref → List Ref → List RawLabelled → List CheckedContext → Outcome → Type 0

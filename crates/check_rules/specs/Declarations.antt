@@ -6,7 +6,7 @@ use Rattle.model_core.specs.declared.fault.FaultKind.TheVariants as kind
 use Rattle.model_core.specs.declared.checked.CheckedContext.{CheckedContext}
 use Rattle.model_core.specs.Each.{at_each, is_among}
 use Rattle.model_core.specs.Faults.{fault_at}
-use Rattle.check_rules.specs.Visible.{Visible, identifiers, seen_from, of_context, clashing}
+use Rattle.check_rules.specs.Visible.{Visible, all_visible, seen_from, of_context, clashing}
 
 -- a label and its place
 abbrev pub LabelAt : Type 0
@@ -27,7 +27,7 @@ declared_twice component known refs = at_each (declared_twice_row component know
 -- `NAME is declared twice`: a reference to a context brings a name of another component
 abbrev pub brings_clash_row : List ℕ → Visible → List Part → Part → List Fault
 brings_clash_row component v before x =
-    map (λ n. fault_at component kind.DeclaredTwice x.0.place n.0.0) (clashing (identifiers (seen_from v (map (λ b. b.1) before))) (of_context x.1))
+    map (λ n. fault_at component kind.DeclaredTwice x.0.place n.0.0) (clashing (all_visible (seen_from v (map (λ b. b.1) before))) (of_context x.1))
 
 abbrev pub brings_clash : List ℕ → Visible → List Part → List Fault
 brings_clash component v parts = at_each (brings_clash_row component v) [] parts

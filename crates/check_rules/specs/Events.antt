@@ -41,12 +41,13 @@ abbrev pub refined_at : List CheckedEvent → RawEvent → List RefinedAt
 refined_at m e = filter_map (with_event m) e.refines
 
 -- INITIALISATION refines INITIALISATION also where nothing is written.
-abbrev pub implied : List CheckedEvent → RawEvent → List CheckedEvent
-implied m e = if is_initialisation e && length e.refines == 0 then option_to_list (event_named m initialisation) else []
+abbrev pub implied_events : List CheckedEvent → RawEvent → List CheckedEvent
+implied_events m e =
+    if is_initialisation e && length e.refines == 0 then option_to_list (event_named m initialisation) else []
 
 -- the abstract events that an event refines or extends, of those that are there
 abbrev pub refined : List CheckedEvent → RawEvent → List CheckedEvent
-refined m e = map (λ x. x.1) (refined_at m e) ++ implied m e
+refined m e = map (λ x. x.1) (refined_at m e) ++ implied_events m e
 
 -- the one that it extends, of those that it refines or extends
 abbrev pub extended_of : RawEvent → List CheckedEvent → Option CheckedEvent
@@ -118,8 +119,8 @@ witness_env m e variables env last = with_all (with_all (primed_env env variable
 abbrev pub witnesses_of : List Labelled → List (List ℕ × Formula)
 witnesses_of witnesses = map (λ w. (w.label, w.formula)) (filter (λ w. is_name w.label) witnesses)
 
-abbrev pub event_of : List CheckedEvent → RawEvent → Entries → List Labelled → List Labelled → List LabelledAction → CheckedEvent
-event_of m e env guards witnesses actions = record {
+abbrev pub checked_event_of : List CheckedEvent → RawEvent → Entries → List Labelled → List Labelled → List LabelledAction → CheckedEvent
+checked_event_of m e env guards witnesses actions = record {
   name = e.name.name;
   convergence = e.convergence;
   refines = map (λ a. a.name) (refined m e);
@@ -140,7 +141,7 @@ IsTypedEvent component m variables env e typed faults =
     × AreTyped component (witness_env m e variables env last) [] e.witnesses witnesses witness_faults same
     × (actions : List LabelledAction) × (action_faults : List Fault)
     × AreTypedActions component last e.actions actions action_faults
-    × (typed ≡ event_of m e last guards witnesses actions)
+    × (typed ≡ checked_event_of m e last guards witnesses actions)
     × (faults ≡ guard_faults ++ never_typed component last e.params ++ witness_faults ++ action_faults)
 
 abbrev pub AreTypedEvents : List ℕ → List CheckedEvent → List (List ℕ) → Entries → List RawEvent → List CheckedEvent → List Fault → Type 0

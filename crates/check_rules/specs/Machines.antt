@@ -16,7 +16,7 @@ use Rattle.model_core.specs.declared.checked.CheckedMachine.{CheckedMachine}
 use Rattle.model_core.specs.declared.checked.Labelled.{Labelled}
 use Rattle.model_core.specs.Each.{is_among}
 use Rattle.model_core.specs.Faults.{first_by_place}
-use Rattle.check_rules.specs.Visible.{Visible, nothing, seen_from, of_machine, entries, origins, identifiers, names}
+use Rattle.check_rules.specs.Visible.{Visible, nothing, seen_from, of_machine, entries, origins, all_visible, names}
 use Rattle.check_rules.specs.Declarations.{declared_twice, brings_clash, labelled_twice}
 use Rattle.check_rules.specs.Typed.{Entries, AreTyped, IsTypedVariant, never_typed, in_order}
 use Rattle.check_rules.specs.Contexts.{Outcome, names_of, labels_of, unless}
@@ -64,10 +64,10 @@ all_variables m w = own_names w ++ lost_variables m w
 abbrev pub machine_declarations : Option CheckedMachine → Written → List CheckedContext → List Fault
 machine_declarations m w seen =
     brings_clash w.name.name (abstract_view m) (zip w.sees seen)
-    ++ declared_twice w.name.name (filter (λ n. not (is_among (abstract_variables m) n)) (names (entries (identifiers (seen_from (abstract_view m) seen))))) w.variables
+    ++ declared_twice w.name.name (filter (λ n. not (is_among (abstract_variables m) n)) (names (entries (all_visible (seen_from (abstract_view m) seen))))) w.variables
     ++ labelled_twice w.name.name [] (labels_of w.invariants)
     ++ declared_twice w.name.name [] (map (λ e. e.name) w.events)
-    ++ joined (map (event_declarations w.name.name (abstract_events m) (names (entries (identifiers (seen_from (abstract_view m) seen))) ++ own_names w)) w.events)
+    ++ joined (map (event_declarations w.name.name (abstract_events m) (names (entries (all_visible (seen_from (abstract_view m) seen))) ++ own_names w)) w.events)
 
 -- The environment in which the first invariant is typed. Variables lost earlier aren't in it.
 abbrev pub machine_env : Option CheckedMachine → Visible → Entries
@@ -76,8 +76,8 @@ machine_env m v = entries v.constants ++ filter (λ e. is_among (abstract_variab
 abbrev pub unrefined : Option CheckedMachine → List CheckedEvent → List (List ℕ)
 unrefined m events = filter (λ n. not (is_among (joined (map (λ e. e.refines) events)) n)) (map (λ e. e.name) (abstract_events m))
 
-abbrev pub machine_of : Option CheckedMachine → Written → Visible → Entries → List Labelled → Option Formula → List CheckedEvent → CheckedMachine
-machine_of m w v env invariants variant events = record {
+abbrev pub checked_machine_of : Option CheckedMachine → Written → Visible → Entries → List Labelled → Option Formula → List CheckedEvent → CheckedMachine
+checked_machine_of m w v env invariants variant events = record {
   name = w.name.name;
   abstraction = option_map (λ a. a.name) m;
   env = entries v.constants ++ entries v.variables ++ in_order env (new_variables m w);
@@ -102,7 +102,7 @@ IsTypedMachine m w v typed faults =
     × (variant : Option Formula) × (variant_faults : List Fault) × IsTypedVariant w.name.name env w.variant variant variant_faults
     × (events : List CheckedEvent) × (event_faults : List Fault)
     × AreTypedEvents w.name.name (abstract_events m) (all_variables m w) env w.events events event_faults
-    × (typed ≡ machine_of m w v env invariants variant events)
+    × (typed ≡ checked_machine_of m w v env invariants variant events)
     × (faults ≡ invariant_faults ++ never_typed w.name.name env w.variables ++ variant_faults ++ event_faults)
 
 -- kinds 17 to 19

@@ -55,15 +55,15 @@ abbrev pub has_other_type : Entries → List ℕ × Ty → Bool
 has_other_type earlier p = list_any (λ q. bytes_eq q.0 p.0 && not (same_type q.1 p.1)) earlier
 
 -- Of several refined events: other actions than the first has, a parameter that isn't kept, or one that an earlier event has with another type.
-abbrev pub differs : List (List ℕ) → List RefinedAt → RefinedAt → Bool
-differs kept before x =
+abbrev pub differs_in_merge : List (List ℕ) → List RefinedAt → RefinedAt → Bool
+differs_in_merge kept before x =
     not (same_actions (first_actions before x) (without_labels x.1.actions))
     || not (list_all (is_among kept) (names x.1.params))
     || list_any (has_other_type (joined (map (λ b. b.1.params) before))) x.1.params
 
 -- `merged events differ`, at the reference
 abbrev pub merged_differ_row : List ℕ → List (List ℕ) → List RefinedAt → RefinedAt → List Fault
-merged_differ_row component kept before x = if differs kept before x then fault_at component kind.MergedDiffer x.0.place [] ∷ [] else []
+merged_differ_row component kept before x = if differs_in_merge kept before x then fault_at component kind.MergedDiffer x.0.place [] ∷ [] else []
 
 abbrev pub merged_differ : List ℕ → List CheckedEvent → RawEvent → List Fault
 merged_differ component m e = if nat_le 2 (length e.refines) then at_each (merged_differ_row component (param_names m e)) [] (refined_at m e) else []
@@ -87,8 +87,8 @@ needed_params m e =
     if length e.refines == 1 && not e.extended then filter (λ p. not (is_among (param_names m e) p)) (names (joined (map (λ a. a.params) (refined m e)))) else []
 
 -- the names that want a witness: such parameters, and the primed names of lost variables that the abstract event assigns nondeterministically
-abbrev pub needed : List CheckedEvent → List (List ℕ) → RawEvent → List (List ℕ)
-needed m lost e = needed_params m e ++ map primed (filter (is_among (all_chosen (abstract_actions m e))) lost)
+abbrev pub needed_witnesses : List CheckedEvent → List (List ℕ) → RawEvent → List (List ℕ)
+needed_witnesses m lost e = needed_params m e ++ map primed (filter (is_among (all_chosen (abstract_actions m e))) lost)
 
 -- `bad witness NAME`: missing, at the event's name
 abbrev pub missing_witness_row : List ℕ → ℕ → List (List ℕ) → List (List ℕ) → List ℕ → List Fault
@@ -106,20 +106,20 @@ superfluous_witnesses component wanted witnesses = at_each (superfluous_witness_
 
 abbrev pub bad_witnesses : List ℕ → List CheckedEvent → List (List ℕ) → RawEvent → List Fault
 bad_witnesses component m lost e =
-    missing_witnesses component e.name.place (map (λ w. w.label) e.witnesses) (needed m lost e) ++ superfluous_witnesses component (needed m lost e) e.witnesses
+    missing_witnesses component e.name.place (map (λ w. w.label) e.witnesses) (needed_witnesses m lost e) ++ superfluous_witnesses component (needed_witnesses m lost e) e.witnesses
 
 -- `NAME is lost`: each of these names that is that of a lost variable, at its place
 abbrev pub lost_among : List ℕ → List (List ℕ) → List (List ℕ × ℕ) → List Fault
 lost_among component lost used = map (λ u. fault_at component kind.Lost u.1 u.0) (filter (λ u. is_among lost u.0) used)
 
 -- the names of a written formula that aren't bound, with their places
-abbrev pub names_in : Raw → List (List ℕ × ℕ)
-names_in f = unknowns [] [] [] (core_form f)
+abbrev pub unknowns_in : Raw → List (List ℕ × ℕ)
+unknowns_in f = unknowns [] [] [] (core_form f)
 
 -- `NAME is lost`: in own guards and actions
 abbrev pub lost_in_own : List ℕ → List (List ℕ) → RawEvent → List Fault
 lost_in_own component lost e =
-    joined (map (λ g. lost_among component lost (names_in g.formula)) e.guards)
+    joined (map (λ g. lost_among component lost (unknowns_in g.formula)) e.guards)
     ++ joined (map (λ s. lost_among component lost (unknowns_of [] (core_action s.action))) e.actions)
 
 -- the names in the inherited guards and actions of an event
@@ -134,7 +134,8 @@ abbrev pub lost_in_inherited : List ℕ → List (List ℕ) → BothEvents → L
 lost_in_inherited component lost e = map (fault_at component kind.Lost e.0.name.place) (filter (is_among (inherited_names e.1)) lost)
 
 abbrev pub lost_in_variant : List ℕ → List (List ℕ) → Option RawVariant → List Fault
-lost_in_variant component lost variant = option_map_or (λ v. lost_among component lost (names_in v.formula)) variant []
+lost_in_variant component lost variant =
+    option_map_or (λ v. lost_among component lost (unknowns_in v.formula)) variant []
 
 -- Convergent without variant, unless it has refined events and all of them are convergent.
 abbrev pub lacks_variant : Bool → List CheckedEvent → RawEvent → Bool

@@ -8,36 +8,36 @@ use Rattle.model_core.specs.declared.checked.Labelled.{Labelled}
 use Rattle.model_core.specs.Each.{is_among}
 
 -- a value and the component in which it stands
-abbrev pub Placed : Type 0 → Type 0
-Placed X = X × List ℕ
+abbrev pub WithOrigin : Type 0 → Type 0
+WithOrigin X = X × List ℕ
 
 abbrev pub Identifiers : Type 0
-Identifiers = List (Placed (List ℕ × Ty))
+Identifiers = List (WithOrigin (List ℕ × Ty))
 
 -- `constants` are carrier sets too. `variables` are those of all abstractions, the most abstract machine's first.
 pub record Visible : Type 0 where
   pub contexts : List (List ℕ)
   pub constants : Identifiers
   pub variables : Identifiers
-  pub axioms : List (Placed Labelled)
+  pub axioms : List (WithOrigin Labelled)
 
 abbrev pub nothing : Visible
 nothing = record { contexts = []; constants = []; variables = []; axioms = [] }
 
-abbrev pub identifiers : Visible → Identifiers
-identifiers v = v.constants ++ v.variables
+abbrev pub all_visible : Visible → Identifiers
+all_visible v = v.constants ++ v.variables
 
 abbrev pub entries : Identifiers → List (List ℕ × Ty)
 entries xs = map (λ x. x.0) xs
 
-abbrev pub origins : {X : Type 0} → List (Placed X) → List (List ℕ)
+abbrev pub origins : {X : Type 0} → List (WithOrigin X) → List (List ℕ)
 origins xs = map (λ x. x.1) xs
 
 abbrev pub names : List (List ℕ × Ty) → List (List ℕ)
 names env = map (λ e. e.0) env
 
 -- what stands there, and then what comes from contexts that don't stand there yet
-abbrev pub with_new : {X : Type 0} → List (Placed X) → List (Placed X) → List (Placed X)
+abbrev pub with_new : {X : Type 0} → List (WithOrigin X) → List (WithOrigin X) → List (WithOrigin X)
 with_new old more = old ++ filter (λ x. not (is_among (origins old) x.1)) more
 
 abbrev pub of_context : CheckedContext → Identifiers

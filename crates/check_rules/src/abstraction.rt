@@ -2,7 +2,7 @@
 ghost use Rattle.std.specs.Prelude.{◌≡◌, ◌++◌, ℕ, List, IfOk, OnOk, map};
 ghost use Rattle.std.specs.List.{filter_map};
 ghost use Rattle.std.specs.Option.{option_copied, option_to_list};
-ghost use Rattle.check_rules.specs.Events.{event_named, with_event, refined_at, implied, is_initialisation, refined};
+ghost use Rattle.check_rules.specs.Events.{event_named, with_event, refined_at, implied_events, is_initialisation, refined};
 ghost use Rattle.check_rules.specs.Private.{event_placed};
 
 use formula_core::{Name, OutOfMemory, Ref};
@@ -98,7 +98,7 @@ fn add_implied<'a>(
     found: &mut Vec<&'a CheckedEvent>,
 ) -> Result<(), OutOfMemory>
     ensures { OnOk result (map (λ x. x.now) found.new.items
-        ≡ map (λ x. x.now) found.old.items ++ implied events.now event.now) }
+        ≡ map (λ x. x.now) found.old.items ++ implied_events events.now event.now) }
 {
     if !is_initialisation(event) || !event.refines.items().is_empty() {
         return Ok(());

@@ -13,7 +13,7 @@ use Rattle.formula_core.specs.Names.{is_identifier, is_word, is_in_word, starts_
 use Rattle.formula_core.specs.Typed.{Stands, HasCarriers, IsTypedIn}
 use Rattle.formula_core.specs.Wellness.{type_of}
 use Rattle.formula_core.proofs.TypedIn.{typed_more, predicate_more}
-use Rattle.type_core.specs.Answers.{with_name}
+use Rattle.type_core.specs.Answers.{with_typed_name}
 use Rattle.type_core.proofs.Named.{all_each, later, found_has}
 use Rattle.type_action.specs.Answers.{IsActionTyping}
 use Rattle.type_action.specs.CoreActions.{primed, with_all, target_type, with_target, typed_targets, unknown_targets}
@@ -66,10 +66,10 @@ other_name false env y u x e h = later env ((y, u) ∷ []) x e ∙ missed (bytes
 pub with_all_new : (env xs : Entries) (x : List ℕ) → type_in env x ≡ None → type_in (with_all env xs) x ≡ type_in xs x
 with_all_new env [] x e = e
 with_all_new env (y ∷ ys) x e = elim (here_or (bytes_eq x y.0)) [
-  | inl b ↦ within_with (with_name env y.0 (Some y.1)) ys (x, y.1)
+  | inl b ↦ within_with (with_typed_name env y.0 (Some y.1)) ys (x, y.1)
       (added_name (is_some (type_in env y.0)) env y.0 y.1 x (some_not (type_in env y.0) (ap (type_in env) (sym (same_name x y.0 b)) ∙ e)) e b)
       ∙ sym (met (bytes_eq x y.0) y.1 (type_in ys x) b)
-  | inr b ↦ with_all_new (with_name env y.0 (Some y.1)) ys x (other_name (is_some (type_in env y.0)) env y.0 y.1 x e b)
+  | inr b ↦ with_all_new (with_typed_name env y.0 (Some y.1)) ys x (other_name (is_some (type_in env y.0)) env y.0 y.1 x e b)
       ∙ sym (missed (bytes_eq x y.0) y.1 (type_in ys x) b)
 ]
 

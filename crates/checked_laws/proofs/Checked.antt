@@ -21,14 +21,14 @@ use Rattle.check_rules.specs.Components.{context_in, contexts_in, first_machine_
 use Rattle.check_rules.specs.Declarations.{declared_twice, brings_clash, labelled_twice}
 use Rattle.check_rules.specs.Contexts.{Outcome, labels_of, unless, names_of}
 use Rattle.check_rules.specs.Events.{initialisation, is_initialisation, event_declarations, AreTypedEvents}
-use Rattle.check_rules.specs.Machines.{Written, abstract_variables, abstract_events, abstract_view, own_names, new_variables, lost_variables, all_variables, machine_env, machine_of, machine_declarations, machine_assignments, machine_refinements, ChecksFormulas, ChecksMachine}
-use Rattle.check_rules.specs.Refinements.{no_abstract_events, merged_differ, needed, superfluous_witnesses, bad_witnesses, lost_in_own, lost_in_inherited, lost_in_variant, bad_convergence, bad_variant, refinement_row, missing_witnesses}
+use Rattle.check_rules.specs.Machines.{Written, abstract_variables, abstract_events, abstract_view, own_names, new_variables, lost_variables, all_variables, machine_env, checked_machine_of, machine_declarations, machine_assignments, machine_refinements, ChecksFormulas, ChecksMachine}
+use Rattle.check_rules.specs.Refinements.{no_abstract_events, merged_differ, needed_witnesses, superfluous_witnesses, bad_witnesses, lost_in_own, lost_in_inherited, lost_in_variant, bad_convergence, bad_variant, refinement_row, missing_witnesses}
 use Rattle.check_rules.specs.Typed.{AreTyped, IsTypedVariant, never_typed}
-use Rattle.check_rules.specs.Visible.{identifiers, entries, names, seen_from}
+use Rattle.check_rules.specs.Visible.{all_visible, entries, names, seen_from}
 use Rattle.type_action.specs.Laws.{TypedActionsStand}
 use Rattle.checked_laws.specs.Laws.{DeclareIdentifiers, CheckedIsSound}
-use Rattle.checked_laws.specs.Projects.{ProjectNames, Has, IsOf}
-use Rattle.checked_laws.specs.Sound.{StartsPlainly, IsSound}
+use Rattle.checked_laws.specs.Projects.{ProjectNames, Has, BelongsTo}
+use Rattle.checked_laws.specs.Sound.{StartsPlainly, IsSoundComponent}
 use Rattle.checked_laws.specs.Refining.{IsSoundBeside}
 use Rattle.checked_laws.proofs.Names.{name_turned, neither_first, neither_second, or_left, or_right}
 use Rattle.checked_laws.proofs.Parts.{all_map, all_unmap, all_two, filter_back, first_none, second_none, no_fault}
@@ -41,16 +41,16 @@ use Rattle.checked_laws.proofs.Machines.{IsGoodAbstraction, abstraction_view, ma
 
 -- The parts.
 
-good_context : (project : ProjectNames) (part : Checked) → IsSound part × IsOf project part → IfSome (context_in part) (IsGoodContext project)
+good_context : (project : ProjectNames) (part : Checked) → IsSoundComponent part × BelongsTo project part → IfSome (context_in part) (IsGoodContext project)
 good_context project (Context c) h = h
 good_context project (Machine m) h = tt
 
-good_contexts : (project : ProjectNames) (parts : List Checked) → AllByRecursion (λ part. IsSound part × IsOf project part) parts → AllByRecursion (IsGoodContext project) (contexts_in parts)
+good_contexts : (project : ProjectNames) (parts : List Checked) → AllByRecursion (λ part. IsSoundComponent part × BelongsTo project part) parts → AllByRecursion (IsGoodContext project) (contexts_in parts)
 good_contexts project [] h = tt
 good_contexts project (Context c ∷ parts) h = (h.0, good_contexts project parts h.1)
 good_contexts project (Machine m ∷ parts) h = good_contexts project parts h.1
 
-good_machine : (project : ProjectNames) (parts : List Checked) → AllByRecursion (λ part. IsSound part × IsOf project part) parts → IsGoodAbstraction project (first_machine_in parts)
+good_machine : (project : ProjectNames) (parts : List Checked) → AllByRecursion (λ part. IsSoundComponent part × BelongsTo project part) parts → IsGoodAbstraction project (first_machine_in parts)
 good_machine project [] h = tt
 good_machine project (Context c ∷ parts) h = good_machine project parts h.1
 good_machine project (Machine m ∷ parts) h = (h.0.0, h.0.1.0, h.0.1.1)
@@ -125,8 +125,8 @@ asked component m lost has_variant p e =
     (first_none (unpaired ++ differ ++ bad ++ own ++ inherited) (bad_convergence component m has_variant p.0) e)) in
     record {
       merged = second_none unpaired differ (first_none (unpaired ++ differ) bad none);
-      missing = first_none (missing_witnesses component p.0.name.place (map (λ w. w.label) p.0.witnesses) (needed m lost p.0)) _ (second_none (unpaired ++ differ) bad none);
-      superfluous = second_none _ (superfluous_witnesses component (needed m lost p.0) p.0.witnesses) (second_none (unpaired ++ differ) bad none);
+      missing = first_none (missing_witnesses component p.0.name.place (map (λ w. w.label) p.0.witnesses) (needed_witnesses m lost p.0)) _ (second_none (unpaired ++ differ) bad none);
+      superfluous = second_none _ (superfluous_witnesses component (needed_witnesses m lost p.0) p.0.witnesses) (second_none (unpaired ++ differ) bad none);
     }
 
 keeps_own : (component : List ℕ) (m : List CheckedEvent) (lost : List (List ℕ)) (has_variant : Bool) (p : BothEvents) → refinement_row component m lost has_variant p ≡ []
@@ -142,18 +142,18 @@ keeps_own component m lost has_variant p e =
 
 machine_checked : TypedActionsStand → (project : ProjectNames) (m : Option CheckedMachine) (w : Written) (seen : List CheckedContext) (checked : Checked) → IsGoodAbstraction project m →
     DeclareIdentifiers w.variables → AllByRecursion (λ e. DeclareIdentifiers e.params) w.events → AllByRecursion (λ e. AllByRecursion (λ s. written_targets s.action ≢ []) e.actions) w.events → length seen ≡ length w.sees → AllByRecursion (IsGoodContext project) seen → Has project checked →
-    ChecksMachine m w seen (Ok checked) → IsSound checked × IsSoundBeside m checked × IsOf project checked
+    ChecksMachine m w seen (Ok checked) → IsSoundComponent checked × IsSoundBeside m checked × BelongsTo project checked
 machine_checked stand project m w seen checked good ids params some n contexts has h =
     let name = w.name.name in
     let v = seen_from (abstract_view m) seen in
     let declared = passes (ChecksFormulas m w v (Ok checked)) (first_by_place (machine_declarations m w seen)) checked h in
     let none = no_fault (machine_declarations m w seen) declared.0 in
-    let known = filter (λ x. not (is_among (abstract_variables m) x)) (names (entries (identifiers v))) in
+    let known = filter (λ x. not (is_among (abstract_variables m) x)) (names (entries (all_visible v))) in
     let clashes = brings_clash name (abstract_view m) (zip w.sees seen) in
     let twice = declared_twice name known w.variables in
     let labels = labelled_twice name [] (labels_of w.invariants) in
     let names_twice = declared_twice name [] (map (λ e. e.name) w.events) in
-    let in_events = joined (map (event_declarations name (abstract_events m) (names (entries (identifiers v)) ++ own_names w)) w.events) in
+    let in_events = joined (map (event_declarations name (abstract_events m) (names (entries (all_visible v)) ++ own_names w)) w.events) in
     let clear = second_none (clashes ++ twice ++ labels ++ names_twice) in_events none in
     let none1 = first_none (clashes ++ twice) labels (first_none (clashes ++ twice ++ labels) names_twice (first_none (clashes ++ twice ++ labels ++ names_twice) in_events none)) in
     let clash = first_none clashes twice none1 in
@@ -173,7 +173,7 @@ machine_checked stand project m w seen checked good ids params some n contexts h
     let variant : IsTypedVariant name last w.variant t.4 [] = subst (IsTypedVariant name last w.variant t.4) (second_none (t.1 ++ never) t.5 faults1) t.6 in
     let events : AreTypedEvents name (abstract_events m) (all_variables m w) last w.events t.7 [] =
     subst (AreTypedEvents name (abstract_events m) (all_variables m w) last w.events t.7) (second_none (t.1 ++ never ++ t.5) t.8 faults) t.9 in
-    let mine = machine_of m w v last t.0 t.4 t.7 in
+    let mine = checked_machine_of m w v last t.0 t.4 t.7 in
     let assigned : machine_assignments m w mine ≡ [] = subst (λ c. machine_assignments m w c ≡ []) t.10 (first_none (machine_assignments m w a.0) (machine_refinements m w a.0) (no_fault (machine_assignments m w a.0 ++ machine_refinements m w a.0) out.0)) in
     let pairs = zip w.events t.7 in
     let refinements : machine_refinements m w mine ≡ [] = subst (λ c. machine_refinements m w c ≡ []) t.10 (second_none (machine_assignments m w a.0) (machine_refinements m w a.0)
@@ -220,7 +220,7 @@ machine_checked stand project m w seen checked good ids params some n contexts h
     (first_none (lost_in_variant name (lost_variables m w) w.variant ++ bad_variant name w.variant t.4) (joined (map row pairs)) refinements) in
     let whole = machine_whole project m w v good over.sound (variables_kept (abstract_view m) seen) over.within once (all_map (λ x. IsTrue (is_identifier x)) (λ r. r.name) w.variables ids)
     t.0 last checks all_typed t.4 variant variant_good t.7 stand over.constants params some clear asks events start well event_names has_start in
-    subst (λ k. Has project k → IsSound k × IsSoundBeside m k × IsOf project k) (ap (λ c. Machine c) (sym t.10) ∙ same_checked checked (Machine a.0) out.1) (λ own. (whole.0, whole.1, whole.2 own)) has
+    subst (λ k. Has project k → IsSoundComponent k × IsSoundBeside m k × BelongsTo project k) (ap (λ c. Machine c) (sym t.10) ∙ same_checked checked (Machine a.0) out.1) (λ own. (whole.0, whole.1, whole.2 own)) has
 
 -- Components.
 

@@ -23,13 +23,13 @@ use Rattle.model_core.specs.declared.checked.CheckedMachine.{CheckedMachine}
 use Rattle.model_core.specs.declared.checked.Labelled.{Labelled}
 use Rattle.model_core.specs.Each.{at_each, is_among}
 use Rattle.model_core.specs.Faults.{first_by_place}
-use Rattle.check_rules.specs.Contexts.{Outcome, names_of, labels_of, carrier_set, context_env, context_of, context_declarations, ChecksAxioms, ChecksContext}
+use Rattle.check_rules.specs.Contexts.{Outcome, names_of, labels_of, carrier_set, context_env, checked_context_of, context_declarations, ChecksAxioms, ChecksContext}
 use Rattle.check_rules.specs.Declarations.{Part, brings_clash_row, brings_clash, declared_twice, labelled_twice}
 use Rattle.check_rules.specs.Typed.{Entries, AreTyped, never_typed, in_order}
-use Rattle.check_rules.specs.Visible.{Identifiers, Visible, nothing, identifiers, entries, origins, names, of_context, with_context, seen_from, clashing}
-use Rattle.checked_laws.specs.Projects.{ProjectNames, AreOf, AreConstantsOf, DeclaresIn, Has, IsOf}
+use Rattle.check_rules.specs.Visible.{Identifiers, Visible, nothing, all_visible, entries, origins, names, of_context, with_context, seen_from, clashing}
+use Rattle.checked_laws.specs.Projects.{ProjectNames, AreOf, AreConstantsOf, DeclaresIn, Has, BelongsTo}
 use Rattle.checked_laws.specs.Refining.{IsSoundBeside}
-use Rattle.checked_laws.specs.Sound.{HasIdentifiers, ArePredicatesIn, IsNamedIn, IsSoundContext, IsSound}
+use Rattle.checked_laws.specs.Sound.{HasIdentifiers, ArePredicatesIn, IsNamedIn, IsSoundContext, IsSoundComponent}
 use Rattle.checked_laws.proofs.Names.{AllStand, AreNew, or_right, found_in, distinct_append, new_turned, parts_stand, stand_sooner}
 use Rattle.checked_laws.proofs.Parts.{all_map, all_unmap, all_true, map_append, zip_firsts, map_none, first_none, second_none, no_fault}
 use Rattle.checked_laws.proofs.Typing.{set_over, predicates_within, Stood, typed_stand, last_from, in_order_stand, in_order_keys, reaches}
@@ -85,7 +85,7 @@ view_at project component v before refs [] over clear n good = over
 view_at project component v before [] (c ∷ cs) over clear n good = let no : ⊥ = omega arith in absurd no
 view_at project component v before (r ∷ refs) (c ∷ cs) over clear n good =
     let u = seen_from v (contexts_before before) in
-    let here = map_none _ (clashing (identifiers u) (of_context c)) (first_none (brings_clash_row component v before (r, c)) _ clear) in
+    let here = map_none _ (clashing (all_visible u) (of_context c)) (first_none (brings_clash_row component v before (r, c)) _ clear) in
     let next : IsSoundOver project v (with_context u c) = record {
       sound = seen_sound project u c over.sound good.0.0 good.0.1 here;
       within = λ x e. olds_within project u c over.sound good.0.0 good.0.1 here x (over.within x e);
@@ -169,7 +169,7 @@ module _ (project : ProjectNames) (name : List ℕ) (sets constants : List Ref) 
   own = in_order last declared
 
   abbrev c : CheckedContext
-  c = context_of name (sets ++ constants) v typed last
+  c = checked_context_of name (sets ++ constants) v typed last
 
   old_is : all_entries v ≡ old
   old_is = ap (λ vs. old ++ entries vs) no_variables ∙ append-nil old
@@ -284,7 +284,7 @@ module _ (project : ProjectNames) (name : List ℕ) (sets constants : List Ref) 
 
 pub context_checked : (project : ProjectNames) (name : List ℕ) (extends sets constants : List Ref) (axioms : List RawLabelled) (parents : List CheckedContext) (abstraction : Option CheckedMachine) (checked : Checked) →
     AllByRecursion (λ r. IsTrue (is_identifier r.name)) (sets ++ constants) → length parents ≡ length extends → AllByRecursion (IsGoodContext project) parents → Has project checked →
-    ChecksContext name extends sets constants axioms parents (Ok checked) → IsSound checked × IsSoundBeside abstraction checked × IsOf project checked
+    ChecksContext name extends sets constants axioms parents (Ok checked) → IsSoundComponent checked × IsSoundBeside abstraction checked × BelongsTo project checked
 context_checked project name extends sets constants axioms parents abstraction checked ids n good has h =
     let v = seen_from nothing parents in
     let declared = passes (ChecksAxioms name sets constants axioms (seen_from nothing parents) (ok checked)) (first_by_place (context_declarations name extends (sets ++ constants) axioms parents)) checked h in
@@ -298,14 +298,14 @@ context_checked project name extends sets constants axioms parents abstraction c
     let typed = a.0 in
     let faults = a.1 in
     let last = a.2 in
-    let out = passes (ok checked ≡ ok (Context (context_of name (sets ++ constants) v typed last))) (first_by_place (faults ++ never_typed name last constants)) checked a.4 in
+    let out = passes (ok checked ≡ ok (Context (checked_context_of name (sets ++ constants) v typed last))) (first_by_place (faults ++ never_typed name last constants)) checked a.4 in
     let no_faults = no_fault (faults ++ never_typed name last constants) out.0 in
     let checks : AreTyped name (context_env sets v) (names_of constants) axioms typed [] last =
     subst (λ fs. AreTyped name (context_env sets v) (names_of constants) axioms typed fs last) (first_none faults (never_typed name last constants) no_faults) a.3 in
     let all_typed = second_none faults (never_typed name last constants) no_faults in
     let names_are = all_map (λ n. IsTrue (is_identifier n)) (λ r. r.name) (sets ++ constants) ids in
     let none_varies = variables_kept nothing parents in
-    subst (λ k. Has project k → IsSound k × IsSoundBeside abstraction k × IsOf project k) (same_checked checked (Context (context_of name (sets ++ constants) v typed last)) out.1)
+    subst (λ k. Has project k → IsSoundComponent k × IsSoundBeside abstraction k × BelongsTo project k) (same_checked checked (Context (checked_context_of name (sets ++ constants) v typed last)) out.1)
     (λ own. (
       context_sound project name sets constants axioms v sound none_varies once names_are typed last checks all_typed,
       tt,

@@ -15,7 +15,7 @@ use Rattle.model_core.specs.Each.{at_each, is_among}
 use Rattle.check_rules.specs.Contexts.{names_of}
 use Rattle.check_rules.specs.Declarations.{declared_twice}
 use Rattle.check_rules.specs.Typed.{Entries, never_typed_row, never_typed, in_order}
-use Rattle.check_rules.specs.Visible.{Placed, Identifiers, entries, origins}
+use Rattle.check_rules.specs.Visible.{WithOrigin, Identifiers, entries, origins}
 use Rattle.checked_laws.specs.Projects.{ProjectNames, AreOf, DeclaresIn}
 use Rattle.checked_laws.specs.Sound.{IsNamedIn}
 use Rattle.checked_laws.proofs.Names.{AreNew, same_name, name_turned, name_is, neither_first, neither_second, lacks_back, not_among, distinct_append, new_turned, stand_there, within_all}
@@ -136,7 +136,7 @@ module _ (project : ProjectNames) (component : List ℕ) (old own : Identifiers)
   abbrev all : Identifiers
   all = old ++ own
 
-  abbrev is_here : Placed (List ℕ × Ty) → Bool
+  abbrev is_here : WithOrigin (List ℕ × Ty) → Bool
   is_here x = bytes_eq component x.1
 
   abbrev mine : Entries
@@ -146,7 +146,7 @@ module _ (project : ProjectNames) (component : List ℕ) (old own : Identifiers)
   mine_stand = filter_back is_here (λ x. Stands mine x.0) all
       (all_unmap (Stands mine) (λ x. x.0) (filter is_here all) (stand_there mine (distinct_filter is_here all distinct)))
 
-  own_declared : (x : Placed (List ℕ × Ty)) → x.1 ≡ component → (is_here x ≡ true → Stands mine x.0) → project.declared x.1 x.0.0 ≡ Some x.0.1
+  own_declared : (x : WithOrigin (List ℕ × Ty)) → x.1 ≡ component → (is_here x ≡ true → Stands mine x.0) → project.declared x.1 x.0.0 ≡ Some x.0.1
   own_declared x is stands = ap (λ o. project.declared o x.0.0) is ∙ declares x.0.0 ∙ stands (ap (bytes_eq component) is ∙ name_is component)
 
   all_within : IsWithin mine (entries all)

@@ -22,8 +22,8 @@ use Rattle.model_core.specs.Each.{is_among, for_each}
 use Rattle.check_rules.specs.Assignments.{written_targets}
 use Rattle.check_rules.specs.Contexts.{names_of}
 use Rattle.check_rules.specs.Declarations.{declared_twice, labelled_twice}
-use Rattle.check_rules.specs.Events.{refined_at, refined, inherited, inherited_params, inherited_guards, inherited_actions, abstract_params, inherited_labels, event_labels, param_clashes, event_declarations, event_env, param_names, lost_params, witness_env, witnesses_of, event_of, IsTypedEvent, AreTypedEvents, initialisation, event_named}
-use Rattle.check_rules.specs.Refinements.{merged_differ, needed, superfluous_witnesses, missing_witnesses}
+use Rattle.check_rules.specs.Events.{refined_at, refined, inherited, inherited_params, inherited_guards, inherited_actions, abstract_params, inherited_labels, event_labels, param_clashes, event_declarations, event_env, param_names, lost_params, witness_env, witnesses_of, checked_event_of, IsTypedEvent, AreTypedEvents, initialisation, event_named}
+use Rattle.check_rules.specs.Refinements.{merged_differ, needed_witnesses, superfluous_witnesses, missing_witnesses}
 use Rattle.check_rules.specs.Typed.{Entries, LabelledAction, AreTyped, never_typed, in_order}
 use Rattle.check_rules.specs.Visible.{names}
 use Rattle.type_action.specs.Laws.{IsActionIn, TypedActionsStand}
@@ -271,7 +271,7 @@ module _ (constants env last : Entries) (known : List (List ℕ)) (place : IsPla
       all_append (λ a. IsActionIn target a.1 × HasTargets a.1) (inherited_actions m e) actions (is_inherited.actions target (λ x k. env_target x (above.within x k)) inherits_stand ids)
       (actions_more after target after_target ids actions h)
 
-  pub event_sound : (witnesses : List Labelled) (actions : List LabelledAction) → AreActionsIn after actions → IsSoundEvent constants env (event_of m e after guards witnesses actions)
+  pub event_sound : (witnesses : List Labelled) (actions : List LabelledAction) → AreActionsIn after actions → IsSoundEvent constants env (checked_event_of m e after guards witnesses actions)
   event_sound witnesses actions h = record { good = target_good; sets = params_sets; names = params_identifiers; guards = all_guards; actions = all_actions actions h }
 
   -- Its witnesses.
@@ -387,16 +387,16 @@ module _ (constants env last : Entries) (known : List (List ℕ)) (place : IsPla
 
   pub event_witnessed : (variables lost : List (List ℕ)) (witnesses : List Labelled) (same : Entries) (actions : List LabelledAction) → AllByRecursion (IsNamedIn env) variables →
       ((n : List ℕ) → is_among lost n ≡ true → is_among variables n ≡ true) → merged_differ component m e ≡ [] →
-      missing_witnesses component e.name.place (map (λ w. w.label) e.witnesses) (needed m lost e) ≡ [] → superfluous_witnesses component (needed m lost e) e.witnesses ≡ [] →
+      missing_witnesses component e.name.place (map (λ w. w.label) e.witnesses) (needed_witnesses m lost e) ≡ [] → superfluous_witnesses component (needed_witnesses m lost e) e.witnesses ≡ [] →
       AreTyped component (witness_env m e variables last after) [] e.witnesses witnesses [] same →
-      IsSoundRefinement env variables lost (found_in_events m (map (λ a. a.name) (refined m e))) (event_of m e after guards witnesses actions)
+      IsSoundRefinement env variables lost (found_in_events m (map (λ a. a.name) (refined m e))) (checked_event_of m e after guards witnesses actions)
   event_witnessed variables lost witnesses same actions variables_named has_lost merged missing superfluous typed =
       let all = base ++ map with_prime (filter (λ x. is_among variables x.0) env) in
       let holds : HoldsWitnesses env left base all (witness_env m e variables last after) variables =
       holds_witnesses constants env params left last after variables target_good target_names constants_target (left_distinct merged) left_new left_types left_sets left_names place.within last_among
       place.constants_last after_target after_among in
       let left_named : AllByRecursion (IsNamedIn all) (keys_of left) = all_map (IsNamedIn all) (λ x. x.0) left (all_each (Stands all) (λ x. IsNamedIn all x.0) left (λ x h. (x.1, h)) holds.left_stand) in
-      let wanted_named : (n : List ℕ) → is_among (needed m lost e) n ≡ true → IsNamedIn all n =
+      let wanted_named : (n : List ℕ) → is_among (needed_witnesses m lost e) n ≡ true → IsNamedIn all n =
       λ n h. elim (wanted_is m lost e n h) [
         | inl k ↦ named_among all (keys_of left) n left_named k
         | inr k ↦ let x : IsNamedIn env k.0 = named_among env variables k.0 variables_named (has_lost k.0 k.2) in
@@ -404,10 +404,10 @@ module _ (constants env last : Entries) (known : List (List ℕ)) (place : IsPla
       ] in
       let labels : AllByRecursion (λ l. IsNamedIn all l.label) witnesses =
       labels_typed (IsNamedIn all) component (witness_env m e variables last after) [] e.witnesses witnesses same typed
-      (all_each (λ l. is_among (needed m lost e) l.label ≡ true) (λ l. IsNamedIn all l.label) e.witnesses (λ l h. wanted_named l.label h) (all_wanted component (needed m lost e) e.witnesses superfluous)) in
+      (all_each (λ l. is_among (needed_witnesses m lost e) l.label ≡ true) (λ l. IsNamedIn all l.label) e.witnesses (λ l h. wanted_named l.label h) (all_wanted component (needed_witnesses m lost e) e.witnesses superfluous)) in
       let listed : AllByRecursion (λ l. is_among (keys_of left ++ map primed (filter (is_among (chosen_by_first (refined m e))) lost)) l.label ≡ true) witnesses =
       labels_typed (λ n. is_among (keys_of left ++ map primed (filter (is_among (chosen_by_first (refined m e))) lost)) n ≡ true) component (witness_env m e variables last after) [] e.witnesses witnesses same typed
-      (all_each (λ l. is_among (needed m lost e) l.label ≡ true) _ e.witnesses (λ l h. wanted_listed m lost e l.label h) (all_wanted component (needed m lost e) e.witnesses superfluous)) in
+      (all_each (λ l. is_among (needed_witnesses m lost e) l.label ≡ true) _ e.witnesses (λ l h. wanted_listed m lost e l.label h) (all_wanted component (needed_witnesses m lost e) e.witnesses superfluous)) in
       let start : IfSome (event_named m initialisation) (λ a. a.params ≡ []) =
       if_some_each (λ a. (IsSoundEvent a_constants a_env a × StartsPlainly a) × (bytes_eq initialisation a.name ≡ true)) (λ a. a.params ≡ []) (event_named m initialisation) (λ a h. (h.0.1 h.1).0)
       (event_found (λ a. IsSoundEvent a_constants a_env a × StartsPlainly a) m initialisation above.events) in
@@ -449,8 +449,8 @@ joined_none f (x ∷ xs) e = (first_none (f x) (joined (map f xs)) e, joined_non
 -- what the abstraction asks of witnesses
 pub record AsksWitnesses (component : List ℕ) (m : List CheckedEvent) (lost : List (List ℕ)) (e : RawEvent) : Type 0 where
   pub merged : merged_differ component m e ≡ []
-  pub missing : missing_witnesses component e.name.place (map (λ w. w.label) e.witnesses) (needed m lost e) ≡ []
-  pub superfluous : superfluous_witnesses component (needed m lost e) e.witnesses ≡ []
+  pub missing : missing_witnesses component e.name.place (map (λ w. w.label) e.witnesses) (needed_witnesses m lost e) ≡ []
+  pub superfluous : superfluous_witnesses component (needed_witnesses m lost e) e.witnesses ≡ []
 
 -- An event is sound, and so are its witnesses.
 abbrev pub IsWhole : Entries → Entries → List CheckedEvent → List (List ℕ) → List (List ℕ) → CheckedEvent → Type 0

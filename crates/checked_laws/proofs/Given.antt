@@ -17,7 +17,7 @@ use Rattle.model_core.specs.declared.checked.Labelled.{Labelled}
 use Rattle.model_core.specs.Each.{at_each, is_among}
 use Rattle.check_rules.specs.Contexts.{names_of}
 use Rattle.check_rules.specs.Events.{initialisation, is_initialisation, event_named, with_event, refined, witnesses_of, param_names, abstract_params, lost_params}
-use Rattle.check_rules.specs.Refinements.{needed_params, needed, all_chosen, abstract_actions, merged_differ_row, merged_differ, missing_witness_row, missing_witnesses}
+use Rattle.check_rules.specs.Refinements.{needed_params, needed_witnesses, all_chosen, abstract_actions, merged_differ_row, merged_differ, missing_witness_row, missing_witnesses}
 use Rattle.check_rules.specs.Typed.{Entries, AreTyped}
 use Rattle.check_rules.specs.Visible.{names}
 use Rattle.checked_laws.proofs.Names.{apart, same_name, or_cases, or_left, or_right, among_sooner, among_self}
@@ -129,14 +129,14 @@ lost_by P m e false none h = subst (λ ps. AllByRecursion P (keys_of ps)) (sym (
 -- Each of the names that may have a witness has one, where these names are identifiers without their primes.
 pub all_given : (component : List ℕ) (m : List CheckedEvent) (lost : List (List ℕ)) (e : RawEvent) (witnesses : List Labelled) (env same : Entries) →
     IfSome (event_named m initialisation) (λ a. a.params ≡ []) → merged_differ component m e ≡ [] →
-    missing_witnesses component e.name.place (map (λ w. w.label) e.witnesses) (needed m lost e) ≡ [] → AreTyped component env [] e.witnesses witnesses [] same →
+    missing_witnesses component e.name.place (map (λ w. w.label) e.witnesses) (needed_witnesses m lost e) ≡ [] → AreTyped component env [] e.witnesses witnesses [] same →
     AllByRecursion (λ n. is_identifier n ≡ true) (keys_of (lost_params m e)) → AllByRecursion (λ n. is_identifier n ≡ true) (filter (is_among (all_chosen (abstract_actions m e))) lost) →
     AllByRecursion (λ n. is_among (keys_of (witnesses_of witnesses)) n ≡ true) (keys_of (lost_params m e) ++ map primed (filter (is_among (all_chosen (abstract_actions m e))) lost))
 all_given component m lost e witnesses env same start merged missing typed params_are lost_are =
     let labels = map (λ w. w.label) e.witnesses in
     let primes = map primed (filter (is_among (all_chosen (abstract_actions m e))) lost) in
     let P : List ℕ → Type 0 = λ n. is_among (keys_of (witnesses_of witnesses)) n ≡ true in
-    let all = missing_at component e.name.place labels [] (needed m lost e) missing in
+    let all = missing_at component e.name.place labels [] (needed_witnesses m lost e) missing in
     let given : (n : List ℕ) → is_among labels n ≡ true → is_name n ≡ true → P n =
     λ n h i. label_given witnesses n i (subst (λ ns. is_among ns n ≡ true) (sym (labels_same component env [] e.witnesses witnesses same typed)) h) in
     let none_lost : (length e.refines == 1 && not e.extended) ≡ false → lost_params m e ≡ [] =

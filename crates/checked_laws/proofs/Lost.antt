@@ -13,8 +13,8 @@ use Rattle.type_core.proofs.Named.{all_append, all_each, sooner, later, all_fron
 use Rattle.model_core.specs.declared.component.RawEvent.{RawEvent}
 use Rattle.model_core.specs.declared.checked.CheckedEvent.{CheckedEvent}
 use Rattle.model_core.specs.Each.{at_each, for_each, is_among}
-use Rattle.check_rules.specs.Events.{initialisation, is_initialisation, event_named, RefinedAt, with_event, refined_at, implied, refined, param_names, lost_params}
-use Rattle.check_rules.specs.Refinements.{differs, first_actions, without_labels, has_other_type, merged_differ_row, merged_differ}
+use Rattle.check_rules.specs.Events.{initialisation, is_initialisation, event_named, RefinedAt, with_event, refined_at, implied_events, refined, param_names, lost_params}
+use Rattle.check_rules.specs.Refinements.{differs_in_merge, first_actions, without_labels, has_other_type, merged_differ_row, merged_differ}
 use Rattle.check_rules.specs.Typed.{Entries}
 use Rattle.check_rules.specs.Visible.{names}
 use Rattle.formula_core.specs.Typed.{Stands}
@@ -56,7 +56,7 @@ refs_found Q m (r ∷ refs) h = cons_all (λ x. Q x.1) (with_event m r) (filter_
 -- what holds of each event that has a name
 pub refined_each : (Q : CheckedEvent → Type 0) (m : List CheckedEvent) (e : RawEvent) → ((name : List ℕ) → IfSome (event_named m name) Q) → AllByRecursion Q (refined m e)
 refined_each Q m e h =
-    all_append Q (map (λ x. x.1) (refined_at m e)) (implied m e)
+    all_append Q (map (λ x. x.1) (refined_at m e)) (implied_events m e)
     (all_map Q (λ x. x.1) (refined_at m e) (refs_found Q m e.refines h))
     (if_all Q (is_initialisation e && length e.refines == 0) (option_to_list (event_named m initialisation)) (λ t. listed Q (event_named m initialisation) (h initialisation)))
 
@@ -111,7 +111,7 @@ kept_at component kept before (x ∷ xs) e =
     let others = not (same_actions (first_actions before x) (without_labels x.1.actions)) in
     let leaves = not (list_all (is_among kept) (names x.1.params)) in
     let typed = list_any (has_other_type (joined (map (λ b. b.1.params) before))) x.1.params in
-    let none = kept_none (differs kept before x) _ (first_none (merged_differ_row component kept before x) _ e) in (
+    let none = kept_none (differs_in_merge kept before x) _ (first_none (merged_differ_row component kept before x) _ e) in (
       list_all_each (is_among kept) (names x.1.params) (not_false (list_all (is_among kept) (names x.1.params)) (neither_second others leaves (neither_first (others || leaves) typed none))),
       kept_at component kept (before ++ x ∷ []) xs (second_none (merged_differ_row component kept before x) _ e),
     )
@@ -236,7 +236,7 @@ same_at component kept before [] e d = tt
 same_at component kept before (x ∷ xs) e d =
     let others = not (same_actions (first_actions before x) (without_labels x.1.actions)) in
     let leaves = not (list_all (is_among kept) (names x.1.params)) in
-    let none = kept_none (differs kept before x) _ (first_none (merged_differ_row component kept before x) _ e) in
+    let none = kept_none (differs_in_merge kept before x) _ (first_none (merged_differ_row component kept before x) _ e) in
     let typed = list_any_none (has_other_type (params_at before)) x.1.params (neither_second (others || leaves) (list_any (has_other_type (params_at before)) x.1.params) none) in (
       all_two (λ p. has_other_type (params_at before) p ≡ false) (Stands x.1.params) (Stands (params_at before ++ (x.1.params ++ params_at xs))) x.1.params
           (λ p h k. stands_behind (params_at before) x.1.params (params_at xs) p h k) typed (stand_there x.1.params d.0),

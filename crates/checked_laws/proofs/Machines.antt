@@ -28,11 +28,11 @@ use Rattle.model_core.specs.Each.{is_among}
 use Rattle.check_rules.specs.Assignments.{written_targets}
 use Rattle.check_rules.specs.Refinements.{bad_variant, bad_variant_row}
 use Rattle.check_rules.specs.Events.{event_declarations, AreTypedEvents, initialisation}
-use Rattle.check_rules.specs.Machines.{Written, abstract_variables, abstract_events, abstract_view, own_names, new_variables, lost_variables, all_variables, machine_env, machine_of}
+use Rattle.check_rules.specs.Machines.{Written, abstract_variables, abstract_events, abstract_view, own_names, new_variables, lost_variables, all_variables, machine_env, checked_machine_of}
 use Rattle.check_rules.specs.Typed.{Entries, AreTyped, IsTypedVariant, never_typed, in_order}
-use Rattle.check_rules.specs.Visible.{Identifiers, Visible, identifiers, entries, origins, names, of_machine}
+use Rattle.check_rules.specs.Visible.{Identifiers, Visible, all_visible, entries, origins, names, of_machine}
 use Rattle.type_action.specs.Laws.{TypedActionsStand}
-use Rattle.checked_laws.specs.Projects.{ProjectNames, AreConstantsOf, AreVariablesOf, DeclaresIn, Has, IsOf}
+use Rattle.checked_laws.specs.Projects.{ProjectNames, AreConstantsOf, AreVariablesOf, DeclaresIn, Has, BelongsTo}
 use Rattle.checked_laws.specs.Sound.{HasIdentifiers, HasCarriersAmong, ArePredicatesIn, IsNamedIn, IsVariantIn, IsSoundEvent, StartsPlainly, AssignsVariables, IsSoundMachine}
 use Rattle.checked_laws.specs.Refining.{refined_by, IsSoundRefinement, IsSoundBeside, IsSoundOver}
 use Rattle.checked_laws.proofs.Targets.{IsAssigningWell, events_assign, distinct_join}
@@ -159,7 +159,7 @@ beside_abstraction (Some a) env variables lost e h = h
 
 module _ (project : ProjectNames) (m : Option CheckedMachine) (w : Written) (v : Visible) (good : IsGoodAbstraction project m) (sound : IsSoundView project v)
     (variables_are : v.variables ≡ (abstract_view m).variables) (olds : IsWithin (all_entries (abstract_view m)) (all_entries v))
-    (once : DeclaredOnce (filter (λ n. not (is_among (abstract_variables m) n)) (names (entries (identifiers v)))) (own_names w))
+    (once : DeclaredOnce (filter (λ n. not (is_among (abstract_variables m) n)) (names (entries (all_visible v)))) (own_names w))
     (identifiers_are : AllByRecursion (λ n. IsTrue (is_identifier n)) (own_names w))
     (invariants : List Labelled) (last : Entries) (checks : AreTyped w.name.name (machine_env m v) (new_variables m w) w.invariants invariants [] last)
     (all_typed : never_typed w.name.name last w.variables ≡ [])
@@ -186,15 +186,15 @@ module _ (project : ProjectNames) (m : Option CheckedMachine) (w : Written) (v :
   own = in_order last declared
 
   abbrev pub checked : CheckedMachine
-  checked = machine_of m w v last invariants variant events
+  checked = checked_machine_of m w v last invariants variant events
 
-  old_names : names (entries (identifiers v)) ≡ keys_of old
+  old_names : names (entries (all_visible v)) ≡ keys_of old
   old_names = ap names (map_append (λ x. x.0) v.constants v.variables)
 
   declared_new : AreNew old declared
   declared_new = not_named old declared (subst (λ ns. AreOther ns declared) old_names
-      (filter_each is_new (λ n. is_among (filter is_new (names (entries (identifiers v)))) n ≡ false) (λ n. is_among (names (entries (identifiers v))) n ≡ false) (own_names w)
-      (λ n k h. kept_other is_new (names (entries (identifiers v))) n k h) once.other))
+      (filter_each is_new (λ n. is_among (filter is_new (names (entries (all_visible v)))) n ≡ false) (λ n. is_among (names (entries (all_visible v))) n ≡ false) (own_names w)
+      (λ n k h. kept_other is_new (names (entries (all_visible v))) n k h) once.other))
 
   own_named : AllByRecursion (IsNamedIn last) (own_names w)
   own_named = all_named w.name.name last w.variables all_typed
@@ -272,14 +272,14 @@ module _ (project : ProjectNames) (m : Option CheckedMachine) (w : Written) (v :
   constants_taken : take checked.variables_from checked.env ≡ constants
   constants_taken = ap₂ take (sym (map_length (λ x. x.0) v.constants)) env_row ∙ take-append_seam constants (entries v.variables ++ own)
 
-  entries_are : entries (identifiers v) ≡ old
+  entries_are : entries (all_visible v) ≡ old
   entries_are = map_append (λ x. x.0) v.constants v.variables
 
-  origins_are : origins (identifiers v) ≡ origins v.constants ++ origins v.variables
+  origins_are : origins (all_visible v) ≡ origins v.constants ++ origins v.variables
   origins_are = map_append (λ x. x.1) v.constants v.variables
 
   origins_fit : length checked.env_of ≡ length checked.env
-  origins_fit = ap (λ os. length (os ++ own_origins)) (sym origins_are) ∙ row_length (identifiers v) own own_origins own_length ∙ ap (λ es. length (es ++ own)) entries_are
+  origins_fit = ap (λ os. length (os ++ own_origins)) (sym origins_are) ∙ row_length (all_visible v) own own_origins own_length ∙ ap (λ es. length (es ++ own)) entries_are
 
   pub env_good : IsGoodEnv checked.env
   env_good = record {
@@ -433,7 +433,7 @@ module _ (project : ProjectNames) (m : Option CheckedMachine) (w : Written) (v :
   row_is : zip checked.env checked.env_of ≡ v.constants ++ (v.variables ++ own_identifiers)
   row_is =
       ap₂ (λ es os. zip (es ++ own) (os ++ own_origins)) (sym entries_are) (sym origins_are)
-      ∙ zip_row (identifiers v) own own_origins
+      ∙ zip_row (all_visible v) own own_origins
       ∙ append_assoc v.constants v.variables own_identifiers
 
   constants_are : v.constants ≡ (of_machine checked).constants
@@ -453,13 +453,13 @@ module _ (project : ProjectNames) (m : Option CheckedMachine) (w : Written) (v :
         (all_each (λ x. x.1 ≡ w.name.name) (λ x. project.is_context x.1 ≡ false) own_identifiers (λ x e. ap project.is_context e ∙ has.0) (all_one w.name.name own declared)),
   )
 
-  pub machine_has : Has project (Machine checked) → IsOf project (Machine checked)
+  pub machine_has : Has project (Machine checked) → BelongsTo project (Machine checked)
   machine_has has = (subst (AreConstantsOf project) constants_are sound.constants, subst (AreVariablesOf project) (sym variables_row) (variables_have has))
 
   -- Its events.
 
   abbrev known : List (List ℕ)
-  known = names (entries (identifiers v)) ++ own_names w
+  known = names (entries (all_visible v)) ++ own_names w
 
   own_lacks : (n : List ℕ) → is_among (own_names w) n ≡ false → type_in own n ≡ None
   own_lacks n h = lacks_back own n (subst (AllByRecursion (λ y. bytes_eq n y ≡ false)) (sym own_keys)
@@ -469,8 +469,8 @@ module _ (project : ProjectNames) (m : Option CheckedMachine) (w : Written) (v :
   known_names ns h =
       all_two (λ n. type_in old n ≡ None) (λ n. is_among (own_names w) n ≡ false) (λ n. type_in (old ++ own) n ≡ None) ns (λ n k l. none_append old own n k (own_lacks n l))
       (not_named old ns (subst (λ ks. AreOther ks ns) old_names
-      (all_each (λ n. is_among known n ≡ false) (λ n. is_among (names (entries (identifiers v))) n ≡ false) ns (λ n k. none_left (names (entries (identifiers v))) (own_names w) n k) h)))
-      (all_each (λ n. is_among known n ≡ false) (λ n. is_among (own_names w) n ≡ false) ns (λ n k. none_right (names (entries (identifiers v))) (own_names w) n k) h)
+      (all_each (λ n. is_among known n ≡ false) (λ n. is_among (names (entries (all_visible v))) n ≡ false) ns (λ n k. none_left (names (entries (all_visible v))) (own_names w) n k) h)))
+      (all_each (λ n. is_among known n ≡ false) (λ n. is_among (own_names w) n ≡ false) ns (λ n k. none_right (names (entries (all_visible v))) (own_names w) n k) h)
 
   place : IsPlace constants checked.env last known
   place = record {
@@ -490,7 +490,7 @@ module _ (project : ProjectNames) (m : Option CheckedMachine) (w : Written) (v :
       → AreTypedEvents w.name.name (abstract_events m) (all_variables m w) last w.events events []
       → AllByRecursion StartsPlainly events → AllByRecursion (IsAssigningWell w.name.name (own_names w) (lost_variables m w)) (zip w.events events)
       → IsDistinct bytes_eq (map (λ e. e.name) events) → is_among (map (λ e. e.name) events) initialisation ≡ true
-      → IsSoundMachine checked × IsSoundBeside m (Machine checked) × (Has project (Machine checked) → IsOf project (Machine checked))
+      → IsSoundMachine checked × IsSoundBeside m (Machine checked) × (Has project (Machine checked) → BelongsTo project (Machine checked))
   machine_whole actions_stand larger ids some clear asks typed start well event_names has_start =
       let above = above_of project m checked.env constants good (λ x h. old_into x (olds x h)) larger in
       let whole : AllByRecursion (IsWhole constants checked.env (abstract_events m) (all_variables m w) (lost_variables m w)) events =

@@ -11,7 +11,7 @@ use Rattle.type_core.proofs.Named.{all_append, all_back, all_each}
 use Rattle.model_core.specs.declared.component.RawEvent.{RawEvent}
 use Rattle.model_core.specs.declared.checked.CheckedEvent.{CheckedEvent}
 use Rattle.model_core.specs.Each.{at_each, is_among}
-use Rattle.check_rules.specs.Events.{initialisation, is_initialisation, event_named, RefinedAt, with_event, refined_at, implied, refined, inherited, inherited_params, param_clash_row, param_clashes}
+use Rattle.check_rules.specs.Events.{initialisation, is_initialisation, event_named, RefinedAt, with_event, refined_at, implied_events, refined, inherited, inherited_params, param_clash_row, param_clashes}
 use Rattle.check_rules.specs.Typed.{Entries}
 use Rattle.check_rules.specs.Visible.{names}
 use Rattle.checked_laws.specs.Sound.{HasIdentifiers, HasCarriersAmong, ArePredicatesIn, AreActionsIn, IsSoundEvent, StartsPlainly}
@@ -84,7 +84,7 @@ refined_usable constants env component known m e sound clear =
     let start : IfSome (event_named m initialisation) (IsUsable constants env known) =
     if_some_each (λ a. P a × (bytes_eq initialisation a.name ≡ true)) (IsUsable constants env known) (event_named m initialisation)
     (λ a h. (h.0.0, subst (λ ps. AreOther known (names ps)) (sym (h.0.1 h.1).0) tt)) (event_found P m initialisation sound) in
-    all_append (IsUsable constants env known) (map (λ x. x.1) (refined_at m e)) (implied m e)
+    all_append (IsUsable constants env known) (map (λ x. x.1) (refined_at m e)) (implied_events m e)
     (all_map (IsUsable constants env known) (λ x. x.1) (refined_at m e)
     (all_each (λ x. P x.1 × AreOther known (names x.1.params)) (λ x. IsUsable constants env known x.1) (refined_at m e) (λ x h. (h.0.0, h.1))
     (both_at (λ x. P x.1) (λ x. AreOther known (names x.1.params)) (refined_at m e) written apart)))

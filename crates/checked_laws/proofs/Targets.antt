@@ -18,7 +18,7 @@ use Rattle.type_core.specs.Unknowns.{unknowns}
 use Rattle.type_core.proofs.Named.{all_append, all_front, all_each}
 use Rattle.type_action.specs.Answers.{IsActionTyping}
 use Rattle.type_action.specs.CoreActions.{core_action, overridden, target_type, with_target, typed_targets, unknown_targets, unknowns_of, env_after}
-use Rattle.type_action.specs.Typings.{AreNewValues}
+use Rattle.type_action.specs.Typings.{AreTypedAssignments}
 use Rattle.model_core.specs.declared.fault.Fault.{Fault}
 use Rattle.model_core.specs.declared.fault.FaultKind.TheVariants as kind
 use Rattle.model_core.specs.declared.component.RawEvent.{RawEvent}
@@ -42,7 +42,7 @@ use Rattle.checked_laws.proofs.Events.{joined_none}
 
 -- A typed action assigns the written targets.
 
-new_values : (env : Entries) (targets : List Ref) (values : List Bare) (ps : List (List ℕ × Formula)) → AreNewValues env targets values ps → map (λ p. p.0) ps ≡ names_of targets
+new_values : (env : Entries) (targets : List Ref) (values : List Bare) (ps : List (List ℕ × Formula)) → AreTypedAssignments env targets values ps → map (λ p. p.0) ps ≡ names_of targets
 new_values env [] [] ps h = ap (map (λ p. p.0)) h
 new_values env [] (b ∷ bs) ps h = absurd h
 new_values env (r ∷ rs) [] ps h = absurd h

@@ -16,7 +16,7 @@ use Rattle.formula_core.proofs.Equations.{carriers-Given, carriers-Pow, carriers
 use Rattle.formula_core.proofs.Keeping.{carriers-Int, carriers-Bool, carriers-Truth}
 use Rattle.formula_core.proofs.TypedIn.{predicate_more}
 use Rattle.formula_core.proofs.Types.{type_induction}
-use Rattle.type_core.specs.Answers.{with_name, extended, IsTheTyping}
+use Rattle.type_core.specs.Answers.{with_typed_name, with_names_typed, IsTheTyping}
 use Rattle.type_core.specs.CoreForms.{core_form}
 use Rattle.type_core.specs.Laws.{HasValues, IsStanding}
 use Rattle.type_core.proofs.Named.{all_append, all_front, all_back, all_each, sooner, later, within_extended, extended_has, found_has}
@@ -36,7 +36,7 @@ use Rattle.checked_laws.proofs.Names.{AllStand, AreNew, here_or, met, missed, sa
 typing_over : (env : Entries) (wanted : List (List ℕ)) (raw : Raw) (f : Formula) (next : Entries) → HasCarriers env → IsTheTyping env wanted raw f next → AllByRecursion (λ x. IsOver env x.1) next
 typing_over env wanted raw f next has h =
     let again = typing_retyped env wanted (core_form raw) (Some ty.Truth) f has (over-Truth env) h.typing.0 in
-    let same : retyped env f ≡ f = (h.only (retyped env f) (extended env wanted (retyped env f)) (again, refl)).0 in
+    let same : retyped env f ≡ f = (h.only (retyped env f) (with_names_typed env wanted (retyped env f)) (again, refl)).0 in
     let free : AllByRecursion (λ x. IsOver env x.1) (occurrences f) = subst (λ g. AllByRecursion (λ x. IsOver env x.1) (occurrences g)) same (occurrences_over env f) in
     subst (AllByRecursion (λ x. IsOver env x.1)) (sym h.typing.1) (extended_has (λ x. IsOver env x.1) env wanted f free has)
 
@@ -101,13 +101,13 @@ name_cond : (b : Bool) (env : Entries) (w : List ℕ) (u : Ty) (x : List ℕ) (t
 name_cond true env w u x t e = inl e
 name_cond false env w u x t e = elim (found_in env ((w, u) ∷ []) x t e) [ inl h ↦ inl h | inr h ↦ inr (cond_test (bytes_eq x w) t u h) ]
 
-name_from : (env : Entries) (w : List ℕ) (o : Option Ty) (x : List ℕ) (t : Ty) → type_in (with_name env w o) x ≡ Some t → (type_in env x ≡ Some t) ⊎ (bytes_eq x w ≡ true)
+name_from : (env : Entries) (w : List ℕ) (o : Option Ty) (x : List ℕ) (t : Ty) → type_in (with_typed_name env w o) x ≡ Some t → (type_in env x ≡ Some t) ⊎ (bytes_eq x w ≡ true)
 name_from env w None x t e = inl e
 name_from env w (Some u) x t e = name_cond (is_some (type_in env w)) env w u x t e
 
-extended_from : (env : Entries) (wanted : List (List ℕ)) (f : Formula) (x : List ℕ) (t : Ty) → type_in (extended env wanted f) x ≡ Some t → (type_in env x ≡ Some t) ⊎ (is_among wanted x ≡ true)
+extended_from : (env : Entries) (wanted : List (List ℕ)) (f : Formula) (x : List ℕ) (t : Ty) → type_in (with_names_typed env wanted f) x ≡ Some t → (type_in env x ≡ Some t) ⊎ (is_among wanted x ≡ true)
 extended_from env [] f x t e = inl e
-extended_from env (w ∷ ws) f x t e = elim (extended_from (with_name env w (type_in (free_of f) w)) ws f x t e) [
+extended_from env (w ∷ ws) f x t e = elim (extended_from (with_typed_name env w (type_in (free_of f) w)) ws f x t e) [
   | inl h ↦ elim (name_from env w (type_in (free_of f) w) x t h) [ inl k ↦ inl k | inr k ↦ inr (or_left (bytes_eq x w) (is_among ws x) k) ]
   | inr h ↦ inr (or_right (bytes_eq x w) (is_among ws x) h)
 ]

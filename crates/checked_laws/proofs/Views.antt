@@ -13,7 +13,7 @@ use Rattle.formula_core.proofs.TypedIn.{predicate_more}
 use Rattle.model_core.specs.declared.checked.CheckedContext.{CheckedContext}
 use Rattle.model_core.specs.Each.{is_among}
 use Rattle.check_rules.specs.Typed.{Entries}
-use Rattle.check_rules.specs.Visible.{Placed, Identifiers, Visible, identifiers, entries, origins, of_context, with_context, clashing}
+use Rattle.check_rules.specs.Visible.{WithOrigin, Identifiers, Visible, all_visible, entries, origins, of_context, with_context, clashing}
 use Rattle.type_core.proofs.Named.{all_append, all_front, all_back, all_each}
 use Rattle.checked_laws.specs.Projects.{ProjectNames, AreConstantsOf, AreVariablesOf}
 use Rattle.checked_laws.specs.Sound.{HasIdentifiers, HasCarriersAmong, IsSoundContext}
@@ -33,7 +33,7 @@ pub record IsSoundView (project : ProjectNames) (v : Visible) : Type 0 where
   pub axioms : AllByRecursion (λ x. IsPredicateIn (all_entries v) x.0.formula) v.axioms
 
 -- the names of identifiers that pass a test are distinct, too
-pub filter_keys : (p : Placed (List ℕ × Ty) → Bool) (P : List ℕ → Type 0) (xs : Identifiers) → AllByRecursion P (keys_of (entries xs)) → AllByRecursion P (keys_of (entries (filter p xs)))
+pub filter_keys : (p : WithOrigin (List ℕ × Ty) → Bool) (P : List ℕ → Type 0) (xs : Identifiers) → AllByRecursion P (keys_of (entries xs)) → AllByRecursion P (keys_of (entries (filter p xs)))
 filter_keys p P [] h = tt
 filter_keys p P (x ∷ xs) h = go (p x) (filter_keys p P xs h.1)
   where
@@ -41,18 +41,18 @@ filter_keys p P (x ∷ xs) h = go (p x) (filter_keys p P xs h.1)
     go true k = (h.0, k)
     go false k = k
 
-distinct_cond : (b : Bool) (x : Placed (List ℕ × Ty)) (xs : Identifiers) → AllByRecursion (λ y. bytes_eq x.0.0 y ≡ false) (keys_of (entries xs)) → HasDistinctNames (entries xs)
+distinct_cond : (b : Bool) (x : WithOrigin (List ℕ × Ty)) (xs : Identifiers) → AllByRecursion (λ y. bytes_eq x.0.0 y ≡ false) (keys_of (entries xs)) → HasDistinctNames (entries xs)
     → HasDistinctNames (entries (cond b (x ∷ xs) xs))
 unfolding IsDistinct
 distinct_cond true x xs h d = (h, d)
 distinct_cond false x xs h d = d
 
-pub distinct_filter : (p : Placed (List ℕ × Ty) → Bool) (xs : Identifiers) → HasDistinctNames (entries xs) → HasDistinctNames (entries (filter p xs))
+pub distinct_filter : (p : WithOrigin (List ℕ × Ty) → Bool) (xs : Identifiers) → HasDistinctNames (entries xs) → HasDistinctNames (entries (filter p xs))
 unfolding IsDistinct
 distinct_filter p [] d = tt
 distinct_filter p (x ∷ xs) d = distinct_cond (p x) x (filter p xs) (filter_keys p (λ y. bytes_eq x.0.0 y ≡ false) xs d.0) (distinct_filter p xs d.1)
 
-pub among_filter : {X : Type 0} → (p : Placed X → Bool) (xs : List (Placed X)) (o : List ℕ) → is_among (origins (filter p xs)) o ≡ true → is_among (origins xs) o ≡ true
+pub among_filter : {X : Type 0} → (p : WithOrigin X → Bool) (xs : List (WithOrigin X)) (o : List ℕ) → is_among (origins (filter p xs)) o ≡ true → is_among (origins xs) o ≡ true
 among_filter p [] o e = e
 among_filter p (x ∷ xs) o e = go (p x) (among_filter p xs o) e
   where
@@ -71,7 +71,7 @@ and_not a true e h = cc
 and_not true false e h = h
 and_not false b e h = refl
 
-no_name : (ids : Identifiers) (x : Placed (List ℕ × Ty)) → AllByRecursion (λ y. bytes_eq x.1 y.1 ≡ false) ids
+no_name : (ids : Identifiers) (x : WithOrigin (List ℕ × Ty)) → AllByRecursion (λ y. bytes_eq x.1 y.1 ≡ false) ids
     → list_any (λ y. bytes_eq x.0.0 y.0.0 && not (bytes_eq x.1 y.1)) ids ≡ false → type_in (entries ids) x.0.0 ≡ None
 no_name [] x h e = refl
 no_name (y ∷ ys) x h e =
@@ -79,11 +79,11 @@ no_name (y ∷ ys) x h e =
     missed (bytes_eq x.0.0 y.0.0) y.0.1 (type_in (entries ys) x.0.0) here
     ∙ no_name ys x h.1 (neither_second (bytes_eq x.0.0 y.0.0 && not (bytes_eq x.1 y.1)) _ e)
 
-origins_differ : {X : Type 0} → (xs : List (Placed X)) (o : List ℕ) → is_among (origins xs) o ≡ false → AllByRecursion (λ y. bytes_eq o y.1 ≡ false) xs
+origins_differ : {X : Type 0} → (xs : List (WithOrigin X)) (o : List ℕ) → is_among (origins xs) o ≡ false → AllByRecursion (λ y. bytes_eq o y.1 ≡ false) xs
 origins_differ [] o e = tt
 origins_differ (x ∷ xs) o e = (neither_first (bytes_eq o x.1) (is_among (origins xs) o) e, origins_differ xs o (neither_second (bytes_eq o x.1) (is_among (origins xs) o) e))
 
-kinds_differ : (project : ProjectNames) (o : List ℕ) → project.is_context o ≡ true → (y : Placed (List ℕ × Ty)) → project.is_context y.1 ≡ false → bytes_eq o y.1 ≡ false
+kinds_differ : (project : ProjectNames) (o : List ℕ) → project.is_context o ≡ true → (y : WithOrigin (List ℕ × Ty)) → project.is_context y.1 ≡ false → bytes_eq o y.1 ≡ false
 kinds_differ project o k y h = elim (here_or (bytes_eq o y.1)) [
   | inl b ↦ apart (project.is_context y.1) (ap project.is_context (sym (same_name o y.1 b)) ∙ k) h
   | inr b ↦ b
@@ -100,8 +100,8 @@ true_not false e = refl
 -- One context more.
 
 module _ (project : ProjectNames) (v : Visible) (c : CheckedContext) (sound : IsSoundView project v) (good : IsSoundContext c) (own : AreConstantsOf project (of_context c))
-    (clear : clashing (identifiers v) (of_context c) ≡ []) where
-  abbrev is_new : Placed (List ℕ × Ty) → Bool
+    (clear : clashing (all_visible v) (of_context c) ≡ []) where
+  abbrev is_new : WithOrigin (List ℕ × Ty) → Bool
   is_new x = not (is_among (origins v.constants) x.1)
 
   abbrev added : Identifiers
@@ -125,18 +125,18 @@ module _ (project : ProjectNames) (v : Visible) (c : CheckedContext) (sound : Is
   added_new : AreNew olds (keys_of (entries added))
   added_new = all_map (λ n. type_in olds n ≡ None) (λ e. e.0) (entries added) (all_map (λ e. type_in olds e.0 ≡ None) (λ x. x.0) added
       (filter_each is_new
-      (λ x. (list_any (λ y. bytes_eq x.0.0 y.0.0 && not (bytes_eq x.1 y.1)) (identifiers v) ≡ false) × (project.is_context x.1 ≡ true))
+      (λ x. (list_any (λ y. bytes_eq x.0.0 y.0.0 && not (bytes_eq x.1 y.1)) (all_visible v) ≡ false) × (project.is_context x.1 ≡ true))
       (λ x. type_in olds x.0.0 ≡ None)
       (of_context c)
       (λ x new k. ap (λ es. type_in es x.0.0) (sym (map_append (λ y. y.0) v.constants v.variables))
-      ∙ no_name (identifiers v) x
+      ∙ no_name (all_visible v) x
       (all_append (λ y. bytes_eq x.1 y.1 ≡ false) v.constants v.variables
       (origins_differ v.constants x.1 (not_true (is_among (origins v.constants) x.1) new))
       (all_each (λ y. project.is_context y.1 ≡ false) (λ y. bytes_eq x.1 y.1 ≡ false) v.variables (λ y h. kinds_differ project x.1 k.1 y h) sound.variables.1))
       k.0)
-      (all_two (λ x. list_any (λ y. bytes_eq x.0.0 y.0.0 && not (bytes_eq x.1 y.1)) (identifiers v) ≡ false) (λ x. project.is_context x.1 ≡ true) (λ x. (list_any (λ y. bytes_eq x.0.0 y.0.0 && not (bytes_eq x.1 y.1)) (identifiers v) ≡ false) × (project.is_context x.1 ≡ true))
+      (all_two (λ x. list_any (λ y. bytes_eq x.0.0 y.0.0 && not (bytes_eq x.1 y.1)) (all_visible v) ≡ false) (λ x. project.is_context x.1 ≡ true) (λ x. (list_any (λ y. bytes_eq x.0.0 y.0.0 && not (bytes_eq x.1 y.1)) (all_visible v) ≡ false) × (project.is_context x.1 ≡ true))
       (of_context c) (λ x h k. (h, k))
-      (filter_none (λ x. list_any (λ y. bytes_eq x.0.0 y.0.0 && not (bytes_eq x.1 y.1)) (identifiers v)) (of_context c) clear) own.1)))
+      (filter_none (λ x. list_any (λ y. bytes_eq x.0.0 y.0.0 && not (bytes_eq x.1 y.1)) (all_visible v)) (of_context c) clear) own.1)))
 
   distinct_row : HasDistinctNames (entries v.constants ++ entries added ++ entries v.variables)
   distinct_row = distinct_between (entries v.constants) (entries added) (entries v.variables) sound.distinct
@@ -176,7 +176,7 @@ module _ (project : ProjectNames) (v : Visible) (c : CheckedContext) (sound : Is
   pub constants_within : IsWithin (entries v.constants) (entries seen.constants)
   constants_within = within_all (entries seen.constants) (entries v.constants) (all_front (Stands (entries seen.constants)) (entries v.constants) (entries added) constants_row)
 
-  here_stands : (x : Placed (List ℕ × Ty)) → project.declared x.1 x.0.0 ≡ Some x.0.1 → (is_new x ≡ true → Stands (entries seen.constants) x.0) → Stands (entries seen.constants) x.0
+  here_stands : (x : WithOrigin (List ℕ × Ty)) → project.declared x.1 x.0.0 ≡ Some x.0.1 → (is_new x ≡ true → Stands (entries seen.constants) x.0) → Stands (entries seen.constants) x.0
   here_stands x types new = elim (here_or (is_among (origins v.constants) x.1)) [
     | inl b ↦ constants_within x.0 (sound.constants.0.whole x.1 x.0.0 x.0.1 b types)
     | inr b ↦ new (true_not (is_among (origins v.constants) x.1) b)

@@ -9,7 +9,7 @@ use Rattle.model_core.specs.declared.checked.CheckedEvent.{CheckedEvent}
 use Rattle.model_core.specs.declared.checked.Labelled.{Labelled}
 use Rattle.model_core.specs.Each.{at_each, is_among}
 use Rattle.check_rules.specs.Events.{param_names, abstract_params, lost_params}
-use Rattle.check_rules.specs.Refinements.{needed_params, needed, all_chosen, abstract_actions, superfluous_witness_row, superfluous_witnesses}
+use Rattle.check_rules.specs.Refinements.{needed_params, needed_witnesses, all_chosen, abstract_actions, superfluous_witness_row, superfluous_witnesses}
 use Rattle.check_rules.specs.Typed.{Entries, AreTyped}
 use Rattle.check_rules.specs.Visible.{names}
 use Rattle.checked_laws.proofs.Names.{same_name, or_left, or_right, name_is, among_later, among_sooner}
@@ -66,7 +66,7 @@ taken_among true ns n e = e
 taken_among false ns n e = let no : ⊥ = cc in absurd no
 
 -- A name for which a witness is wanted is a parameter that the event lacks, or a lost variable with a prime.
-pub wanted_is : (m : List CheckedEvent) (lost : List (List ℕ)) (e : RawEvent) (n : List ℕ) → is_among (needed m lost e) n ≡ true →
+pub wanted_is : (m : List CheckedEvent) (lost : List (List ℕ)) (e : RawEvent) (n : List ℕ) → is_among (needed_witnesses m lost e) n ≡ true →
     (is_among (keys_of (lost_params m e)) n ≡ true) ⊎ ((x : List ℕ) × (n ≡ primed x) × (is_among lost x ≡ true))
 wanted_is m lost e n h =
     let p : List ℕ → Bool = λ x. not (is_among (param_names m e) x) in
@@ -77,7 +77,7 @@ wanted_is m lost e n h =
     ]
 
 -- such a name, by these lists
-pub wanted_listed : (m : List CheckedEvent) (lost : List (List ℕ)) (e : RawEvent) (n : List ℕ) → is_among (needed m lost e) n ≡ true →
+pub wanted_listed : (m : List CheckedEvent) (lost : List (List ℕ)) (e : RawEvent) (n : List ℕ) → is_among (needed_witnesses m lost e) n ≡ true →
     is_among (keys_of (lost_params m e) ++ map primed (filter (is_among (all_chosen (abstract_actions m e))) lost)) n ≡ true
 wanted_listed m lost e n h =
     let p : List ℕ → Bool = λ x. not (is_among (param_names m e) x) in

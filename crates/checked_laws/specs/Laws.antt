@@ -8,8 +8,8 @@ use Rattle.model_core.specs.declared.component.RawComponent.TheVariants as raw
 use Rattle.model_core.specs.declared.checked.Checked.{Checked}
 use Rattle.check_rules.specs.Assignments.{written_targets}
 use Rattle.check_rules.specs.Components.{contexts_in, first_machine_in, ChecksBeside}
-use Rattle.checked_laws.specs.Projects.{ProjectNames, Has, IsOf}
-use Rattle.checked_laws.specs.Sound.{IsSound}
+use Rattle.checked_laws.specs.Projects.{ProjectNames, Has, BelongsTo}
+use Rattle.checked_laws.specs.Sound.{IsSoundComponent}
 use Rattle.checked_laws.specs.Refining.{IsSoundBeside}
 
 -- names that are declared have no prime
@@ -32,12 +32,12 @@ references_to_contexts (raw.Context name extends sets constants axioms) = extend
 references_to_contexts (raw.Machine name refines sees variables invariants variant events) = sees
 
 -- the components that are referenced: as many contexts as references to contexts, each sound and of the project
-pub record AreParts (project : ProjectNames) (written : RawComponent) (parts : List Checked) : Type 0 where
+pub record AreSoundParts (project : ProjectNames) (written : RawComponent) (parts : List Checked) : Type 0 where
   pub all : length (contexts_in parts) ≡ length (references_to_contexts written)
-  pub sound : AllByRecursion (λ part. IsSound part × IsOf project part) parts
+  pub sound : AllByRecursion (λ part. IsSoundComponent part × BelongsTo project part) parts
 
 abbrev pub CheckedIsSound : Type 0
 CheckedIsSound =
     (project : ProjectNames) (written : RawComponent) (parts : List Checked) (checked : Checked) →
-    DeclaresIdentifiers written → AssignsSomething written → AreParts project written parts → Has project checked → ChecksBeside written parts (Ok checked) →
-    IsSound checked × IsSoundBeside (first_machine_in parts) checked × IsOf project checked
+    DeclaresIdentifiers written → AssignsSomething written → AreSoundParts project written parts → Has project checked → ChecksBeside written parts (Ok checked) →
+    IsSoundComponent checked × IsSoundBeside (first_machine_in parts) checked × BelongsTo project checked

@@ -27,9 +27,9 @@ AreConstantsOf project xs = AreOf project xs × AllByRecursion (λ x. project.is
 abbrev pub AreVariablesOf : ProjectNames → Identifiers → Type 0
 AreVariablesOf project xs = AreOf project xs × AllByRecursion (λ x. project.is_context x.1 ≡ false) xs
 
-abbrev pub IsOf : ProjectNames → Checked → Type 0
-IsOf project (Context c) = AreConstantsOf project (of_context c)
-IsOf project (Machine m) = AreConstantsOf project (of_machine m).constants × AreVariablesOf project (of_machine m).variables
+abbrev pub BelongsTo : ProjectNames → Checked → Type 0
+BelongsTo project (Context c) = AreConstantsOf project (of_context c)
+BelongsTo project (Machine m) = AreConstantsOf project (of_machine m).constants × AreVariablesOf project (of_machine m).variables
 
 -- what the project declares in a component is what stands there
 abbrev pub DeclaresIn : ProjectNames → List ℕ → Identifiers → Type 0

@@ -30,13 +30,13 @@ abbrev pub with_prime : List ℕ × Ty → List ℕ × Ty
 with_prime x = (primed x.0, x.1)
 
 -- the environment of a machine, with the parameters of an event and those that it lacks
-abbrev pub params_env : Entries → List CheckedEvent → CheckedEvent → Entries
-params_env env refined e = env ++ e.params ++ params_left_out e refined
+abbrev pub env_with_params : Entries → List CheckedEvent → CheckedEvent → Entries
+env_with_params env refined e = env ++ e.params ++ params_left_out e refined
 
 -- The environment of an event's witnesses, in which the machine's variables stand with a prime, too: own and lost ones.
-abbrev pub witnesses_env : Entries → List (List ℕ) → List CheckedEvent → CheckedEvent → Entries
-witnesses_env env variables refined e =
-    params_env env refined e ++ map with_prime (filter (λ x. is_among variables x.0) env)
+abbrev pub env_of_witnesses : Entries → List (List ℕ) → List CheckedEvent → CheckedEvent → Entries
+env_of_witnesses env variables refined e =
+    env_with_params env refined e ++ map with_prime (filter (λ x. is_among variables x.0) env)
 
 -- An event's parameters stand there, and its guards and actions are typed there.
 pub record IsEventIn (env : Entries) (e : CheckedEvent) : Type 0 where
@@ -56,15 +56,15 @@ witness_names lost refined e =
 -- An event beside those that it refines, which are there under their names. Each of the names that want a witness has one, and
 -- no other; witnesses are predicates. With a prime, names of the machine are new beside all parameters.
 pub record IsSoundRefinement (env : Entries) (variables lost : List (List ℕ)) (refined : List CheckedEvent) (e : CheckedEvent) : Type 0 where
-  pub good : IsGoodEnv (witnesses_env env variables refined e)
+  pub good : IsGoodEnv (env_of_witnesses env variables refined e)
   pub some_primed : (xs : Entries) → HasDistinctNames xs → AllByRecursion (Stands env) xs →
-      IsGoodEnv (params_env env refined e ++ map with_prime xs)
-  pub witnesses : AllByRecursion (λ w. IsPredicateIn (witnesses_env env variables refined e) w.1) e.witnesses
-  pub names : AllByRecursion (λ w. IsNamedIn (witnesses_env env variables refined e) w.0) e.witnesses
+      IsGoodEnv (env_with_params env refined e ++ map with_prime xs)
+  pub witnesses : AllByRecursion (λ w. IsPredicateIn (env_of_witnesses env variables refined e) w.1) e.witnesses
+  pub names : AllByRecursion (λ w. IsNamedIn (env_of_witnesses env variables refined e) w.0) e.witnesses
   pub wanted : AllByRecursion (λ w. is_among (witness_names lost refined e) w.0 ≡ true) e.witnesses
   pub given : AllByRecursion (λ n. is_among (keys_of e.witnesses) n ≡ true) (witness_names lost refined e)
   pub found : map (λ r. r.name) refined ≡ e.refines
-  pub abstract : AllByRecursion (IsEventIn (params_env env refined e)) refined
+  pub abstract : AllByRecursion (IsEventIn (env_with_params env refined e)) refined
 
 -- What stands in the environment of the abstraction stands in that of the machine, which has its variables or loses them.
 pub record IsSoundOver (abstract m : CheckedMachine) : Type 0 where

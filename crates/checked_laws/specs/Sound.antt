@@ -92,6 +92,6 @@ pub record IsSoundMachine (m : CheckedMachine) : Type 0 where
   pub start : AllByRecursion StartsPlainly m.events
   pub assigns : AllByRecursion (AssignsVariables m.variables) m.events
 
-abbrev pub IsSound : Checked → Type 0
-IsSound (Context c) = IsSoundContext c
-IsSound (Machine m) = IsSoundMachine m
+abbrev pub IsSoundComponent : Checked → Type 0
+IsSoundComponent (Context c) = IsSoundContext c
+IsSoundComponent (Machine m) = IsSoundMachine m

@@ -10,7 +10,7 @@ use Rattle.math_grammar.specs.declared.symbols.Symbol.TheVariants as sym
 use Rattle.math_grammar.specs.Tokens.{Item}
 use Rattle.math_grammar.specs.Actions.{Targets, last_target, next_target, Values, last_value, next_value, SpellsAction, assigns, applies, chooses_in, chooses_such}
 use Rattle.math_grammar.specs.Characters.{bytes}
-use Rattle.raw_print.specs.Pieces.{word, in_round, separated}
+use Rattle.raw_print.specs.Pieces.{word_piece, in_round, separated_pieces}
 use Rattle.raw_print.specs.Printing.{pieces, target, targets, action_pieces}
 use Rattle.component_print.proofs.Signs.{ready-becomes, ready-becomes_in, ready-becomes_such}
 use Rattle.component_print.proofs.Chains.{Printed, with_sign, AllPrinted, all_separated, printed_name}
@@ -36,7 +36,7 @@ all_names [] h = tt
 all_names (r ∷ rs) h = (printed_name r.name h.0, all_names rs h.1)
 
 named_targets : (refs : List Ref) (rest : List Item) → TargetsPrinted [] refs rest → Printed (targets refs)
-named_targets refs rest h = subst (λ rs. Printed (targets rs)) (back h.is) (all_separated (word h.first.name ∷ []) _ (printed_name h.first.name h.names.0) (all_names h.more h.names.1))
+named_targets refs rest h = subst (λ rs. Printed (targets rs)) (back h.is) (all_separated (word_piece h.first.name ∷ []) _ (printed_name h.first.name h.names.0) (all_names h.more h.names.1))
 
 record ValuesPrinted (before values : List Raw) : Type 0 where
   first : Raw
@@ -60,15 +60,15 @@ module _ (limit : Option ℕ) where
   action_printed (assigns {targets = refs} {values = values} ts vs e) all =
       let names = targets_printed ts all in
       let own = values_printed vs names.proper.1 in
-      let right : Printed (separated (map pieces values)) = subst (λ rs. Printed (separated (map pieces rs))) (back own.is) (all_separated (pieces own.first) _ own.printed.0 (all_values own.more own.printed.1)) in
-      with_sign sym.Becomes (bytes "≔") (ready_spaced sym.Becomes (bytes "≔") ready-becomes) (targets refs) (separated (map pieces values)) (named_targets refs _ names) right
+      let right : Printed (separated_pieces (map pieces values)) = subst (λ rs. Printed (separated_pieces (map pieces rs))) (back own.is) (all_separated (pieces own.first) _ own.printed.0 (all_values own.more own.printed.1)) in
+      with_sign sym.Becomes (bytes "≔") (ready_spaced sym.Becomes (bytes "≔") ready-becomes) (targets refs) (separated_pieces (map pieces values)) (named_targets refs _ names) right
   action_printed (applies {n = n} {a = a} {e = e} is r f spelled) all =
       let inside = reads limit r all.1.1 in
       let value = reads limit spelled.reads inside.1.1.1 in
-      with_sign sym.Becomes (bytes "≔") (ready_spaced sym.Becomes (bytes "≔") ready-becomes) (word n ∷ in_round (pieces a)) (pieces e)
-      (in_brackets (word n ∷ []) (in_round (pieces a)) (printed_name n is) (argument (pieces a) inside.0)) value.0
+      with_sign sym.Becomes (bytes "≔") (ready_spaced sym.Becomes (bytes "≔") ready-becomes) (word_piece n ∷ in_round (pieces a)) (pieces e)
+      (in_brackets (word_piece n ∷ []) (in_round (pieces a)) (printed_name n is) (argument (pieces a) inside.0)) value.0
   action_printed (chooses_in {n = n} {e = e} is spelled) all =
-      with_sign sym.BecomesIn (bytes ":∈") ready-becomes_in (word n ∷ []) (pieces e) (printed_name n is) (reads limit spelled.reads all.1.1).0
+      with_sign sym.BecomesIn (bytes ":∈") ready-becomes_in (word_piece n ∷ []) (pieces e) (printed_name n is) (reads limit spelled.reads all.1.1).0
   action_printed (chooses_such {targets = refs} {t = t} ts spelled) all =
       let names = targets_printed ts all in
       with_sign sym.BecomesSuch (bytes ":∣") ready-becomes_such (targets refs) (pieces t) (named_targets refs _ names) (reads limit spelled.reads names.proper.1).0

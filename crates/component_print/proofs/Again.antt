@@ -12,10 +12,10 @@ use Rattle.math_grammar.specs.declared.symbols.Symbol.TheVariants as symbol
 use Rattle.math_grammar.specs.Tokens.{Item}
 use Rattle.math_grammar.specs.Grammar.{item}
 use Rattle.model_core.specs.declared.component.RawLabelled.{RawLabelled}
-use Rattle.component_text.specs.Marks.{Mark, word, label, plain, is_word, is_at}
+use Rattle.component_text.specs.Marks.{Mark, word, label, plain, is_word_mark, is_at}
 use Rattle.component_text.specs.Forms.{Bounds, One, Run, Nothing, Choice, taken, other, no_more, one_more}
 use Rattle.component_text.specs.Grammar.{IsFormula, first_place, IsPlaced, reference, is_reference, label_at, is_a_label, Names, SomeNames, labelled, Labelled, Line, begins_line, Lines, NamesBehind, SomeNamesBehind}
-use Rattle.component_text.specs.Machines.{IsAct}
+use Rattle.component_text.specs.Machines.{IsActionWithin}
 use Rattle.component_text.proofs.Parts.{Ended, at_word, at_label, run_of, behind_of}
 use Rattle.component_text.proofs.Whole.{same_word}
 use Rattle.component_print.specs.Unplaced.{unplaced_labelled}
@@ -49,7 +49,7 @@ lacks_head w v vs e = go (bytes_eq v w) refl e
     go true is k = cc
     go false is k = (is, k)
 
-pub no_word : (w : List ℕ) (ws : List (List ℕ)) (s : List Mark) → Follows ws s → lacks w ws ≡ true → is_at (is_word w) s ≡ false
+pub no_word : (w : List ℕ) (ws : List (List ℕ)) (s : List Mark) → Follows ws s → lacks w ws ≡ true → is_at (is_word_mark w) s ≡ false
 no_word w [] s h e = elim h [ ]
 no_word w (v ∷ vs) s here e = (lacks_head w v vs e).0
 no_word w (v ∷ vs) s (there h) e = no_word w vs s h (lacks_head w v vs e).1
@@ -111,7 +111,7 @@ module _ (b : Bounds) where
       )
 
   -- [word {name}]
-  pub names_behind_again : (w : List ℕ) (rs : List Ref) → AllByRecursion IsName rs → (s : List Mark) → map unplaced_mark s ≡ names_marks w rs → (rest : List Mark) → is_at is_reference rest ≡ false → is_at (is_word w) rest ≡ false →
+  pub names_behind_again : (w : List ℕ) (rs : List Ref) → AllByRecursion IsName rs → (s : List Mark) → map unplaced_mark s ≡ names_marks w rs → (rest : List Mark) → is_at is_reference rest ≡ false → is_at (is_word_mark w) rest ≡ false →
       ReadsAgain (NamesBehind w b) (map unplaced_ref) s rs rest
   names_behind_again w [] h s e rest isnt free = ([], rw (none_left s e) (other free (record { is = refl; behind = refl })), refl)
   names_behind_again w (r ∷ rs) h s e rest isnt free =
@@ -124,7 +124,7 @@ module _ (b : Bounds) where
       )
 
   -- [word name {name}]
-  pub some_names_behind_again : (w : List ℕ) (rs : List Ref) → AllByRecursion IsName rs → (s : List Mark) → map unplaced_mark s ≡ names_marks w rs → (rest : List Mark) → is_at is_reference rest ≡ false → is_at (is_word w) rest ≡ false →
+  pub some_names_behind_again : (w : List ℕ) (rs : List Ref) → AllByRecursion IsName rs → (s : List Mark) → map unplaced_mark s ≡ names_marks w rs → (rest : List Mark) → is_at is_reference rest ≡ false → is_at (is_word_mark w) rest ≡ false →
       ReadsAgain (SomeNamesBehind w b) (map unplaced_ref) s rs rest
   some_names_behind_again w [] h s e rest isnt free = ([], rw (none_left s e) (other free (record { is = refl; behind = refl })), refl)
   some_names_behind_again w (r ∷ rs) h s e rest isnt free =
@@ -141,7 +141,7 @@ module _ (b : Bounds) where
   FormulaAgain IsGood = (h : Hole) (r : Raw) → IsGood h r → (s : List Item) → map unplaced_item s ≡ raw_tokens r → (again : Raw) × IsFormula h b s again × (unplaced again ≡ unplaced r)
 
   abbrev pub ActionAgain : (RawAction → Type 0) → Type 0
-  ActionAgain IsGood = (a : RawAction) → IsGood a → (s : List Item) → map unplaced_item s ≡ action_tokens a → (again : RawAction) × IsAct b s again × (unplaced_action again ≡ unplaced_action a)
+  ActionAgain IsGood = (a : RawAction) → IsGood a → (s : List Item) → map unplaced_item s ≡ action_tokens a → (again : RawAction) × IsActionWithin b s again × (unplaced_action again ≡ unplaced_action a)
 
   pub run_again : {X : Type 0} (F : Bounds → List Item → X → Type 0) (u : X → X) (x : X) (ys : List Item) → ((zs : List Item) → map unplaced_item zs ≡ ys → (again : X) × F b zs again × (u again ≡ u x)) →
       (s : List Mark) → map unplaced_mark s ≡ map plain ys → (rest : List Mark) → Ended rest → ReadsAgain (Run F b) u s x rest
@@ -186,7 +186,7 @@ module _ (b : Bounds) where
         let head = label_placed one.0 l.label one.3 in
         let at : s ≡ label l.label head.0 ∷ one.1 = one.2 ∙ ap (λ x. x ∷ one.1) head.1 in
         let line = labelled_again false l own good s e rest stop in
-        ((line.0, other (ap (λ t. is_at (is_word (codes "theorem")) (t ++ rest)) at) line.1, line.2), ap (λ t. is_at begins_line (t ++ rest)) at)
+        ((line.0, other (ap (λ t. is_at (is_word_mark (codes "theorem")) (t ++ rest)) at) line.1, line.2), ap (λ t. is_at begins_line (t ++ rest)) at)
 
     -- a line, or what stands behind the lines, ends a formula
     pub lines_ended : (ls : List RawLabelled) (s : List Mark) → map unplaced_mark s ≡ lines_marks ls → (rest : List Mark) → Ended rest → Ended (s ++ rest)

@@ -18,13 +18,13 @@ use Rattle.model_core.specs.declared.component.RawEvent.{RawEvent}
 use Rattle.model_core.specs.declared.component.RawComponent.{RawComponent}
 use Rattle.model_core.specs.declared.component.RawComponent.TheVariants.{Context, Machine}
 use Rattle.component_text.specs.declared.machine.Abstracts.{Abstracts}
-use Rattle.component_text.specs.Marks.{Mark, word, label, plain, is_word, is_at}
+use Rattle.component_text.specs.Marks.{Mark, word, label, plain, is_word_mark, is_at}
 use Rattle.component_text.specs.Forms.{Bounds, taken, other, no_more, one_more}
 use Rattle.component_text.specs.Grammar.{IsPlaced, label_at, is_a_label, context_of}
-use Rattle.component_text.specs.Machines.{IsAct, Refines, Variant, variant_of, Witnesses, step, Step, Steps, extending, refining, References, either, With, Actions, EventParts, event_of, EventBody, Event, begins_event, EventList, Events, machine_of, IsComponent, a_context, a_machine}
+use Rattle.component_text.specs.Machines.{IsActionWithin, Refines, Variant, variant_of, Witnesses, labelled_step, Step, ManySteps, extending, refining, References, either, With, Actions, EventClauses, event_of, EventBody, Event, begins_event, EventList, Events, machine_of, IsComponent, a_context, a_machine}
 use Rattle.component_text.proofs.Parts.{Ended, at_word, at_label}
 use Rattle.component_text.proofs.Whole.{same_word}
-use Rattle.component_print.specs.Unplaced.{unplaced_labelled, unplaced_variant, unplaced_step, unplaced_event, unplaced_component}
+use Rattle.component_print.specs.Unplaced.{unplaced_labelled, unplaced_variant, unplaced_labelled_action, unplaced_event, unplaced_component}
 use Rattle.math_places.specs.Places.{unplaced, unplaced_action, unplaced_ref}
 use Rattle.raw_print.specs.Printing.{raw_tokens, action_tokens}
 use Rattle.component_print.proofs.Marked.{name_mark, names_marks, theorem_marks, line_marks, labelled_marks, lines_marks, section_marks, step_marks, step_lines_marks, steps_marks, convergence_marks, abstract_word, end_marks, event_body_marks, event_marks, event_list_marks, events_marks, variant_marks, component_marks, unplaced_mark, split_one, split_both, none_left, word_placed, label_placed, items_placed}
@@ -67,7 +67,7 @@ follow_events (x ∷ es) s e ws rest f =
     let head = word_placed one.0 (codes "events") one.3 in
     subst (λ t. Follows (codes "events" ∷ ws) (t ++ rest)) (sym (one.2 ∙ ap (λ x. x ∷ one.1) head.1)) here
 
-either_false : (v w : List ℕ) (s : List Mark) → is_at (is_word v) s ≡ false → is_at (is_word w) s ≡ false → is_at (either v w) s ≡ false
+either_false : (v w : List ℕ) (s : List Mark) → is_at (is_word_mark v) s ≡ false → is_at (is_word_mark w) s ≡ false → is_at (either v w) s ≡ false
 either_false v w [] a b = refl
 either_false v w (x ∷ s) a b = rw a b
 
@@ -93,7 +93,7 @@ module _ (b : Bounds) (IsGood : Hole → Raw → Type 0) (formulas : FormulaAgai
         (λ i. line.2 i ∷ more.2 i),
       )
 
-  with_again : (ls : List RawLabelled) → AllByRecursion (IsWitness IsGood) ls → (s : List Mark) → map unplaced_mark s ≡ section_marks (codes "with") ls → (rest : List Mark) → Ended rest → is_at is_a_label rest ≡ false → is_at (is_word (codes "with")) rest ≡ false →
+  with_again : (ls : List RawLabelled) → AllByRecursion (IsWitness IsGood) ls → (s : List Mark) → map unplaced_mark s ≡ section_marks (codes "with") ls → (rest : List Mark) → Ended rest → is_at is_a_label rest ≡ false → is_at (is_word_mark (codes "with")) rest ≡ false →
       ReadsAgain (With b) (map unplaced_labelled) s ls rest
   with_again [] good s e rest stop isnt free = ([], rw (none_left s e) (other free (record { is = refl; behind = refl })), refl)
   with_again (l ∷ ls) good s e rest stop isnt free =
@@ -107,16 +107,16 @@ module _ (b : Bounds) (IsGood : Hole → Raw → Type 0) (formulas : FormulaAgai
 
   -- {label action}
   step_again : (a : RawStep) → IsStep IsGood IsGoodAction a → (s : List Mark) → map unplaced_mark s ≡ step_marks a → (rest : List Mark) → Ended rest →
-      ReadsAgain (Step b) unplaced_step s a rest × (is_at is_a_label (s ++ rest) ≡ true)
+      ReadsAgain (Step b) unplaced_labelled_action s a rest × (is_at is_a_label (s ++ rest) ≡ true)
   step_again a good s e rest stop =
       let one = split_one s (label a.label 0) (map plain (action_tokens a.action)) e in
       let head = label_placed one.0 a.label one.3 in
-      let act = run_again b IsAct unplaced_action a.action (action_tokens a.action) (actions a.action good.1) one.1 one.4 rest stop in
+      let act = run_again b IsActionWithin unplaced_action a.action (action_tokens a.action) (actions a.action good.1) one.1 one.4 rest stop in
       let named : label_at one.0 ≡ Some (a.label, head.0) =
       ap label_at head.1 ∙ ap (λ t. cond {A = Option (List ℕ × ℕ)} t (Some (a.label, head.0)) None) good.0 in (
         (
-          step ((a.label, head.0), act.0),
-          subst (λ t. Step b (t ++ rest) (step ((a.label, head.0), act.0)) rest) (sym one.2)
+          labelled_step ((a.label, head.0), act.0),
+          subst (λ t. Step b (t ++ rest) (labelled_step ((a.label, head.0), act.0)) rest) (sym one.2)
               (record { from = ((a.label, head.0), act.0); is = refl; part = record { middle = one.1 ++ rest; first = record { mark = one.0; there = refl; is = named }; second = act.1 } }),
           (λ i. record { label = a.label; action = act.2 i; place = 0 }),
         ),
@@ -131,7 +131,7 @@ module _ (b : Bounds) (IsGood : Hole → Raw → Type 0) (formulas : FormulaAgai
       subst (λ t. Ended (t ++ rest)) (sym (one.2 ∙ ap (λ x. x ∷ one.1) head.1)) at_label
 
   steps_again : (acts : List RawStep) → AllByRecursion (IsStep IsGood IsGoodAction) acts → (s : List Mark) → map unplaced_mark s ≡ step_lines_marks acts → (rest : List Mark) → Ended rest → is_at is_a_label rest ≡ false →
-      ReadsAgain (Steps b) (map unplaced_step) s acts rest
+      ReadsAgain (ManySteps b) (map unplaced_labelled_action) s acts rest
   steps_again [] good s e rest stop isnt = ([], rw (none_left s e) (no_more isnt refl), refl)
   steps_again (a ∷ acts) good s e rest stop isnt =
       let both = split_both s (step_marks a) (step_lines_marks acts) e in
@@ -139,12 +139,12 @@ module _ (b : Bounds) (IsGood : Hole → Raw → Type 0) (formulas : FormulaAgai
       let one = step_again a good.0 both.0 both.3 (both.1 ++ rest) (steps_ended acts both.1 both.4 rest stop) in
       let at : s ++ rest ≡ both.0 ++ (both.1 ++ rest) = ap (λ t. t ++ rest) both.2 ∙ append_assoc both.0 both.1 rest in (
         one.0.0 ∷ more.0,
-        subst (λ t. Steps b t (one.0.0 ∷ more.0) rest) (sym at) (one_more {m = both.1 ++ rest} one.1 one.0.1 more.1),
+        subst (λ t. ManySteps b t (one.0.0 ∷ more.0) rest) (sym at) (one_more {m = both.1 ++ rest} one.1 one.0.1 more.1),
         (λ i. one.0.2 i ∷ more.2 i),
       )
 
   actions_again : (acts : List RawStep) → AllByRecursion (IsStep IsGood IsGoodAction) acts → (s : List Mark) → map unplaced_mark s ≡ steps_marks acts → (rest : List Mark) → Ended rest → is_at is_a_label rest ≡ false → is_at (either (codes "then") (codes "begin")) rest ≡ false →
-      ReadsAgain (Actions b) (map unplaced_step) s acts rest
+      ReadsAgain (Actions b) (map unplaced_labelled_action) s acts rest
   actions_again [] good s e rest stop isnt free = ([], rw (none_left s e) (other free (record { is = refl; behind = refl })), refl)
   actions_again (a ∷ acts) good s e rest stop isnt free =
       let one = split_one s (word (codes "then") 0) (step_lines_marks (a ∷ acts)) e in
@@ -182,12 +182,12 @@ module _ (b : Bounds) (IsGood : Hole → Raw → Type 0) (formulas : FormulaAgai
         names.2,
       )
     where
-      not_extends : (rs : List Ref) (s : List Mark) → map unplaced_mark s ≡ names_marks (codes "refines") rs → is_at (is_word (codes "extends")) (s ++ rest) ≡ false
+      not_extends : (rs : List Ref) (s : List Mark) → map unplaced_mark s ≡ names_marks (codes "refines") rs → is_at (is_word_mark (codes "extends")) (s ++ rest) ≡ false
       not_extends [] s e = rw (none_left s e) (no_word (codes "extends") ws rest f x)
       not_extends (r ∷ rs) s e =
           let one = split_one s (word (codes "refines") 0) (map name_mark (r ∷ rs)) e in
           let head = word_placed one.0 (codes "refines") one.3 in
-          ap (λ t. is_at (is_word (codes "extends")) (t ++ rest)) (one.2 ∙ ap (λ x. x ∷ one.1) head.1)
+          ap (λ t. is_at (is_word_mark (codes "extends")) (t ++ rest)) (one.2 ∙ ap (λ x. x ∷ one.1) head.1)
 
   -- what may stand behind the parts of an event
   abbrev to_end : List (List ℕ)
@@ -243,7 +243,7 @@ module _ (b : Bounds) (IsGood : Hole → Raw → Type 0) (formulas : FormulaAgai
       let tn : second.1 ++ rest ≡ r0 = ap (λ t. t ++ rest) s0.2 ∙ append_assoc s0.0 s0.1 rest ∙ ap (λ t. s0.0 ++ t) t0 in
       let tw : first.1 ++ rest ≡ second.0 ∷ r0 = ap (λ t. t ++ rest) second.2 ∙ ap (λ t. second.0 ∷ t) tn in
       let at : s ++ rest ≡ word (codes "event") head.0 ∷ (second.0 ∷ r0) = ap (λ t. t ++ rest) (first.2 ∙ ap (λ y. y ∷ first.1) head.1) ∙ ap (λ t. word (codes "event") head.0 ∷ t) tw in
-      let from : EventParts = (head.0, (name.0, (abstracts.0, (params.0, (guards.0, (witnesses.0, (acts.0, end.0))))))) in (
+      let from : EventClauses = (head.0, (name.0, (abstracts.0, (params.0, (guards.0, (witnesses.0, (acts.0, end.0))))))) in (
         event_of c from,
         subst (λ t. EventBody c b t (event_of c from) rest) (sym at) (record {
           from = from;
@@ -304,7 +304,7 @@ module _ (b : Bounds) (IsGood : Hole → Raw → Type 0) (formulas : FormulaAgai
           let head = word_placed one.0 (codes "event") one.3 in
           let at : s ≡ word (codes "event") head.0 ∷ one.1 = one.2 ∙ ap (λ y. y ∷ one.1) head.1 in
           let body = event_body_again Ordinary x is good s own rest in (
-            (body.0, other (ap (λ t. is_at (is_word (codes "ordinary")) (t ++ rest)) at) (other (ap (λ t. is_at (is_word (codes "convergent")) (t ++ rest)) at) (other (ap (λ t. is_at (is_word (codes "anticipated")) (t ++ rest)) at) body.1)), body.2),
+            (body.0, other (ap (λ t. is_at (is_word_mark (codes "ordinary")) (t ++ rest)) at) (other (ap (λ t. is_at (is_word_mark (codes "convergent")) (t ++ rest)) at) (other (ap (λ t. is_at (is_word_mark (codes "anticipated")) (t ++ rest)) at) body.1)), body.2),
             ap (λ t. is_at begins_event (t ++ rest)) at,
           )
       go Convergent is f =
@@ -338,7 +338,7 @@ module _ (b : Bounds) (IsGood : Hole → Raw → Type 0) (formulas : FormulaAgai
         (λ i. one.0.2 i ∷ more.2 i),
       )
 
-  events_again : (es : List RawEvent) → AllByRecursion (IsEvent IsGood IsGoodAction) es → (s : List Mark) → map unplaced_mark s ≡ events_marks es → (rest : List Mark) → is_at begins_event rest ≡ false → is_at (is_word (codes "events")) rest ≡ false → ReadsAgain (Events b) (map unplaced_event) s es rest
+  events_again : (es : List RawEvent) → AllByRecursion (IsEvent IsGood IsGoodAction) es → (s : List Mark) → map unplaced_mark s ≡ events_marks es → (rest : List Mark) → is_at begins_event rest ≡ false → is_at (is_word_mark (codes "events")) rest ≡ false → ReadsAgain (Events b) (map unplaced_event) s es rest
   events_again [] good s e rest isnt free = ([], rw (none_left s e) (other free (record { is = refl; behind = refl })), refl)
   events_again (x ∷ es) good s e rest isnt free =
       let one = split_one s (word (codes "events") 0) (event_list_marks (x ∷ es)) e in
@@ -349,7 +349,7 @@ module _ (b : Bounds) (IsGood : Hole → Raw → Type 0) (formulas : FormulaAgai
         events.2,
       )
 
-  variant_again : (o : Option RawVariant) → IsVariant IsGood o → (s : List Mark) → map unplaced_mark s ≡ variant_marks o → (ws : List (List ℕ)) (rest : List Mark) → Follows ws rest → is_at (is_word (codes "variant")) rest ≡ false → ReadsAgain (Variant b) (option_map unplaced_variant) s o rest
+  variant_again : (o : Option RawVariant) → IsVariant IsGood o → (s : List Mark) → map unplaced_mark s ≡ variant_marks o → (ws : List (List ℕ)) (rest : List Mark) → Follows ws rest → is_at (is_word_mark (codes "variant")) rest ≡ false → ReadsAgain (Variant b) (option_map unplaced_variant) s o rest
   variant_again None good s e ws rest f free = (None, rw (none_left s e) (other free (record { is = refl; behind = refl })), refl)
   variant_again (Some x) good s e ws rest f free =
       let one = split_one s (word (codes "variant") 0) (map plain (raw_tokens x.formula)) e in
@@ -366,7 +366,7 @@ module _ (b : Bounds) (IsGood : Hole → Raw → Type 0) (formulas : FormulaAgai
       unlabelled [] m g = rw g (no_label ws rest f)
       unlabelled (z ∷ zs) m g = ap (λ t. is_at is_a_label (t ++ rest)) g
 
-  refines_again : (o : Option Ref) → IsRefined o → (s : List Mark) → map unplaced_mark s ≡ names_marks (codes "refines") (option_to_list o) → (rest : List Mark) → is_at (is_word (codes "refines")) rest ≡ false → ReadsAgain (Refines b) (option_map unplaced_ref) s o rest
+  refines_again : (o : Option Ref) → IsRefined o → (s : List Mark) → map unplaced_mark s ≡ names_marks (codes "refines") (option_to_list o) → (rest : List Mark) → is_at (is_word_mark (codes "refines")) rest ≡ false → ReadsAgain (Refines b) (option_map unplaced_ref) s o rest
   refines_again None good s e rest free = (None, rw (none_left s e) (other free (record { is = refl; behind = refl })), refl)
   refines_again (Some r) good s e rest free =
       let one = split_one s (word (codes "refines") 0) (name_mark r ∷ []) e in
@@ -433,7 +433,7 @@ module _ (b : Bounds) (IsGood : Hole → Raw → Type 0) (formulas : FormulaAgai
       let extended = some_names_behind_again b (codes "extends") extends good.1 s0.0 s0.3 r1 (no_name from_extends r1 f1) (no_word (codes "extends") from_extends r1 f1 refl) in
       let carriers = names_behind_again b (codes "sets") sets good.2 s1.0 s1.3 r2 (no_name from_sets r2 f2) (no_word (codes "sets") from_sets r2 f2 refl) in
       let constants_again = names_behind_again b (codes "constants") constants good.3 s2.0 s2.3 r3 (no_name from_constants r3 f3) (no_word (codes "constants") from_constants r3 f3 refl) in
-      let axioms_again = section_again b IsGood formulas (codes "axioms") (is_word (codes "axioms")) (λ p. refl) axioms good.4 s3.0 s3.3 r4 at_word refl refl in
+      let axioms_again = section_again b IsGood formulas (codes "axioms") (is_word_mark (codes "axioms")) (λ p. refl) axioms good.4 s3.0 s3.3 r4 at_word refl refl in
       let t3 : s2.1 ≡ r3 = s3.2 ∙ ap (λ t. s3.0 ++ t) (last.2 ∙ (λ i. end.1 i ∷ none_left last.1 last.4 i)) in
       let t2 : s1.1 ≡ r2 = s2.2 ∙ ap (λ t. s2.0 ++ t) t3 in
       let t1 : s0.1 ≡ r1 = s1.2 ∙ ap (λ t. s1.0 ++ t) t2 in
@@ -493,7 +493,7 @@ module _ (b : Bounds) (IsGood : Hole → Raw → Type 0) (formulas : FormulaAgai
       let refined = refines_again refines good.1 s0.0 s0.3 r1 (no_word (codes "refines") from_refines r1 f1 refl) in
       let seen = some_names_behind_again b (codes "sees") sees good.2 s1.0 s1.3 r2 (no_name from_sees r2 f2) (no_word (codes "sees") from_sees r2 f2 refl) in
       let own = names_behind_again b (codes "variables") variables good.3 s2.0 s2.3 r3 (no_name from_variables r3 f3) (no_word (codes "variables") from_variables r3 f3 refl) in
-      let invariants_again = section_again b IsGood formulas (codes "invariants") (is_word (codes "invariants")) (λ p. refl) invariants good.4 s3.0 s3.3 r4 (ended from_invariants r4 f4) (no_line from_invariants r4 f4 refl) (no_word (codes "invariants") from_invariants r4 f4 refl) in
+      let invariants_again = section_again b IsGood formulas (codes "invariants") (is_word_mark (codes "invariants")) (λ p. refl) invariants good.4 s3.0 s3.3 r4 (ended from_invariants r4 f4) (no_line from_invariants r4 f4 refl) (no_word (codes "invariants") from_invariants r4 f4 refl) in
       let measure = variant_again variant good.5 s4.0 s4.3 from_variant r5 f5 (no_word (codes "variant") from_variant r5 f5 refl) in
       let happen = events_again events good.6 s5.0 s5.3 r6 refl refl in
       let t5 : s4.1 ≡ r5 = s5.2 ∙ ap (λ t. s5.0 ++ t) (last.2 ∙ (λ i. end.1 i ∷ none_left last.1 last.4 i)) in

@@ -6,7 +6,7 @@ use Rattle.model_core.specs.declared.component.RawComponent.{RawComponent}
 use Rattle.model_core.specs.declared.component.RawComponent.TheVariants.{Context, Machine}
 use Rattle.model_core.specs.Components.{heading}
 use Rattle.component_tokens.specs.declared.piece.CutFault.{CutFault}
-use Rattle.component_tokens.specs.Pieces.{Cut}
+use Rattle.component_tokens.specs.Pieces.{CutInto}
 use Rattle.component_text.specs.declared.pieces.ReadFault.{ReadFault}
 use Rattle.component_text.specs.declared.pieces.ReadFault.TheVariants as fault
 use Rattle.component_text.specs.Marks.{Mark, marks_of}
@@ -19,7 +19,7 @@ use Rattle.component_text.specs.Spelled.{IsFirst, bad_sign, number_too_wide, une
 use Rattle.component_text.proofs.Unique.{OneFormula}
 use Rattle.component_text.proofs.Once.{OneAction, component_unique}
 use Rattle.component_text.proofs.Texted.{component_loosens, component_named}
-use Rattle.component_print.specs.Back.{IsReadAs, IsSame}
+use Rattle.component_print.specs.Back.{IsParse, IsSame}
 use Rattle.component_print.specs.Unplaced.{unplaced_component}
 
 heading_kept : (c : RawComponent) → (heading (unplaced_component c)).name ≡ (heading c).name
@@ -30,8 +30,8 @@ same_heading : (c d : RawComponent) → unplaced_component c ≡ unplaced_compon
 same_heading c d e = sym (heading_kept c) ∙ ap (λ x. (heading x).name) e ∙ heading_kept d
 
 -- A text is cut into tokens that are the component but for places, at least where formulas have no limit.
-module _ (law : OneFormula) (action_law : OneAction) (ways : (text : List ℕ) (ts us : List Token) (o p : Option CutFault) → Cut text 0 ts o → Cut text 0 us p → (ts ≡ us) × (o ≡ p))
-    (text : List ℕ) (tokens : List Token) (cut : Cut text 0 tokens None) (c again any : RawComponent) (within : IsComponent parts (marks_of text tokens) again) (without : IsComponent none (marks_of text tokens) any)
+module _ (law : OneFormula) (action_law : OneAction) (ways : (text : List ℕ) (ts us : List Token) (o p : Option CutFault) → CutInto text 0 ts o → CutInto text 0 us p → (ts ≡ us) × (o ≡ p))
+    (text : List ℕ) (tokens : List Token) (cut : CutInto text 0 tokens None) (c again any : RawComponent) (within : IsComponent parts (marks_of text tokens) again) (without : IsComponent none (marks_of text tokens) any)
     (same : unplaced_component again ≡ unplaced_component c) where
   some_goes_on : (rest : List Mark) → IsUnexpectedAt IsComponent (marks_of text tokens) rest → ⊥
   some_goes_on [] u = u.nowhere any (subst (λ s. IsComponent none s any) (u.is ∙ append-nil u.before) without)
@@ -47,7 +47,7 @@ module _ (law : OneFormula) (action_law : OneAction) (ways : (text : List ℕ) (
   first_fault o e k place words (wrong_name n) =
       let named = component_named parts (marks_of text tokens) again (heading c).name within (same_heading again c same) in cc
 
-  pub read_again : (answer : Result RawComponent ReadFault) → IsReadAs (heading c).name text answer → IsSame c answer
+  pub read_again : (answer : Result RawComponent ReadFault) → IsParse (heading c).name text answer → IsSame c answer
   read_again (Ok x) h =
       let cuts = ways text h.found.tokens tokens None None h.found.cut cut in
       let own : IsComponent limits (marks_of text tokens) x = subst (λ ts. IsComponent limits (marks_of text ts) x) cuts.0 h.found.sentence in

@@ -16,14 +16,14 @@ use Rattle.component_tokens.specs.Pieces.{at_sign}
 use Rattle.component_text.specs.declared.words.TheConstants.{STRUCTURAL}
 use Rattle.component_text.specs.Marks.{Mark, plain, is_structural, mark_by}
 use Rattle.component_text.proofs.Marks.{by_plain}
-use Rattle.token_text.specs.Spacing.{is_space, Fits}
+use Rattle.token_text.specs.Spacing.{is_space, FitsBefore}
 use Rattle.token_text.proofs.Following.{stops, Follows}
 use Rattle.token_text.proofs.Words.{is_lettered, lettered_opens_set}
 use Rattle.token_text.proofs.Signs.{opens_set}
 use Rattle.token_text.proofs.Names.{fits-name, name_lettered}
 use Rattle.token_text.proofs.Numbers.{decimal_writes, fits-number, number_lettered}
-use Rattle.raw_print.specs.Pieces.{Piece, Blank, Token, text_of, tokens_of, word, close_round, close_square, close_brace, in_round, in_square, in_braces, between, behind_commas, separated}
-use Rattle.raw_print.specs.Printing.{stands_alone, operand}
+use Rattle.raw_print.specs.Pieces.{Piece, Blank, Token, text_of, tokens_of, word_piece, close_round_piece, close_square_piece, close_brace_piece, in_round, in_square, in_braces, sign_between, behind_commas, separated_pieces}
+use Rattle.raw_print.specs.Printing.{stands_alone, operand_pieces}
 use Rattle.raw_print.proofs.Equations.{text-append}
 use Rattle.component_print.proofs.Laying.{opens_no_piece, Laid, a_blank, a_token}
 use Rattle.component_print.proofs.Signs.{IsPlainText, Ready, ready-open_round, ready-close_round, ready-open_square, ready-close_square, ready-comma, fits-open_brace, fits-close_brace}
@@ -32,7 +32,7 @@ use Rattle.component_print.proofs.Signs.{IsPlainText, Ready, ready-open_round, r
 pub data Chain (t : List ℕ) : List Piece → Type 0 where
   chain_end : Chain t []
   chain_blank : {ps : List Piece} → Chain t ps → Chain t (Blank ∷ ps)
-  chain_token : {ps : List Piece} (x : Symbol) (w : List ℕ) → Fits (item x 0 w) (text_of ps ++ t) → IsPlainText w → Chain t ps → Chain t (Token x w ∷ ps)
+  chain_token : {ps : List Piece} (x : Symbol) (w : List ℕ) → FitsBefore (item x 0 w) (text_of ps ++ t) → IsPlainText w → Chain t ps → Chain t (Token x w ∷ ps)
 
 pub chain_laid : (ps : List Piece) (t : List ℕ) → Chain t ps → (s : List Mark) → Laid s t → Laid (map plain (tokens_of ps) ++ s) (text_of ps ++ t)
 unfolding lib.Utf8.encode
@@ -84,14 +84,14 @@ opens_before qs rs t is = subst (Follows opens_set) (back (append_assoc (text_of
 pub round : (qs : List Piece) → Printed qs → Printed (in_round qs)
 unfolding lib.Utf8.encode
 round qs is = record {
-  chain = λ t ps f c. free_token _ _ ready-open_round t _ (before qs (close_round ∷ []) ps t is refl (free_token _ _ ready-close_round t ps c));
+  chain = λ t ps f c. free_token _ _ ready-open_round t _ (before qs (close_round_piece ∷ []) ps t is refl (free_token _ _ ready-close_round t ps c));
   opens = λ t. refl;
 }
 
 pub square : (qs : List Piece) → Printed qs → Printed (in_square qs)
 unfolding lib.Utf8.encode
 square qs is = record {
-  chain = λ t ps f c. free_token _ _ ready-open_square t _ (before qs (close_square ∷ []) ps t is refl (free_token _ _ ready-close_square t ps c));
+  chain = λ t ps f c. free_token _ _ ready-open_square t _ (before qs (close_square_piece ∷ []) ps t is refl (free_token _ _ ready-close_square t ps c));
   opens = λ t. refl;
 }
 
@@ -99,12 +99,12 @@ pub braces : (qs : List Piece) → Printed qs → Printed (in_braces qs)
 unfolding lib.Utf8.encode
 braces qs is = record {
   chain = λ t ps f c.
-      let inner : Chain t ((qs ++ close_brace ∷ []) ++ ps) = before qs (close_brace ∷ []) ps t is refl (chain_token _ _ (fits-close_brace _) (refl, refl, refl) c) in
-      chain_token _ _ (fits-open_brace _ (subst (λ u. Follows opens_set (text_of u ++ t)) (back (append_assoc qs (close_brace ∷ []) ps)) (opens_before qs (close_brace ∷ ps) t is))) (refl, refl, refl) inner;
+      let inner : Chain t ((qs ++ close_brace_piece ∷ []) ++ ps) = before qs (close_brace_piece ∷ []) ps t is refl (chain_token _ _ (fits-close_brace _) (refl, refl, refl) c) in
+      chain_token _ _ (fits-open_brace _ (subst (λ u. Follows opens_set (text_of u ++ t)) (back (append_assoc qs (close_brace_piece ∷ []) ps)) (opens_before qs (close_brace_piece ∷ ps) t is))) (refl, refl, refl) inner;
   opens = λ t. refl;
 }
 
-pub as_operand : (r : Raw) (qs : List Piece) → Printed qs → Printed (operand (r, qs))
+pub as_operand : (r : Raw) (qs : List Piece) → Printed qs → Printed (operand_pieces (r, qs))
 as_operand r qs is = go (stands_alone r)
   where
     go : (b : Bool) → Printed (if b then qs else in_round qs)
@@ -112,7 +112,7 @@ as_operand r qs is = go (stands_alone r)
     go false = round qs is
 
 -- two parts with a sign and blanks between them
-pub with_sign : (x : Symbol) (w : List ℕ) → Ready is_space x w → (qs rs : List Piece) → Printed qs → Printed rs → Printed (between qs (Token x w) rs)
+pub with_sign : (x : Symbol) (w : List ℕ) → Ready is_space x w → (qs rs : List Piece) → Printed qs → Printed rs → Printed (sign_between qs (Token x w) rs)
 unfolding lib.Utf8.encode
 with_sign x w is qs rs left right = record {
   chain = λ t ps f c. before qs (Blank ∷ Token x w ∷ Blank ∷ rs) ps t left refl (spaced_token x w is t (rs ++ ps) (right.chain t ps f c));
@@ -137,7 +137,7 @@ commas (qs ∷ qss) is t ps f c =
     let more = commas qss is.1 t ps f c in
     (free_token _ _ ready-comma t _ (chain_blank (before qs (behind_commas qss) ps t is.0 more.1 more.0)), refl)
 
-pub all_separated : (qs : List Piece) (qss : List (List Piece)) → Printed qs → AllPrinted qss → Printed (separated (qs ∷ qss))
+pub all_separated : (qs : List Piece) (qss : List (List Piece)) → Printed qs → AllPrinted qss → Printed (separated_pieces (qs ∷ qss))
 all_separated qs qss is more = record {
   chain = λ t ps f c. let rest = commas qss more t ps f c in before qs (behind_commas qss) ps t is rest.1 rest.0;
   opens = λ t. opens_before qs (behind_commas qss) t is;
@@ -174,7 +174,7 @@ lettered_opens (c ∷ cs) h = let a : (c == 64) ≡ false = letter_is c 64 h ref
 pub name_plain : (n : List ℕ) → is_name n ≡ true → IsPlainText n
 name_plain n h = let own = lettered_opens n (name_lettered n h) in (own.0, own.1, no_structural (λ w. w.now) is_name n h STRUCTURAL refl)
 
-pub printed_name : (n : List ℕ) → is_name n ≡ true → Printed (word n ∷ [])
+pub printed_name : (n : List ℕ) → is_name n ≡ true → Printed (word_piece n ∷ [])
 printed_name n h = record {
   chain = λ t ps f c. chain_token sym.Word n (fits-name n h (text_of ps ++ t) f) (name_plain n h) c;
   opens = λ t. subst (λ u. Follows opens_set (u ++ t)) (back (append-nil n)) (lettered_opens_set n t (name_lettered n h));

@@ -28,14 +28,14 @@ use Rattle.math_grammar.specs.declared.symbols.Symbol.TheVariants as sym
 use Rattle.math_grammar.specs.declared.shapes.Shape.{Shape}
 use Rattle.math_grammar.specs.Levels.{infix_of, binder_of, implicit_of, takes_names, takes_shape}
 use Rattle.math_grammar.specs.Tokens.{Item}
-use Rattle.math_grammar.specs.Grammar.{Reads, a_name, a_number, a_truth, a_constant, prefixed, two_sides, in_parentheses, called, applied, converted, set_by_members, by_names, by_shape, lambda, Parts, last_one, next_one, TypeOf, last_side, first_side, Bound, bare, of_type, Declares, last_name, next_name, Body, a_predicate, a_value, LastPart, up_to_brace, reaching, Pattern, last_atom, next_atom, Atom, bare_atom, typed_atom, grouped_atom, type_with, joined, lone, bound, place_of}
+use Rattle.math_grammar.specs.Grammar.{Reads, a_name, a_number, a_truth, a_constant, prefixed, two_sides, in_parentheses, called, applied, converted, set_by_members, by_names, by_shape, lambda, Parts, last_one, next_one, TypeOf, last_side, first_side, Bound, bare, of_type, Declares, last_name, next_name, Body, a_predicate, a_value, LastPart, up_to_brace, reaching, Pattern, last_atom, next_atom, Atom, bare_atom, typed_atom, grouped_atom, type_with, joined_shape, lone, bound, place_of}
 use Rattle.token_text.specs.Spacing.{is_space}
 use Rattle.token_text.proofs.Following.{stops, Follows}
 use Rattle.math_grammar.specs.Characters.{bytes}
-use Rattle.raw_print.specs.Pieces.{Piece, Token, text_of, word, dot, bar, typing, in_round, in_square, between, separated}
+use Rattle.raw_print.specs.Pieces.{Piece, Token, text_of, word_piece, dot_piece, bar_piece, typing_piece, in_round, in_square, sign_between, separated_pieces}
 use Rattle.math_grammar.specs.Operators.{raw_sign_of, raw_class_of}
 use Rattle.raw_print.specs.Printing as printing
-use Rattle.raw_print.specs.Printing.{Part, operand, bare as bare_parts, form, pieces, bind_pieces, body, pattern, pattern_step, names_in, names_in_step}
+use Rattle.raw_print.specs.Printing.{PartWithPieces, operand_pieces, bare as bare_parts, form, pieces, bind_pieces, body_pieces, pattern, pattern_step, pattern_name_count, names_in_step}
 use Rattle.raw_print.specs.Private.{with_pieces, declared}
 use Rattle.raw_print.proofs.Equations.{pieces-Int, pieces-Name, pieces-Node, pieces-Bind, pattern-Name, names_in-Name}
 use Rattle.raw_print.specs.Back.{AllProper}
@@ -69,15 +69,15 @@ converse_of : (t : List ℕ) (ps : List Piece) → Stops t ps → Chain t ps →
 unfolding lib.Utf8.encode
 converse_of t ps f c = (refl, free_token sym.Converse (bytes "∼") ready-converse t ps c)
 
-behind_dot : (rs : List Piece) → Printed rs → (t : List ℕ) (ps : List Piece) → Stops t ps → Chain t ps → Stops t ((dot ∷ rs) ++ ps) × Chain t ((dot ∷ rs) ++ ps)
+behind_dot : (rs : List Piece) → Printed rs → (t : List ℕ) (ps : List Piece) → Stops t ps → Chain t ps → Stops t ((dot_piece ∷ rs) ++ ps) × Chain t ((dot_piece ∷ rs) ++ ps)
 unfolding lib.Utf8.encode
 behind_dot rs own t ps f c = (refl, free_token sym.Dot (bytes "·") ready-dot t (rs ++ ps) (own.chain t ps f c))
 
-typed_name : (n : List ℕ) → is_name n ≡ true → (qs : List Piece) → Printed qs → Printed (word n ∷ typing ∷ qs)
+typed_name : (n : List ℕ) → is_name n ≡ true → (qs : List Piece) → Printed qs → Printed (word_piece n ∷ typing_piece ∷ qs)
 unfolding lib.Utf8.encode
 typed_name n is qs own = record {
-  chain = λ t ps f c. (printed_name n is).chain t (typing ∷ (qs ++ ps)) refl (free_token (sym.Infix lev.Typing rawop.OfType) (bytes "⦂") ready-typing t (qs ++ ps) (own.chain t ps f c));
-  opens = λ t. opens_before (word n ∷ []) (typing ∷ qs) t (printed_name n is);
+  chain = λ t ps f c. (printed_name n is).chain t (typing_piece ∷ (qs ++ ps)) refl (free_token (sym.Infix lev.Typing rawop.OfType) (bytes "⦂") ready-typing t (qs ++ ps) (own.chain t ps f c));
+  opens = λ t. opens_before (word_piece n ∷ []) (typing_piece ∷ qs) t (printed_name n is);
 }
 
 pub ready_spaced : (x : Symbol) (w : List ℕ) → Ready (λ c. true) x w → Ready is_space x w
@@ -87,7 +87,7 @@ ready_spaced x w is = record { fits = λ t f. is.fits t (everything t); plain = 
     everything [] = tt
     everything (c ∷ u) = refl
 
-with_bar : (qs rs : List Piece) → Printed qs → Printed rs → Printed (between qs bar rs)
+with_bar : (qs rs : List Piece) → Printed qs → Printed rs → Printed (sign_between qs bar_piece rs)
 with_bar qs rs left right = with_sign sym.Bar (bytes "∣") (ready_spaced sym.Bar (bytes "∣") ready-bar) qs rs left right
 
 -- the shape's tree prints its names from the front of a list, and has as many
@@ -95,20 +95,20 @@ record IsPrintedPattern (shape : Shape) : Type 0 where
   qs : List Piece
   printed : Printed qs
   prints : (more : List (List Piece)) → pattern shape.tree (map declared shape.names ++ more) ≡ qs
-  counts : names_in shape.tree ≡ length (map declared shape.names)
+  counts : pattern_name_count shape.tree ≡ length (map declared shape.names)
 
-pair_printed : (b a : Shape) → IsPrintedPattern b → IsPrintedPattern a → IsPrintedPattern (joined (Some b) a)
+pair_printed : (b a : Shape) → IsPrintedPattern b → IsPrintedPattern a → IsPrintedPattern (joined_shape (Some b) a)
 pair_printed b a left right = record {
-  qs = between (operand (b.tree, left.qs)) (Token (raw_class_of (rawop.Plain op.Maplet)) (raw_sign_of (rawop.Plain op.Maplet))) (operand (a.tree, right.qs));
+  qs = sign_between (operand_pieces (b.tree, left.qs)) (Token (raw_class_of (rawop.Plain op.Maplet)) (raw_sign_of (rawop.Plain op.Maplet))) (operand_pieces (a.tree, right.qs));
   printed = with_sign _ _ (before_space (rawop.Plain op.Maplet) refl) _ _ (as_operand b.tree left.qs left.printed) (as_operand a.tree right.qs right.printed);
   prints = λ more.
       let all : List (List Piece) = map declared (b.names ++ a.names) ++ more in
       let names : all ≡ map declared b.names ++ (map declared a.names ++ more) = ap (λ ds. ds ++ more) (map_declared b.names a.names) ∙ append_assoc (map declared b.names) (map declared a.names) more in
       let first : pattern b.tree all ≡ left.qs = ap (pattern b.tree) names ∙ left.prints (map declared a.names ++ more) in
-      let behind : drop (names_in b.tree) all ≡ map declared a.names ++ more = (λ i. drop (left.counts i) (names i)) ∙ drop-append_seam (map declared b.names) (map declared a.names ++ more) in
-      let second : pattern a.tree (drop (names_in b.tree) all) ≡ right.qs = ap (pattern a.tree) behind ∙ right.prints more in
+      let behind : drop (pattern_name_count b.tree) all ≡ map declared a.names ++ more = (λ i. drop (left.counts i) (names i)) ∙ drop-append_seam (map declared b.names) (map declared a.names ++ more) in
+      let second : pattern a.tree (drop (pattern_name_count b.tree) all) ≡ right.qs = ap (pattern a.tree) behind ∙ right.prints more in
       pattern-pair (rawop.Plain op.Maplet) b.tree a.tree (place_of b.tree) all
-      ∙ (λ i. between (operand (b.tree, first i)) (Token (raw_class_of (rawop.Plain op.Maplet)) (raw_sign_of (rawop.Plain op.Maplet))) (operand (a.tree, second i)));
+      ∙ (λ i. sign_between (operand_pieces (b.tree, first i)) (Token (raw_class_of (rawop.Plain op.Maplet)) (raw_sign_of (rawop.Plain op.Maplet))) (operand_pieces (a.tree, second i)));
   counts = names_in-pair (rawop.Plain op.Maplet) b.tree a.tree (place_of b.tree) ∙ (λ i. left.counts i + right.counts i) ∙ back (length-append (map declared b.names) (map declared a.names))
       ∙ ap length (back (map_declared b.names a.names));
 }
@@ -121,22 +121,22 @@ node o parts p x e is =
 two_printed : (l : Level) (o : RawOp) (x : Symbol) → infix_of x ≡ Some (l, o) → raw_class_of o ≡ x → (a b : Raw) (p : ℕ) → Printed (pieces a) → Printed (pieces b) → Printed (pieces (raw.Node o (a ∷ b ∷ []) p))
 two_printed l o x ix own a b p left right =
     let ready : Ready is_space (raw_class_of o) (raw_sign_of o) = before_space o (ap is_infix own ∙ infix_is x l o ix) in
-    let whole : Printed (between (operand (a, pieces a)) (Token (raw_class_of o) (raw_sign_of o)) (operand (b, pieces b))) = with_sign (raw_class_of o) (raw_sign_of o) ready _ _ (as_operand a (pieces a) left) (as_operand b (pieces b) right) in
+    let whole : Printed (sign_between (operand_pieces (a, pieces a)) (Token (raw_class_of o) (raw_sign_of o)) (operand_pieces (b, pieces b))) = with_sign (raw_class_of o) (raw_sign_of o) ready _ _ (as_operand a (pieces a) left) (as_operand b (pieces b) right) in
     node o (a ∷ b ∷ []) p x own (subst Printed (back (second_form x (infix_is x l o ix) (Token (raw_class_of o) (raw_sign_of o)) (with_pieces a) (with_pieces b))) whole)
 
 applied_printed : (o : RawOp) (f a : Raw) (p : ℕ) → (o ≡ rawop.Plain op.Apply) ⊎ (o ≡ rawop.Plain op.Image) → Printed (pieces f) → Printed (pieces a) → Printed (pieces (raw.Node o (f ∷ a ∷ []) p))
 applied_printed o f a p (inl e) left right =
     subst (λ q. Printed (pieces (raw.Node q (f ∷ a ∷ []) p))) (back e)
-    (node (rawop.Plain op.Apply) (f ∷ a ∷ []) p (sym.Open bracket.Round) refl (in_brackets (operand (f, pieces f)) (in_round (pieces a)) (as_operand f (pieces f) left) (argument (pieces a) right)))
+    (node (rawop.Plain op.Apply) (f ∷ a ∷ []) p (sym.Open bracket.Round) refl (in_brackets (operand_pieces (f, pieces f)) (in_round (pieces a)) (as_operand f (pieces f) left) (argument (pieces a) right)))
 applied_printed o f a p (inr e) left right =
     subst (λ q. Printed (pieces (raw.Node q (f ∷ a ∷ []) p))) (back e)
-    (node (rawop.Plain op.Image) (f ∷ a ∷ []) p (sym.Open bracket.Square) refl (in_brackets (operand (f, pieces f)) (in_square (pieces a)) (as_operand f (pieces f) left) (image_of (pieces a) right)))
+    (node (rawop.Plain op.Image) (f ∷ a ∷ []) p (sym.Open bracket.Square) refl (in_brackets (operand_pieces (f, pieces f)) (in_square (pieces a)) (as_operand f (pieces f) left) (image_of (pieces a) right)))
 
 open_ended : (x : Symbol) (w : List ℕ) → Ready (λ c. true) x w → (qs : List Piece) → Printed qs → Printed (Token x w ∷ (qs ++ []))
 open_ended x w is qs own = subst (λ u. Printed (Token x w ∷ u)) (back (append-nil qs)) (prefix x w is qs own)
 
 -- what stands behind the sign, in braces or as far as it reaches
-plain_scope : (c : Binding) → takes_names c ≡ true → IsForm c → (names : List RawBound) (parts : List Raw) (p : ℕ) → Printed (separated (map declared names) ++ (dot ∷ body (map with_pieces parts))) →
+plain_scope : (c : Binding) → takes_names c ≡ true → IsForm c → (names : List RawBound) (parts : List Raw) (p : ℕ) → Printed (separated_pieces (map declared names) ++ (dot_piece ∷ body_pieces (map with_pieces parts))) →
     Printed (pieces (raw.Bind (binder_of c) names parts p))
 plain_scope binding.Set h is names parts p own = subst Printed (back (pieces-Bind (rawbinder.Plain binder.Comprehension) names parts p)) (braces _ own)
 plain_scope (binding.Quantified binder.ForAll) h is names parts p own = subst Printed (back (pieces-Bind (rawbinder.Plain binder.ForAll) names parts p)) (open_ended _ _ ready-for_all _ own)
@@ -151,7 +151,7 @@ plain_scope (binding.Reaching binder.Exists) h is names parts p own = cc
 plain_scope (binding.Reaching binder.Comprehension) h is names parts p own = cc
 plain_scope binding.Lambda h is names parts p own = cc
 
-shape_scope : (c : Binding) → takes_shape c ≡ true → IsForm c → (parts : List Raw) (p : ℕ) → Printed (body (map with_pieces parts)) → Printed (pieces (raw.Bind (implicit_of c) [] parts p))
+shape_scope : (c : Binding) → takes_shape c ≡ true → IsForm c → (parts : List Raw) (p : ℕ) → Printed (body_pieces (map with_pieces parts)) → Printed (pieces (raw.Bind (implicit_of c) [] parts p))
 shape_scope binding.Set h is parts p own = subst Printed (back (pieces-Bind (rawbinder.Implicit binder.Comprehension) [] parts p)) (braces _ own)
 shape_scope (binding.Reaching binder.QuantifiedUnion) h is parts p own = subst Printed (back (pieces-Bind (rawbinder.Implicit binder.QuantifiedUnion) [] parts p)) (open_ended _ _ ready-union _ own)
 shape_scope (binding.Reaching binder.QuantifiedIntersection) h is parts p own = subst Printed (back (pieces-Bind (rawbinder.Implicit binder.QuantifiedIntersection) [] parts p)) (open_ended _ _ ready-intersection _ own)
@@ -169,8 +169,8 @@ all_bare : (rs : List Raw) → AllByRecursion (λ x. Printed (pieces x)) rs → 
 all_bare [] h = tt
 all_bare (r ∷ rs) h = (h.0, all_bare rs h.1)
 
-separated_parts : (parts rest : List Raw) (s : List Item) → PartsPrinted [] parts s → Printed (separated (bare_parts (map with_pieces parts)))
-separated_parts parts rest s h = subst (λ ps. Printed (separated (bare_parts (map with_pieces ps)))) (back h.2) (all_separated (pieces h.0) _ h.3.0 (all_bare h.1 h.3.1))
+separated_parts : (parts rest : List Raw) (s : List Item) → PartsPrinted [] parts s → Printed (separated_pieces (bare_parts (map with_pieces parts)))
+separated_parts parts rest s h = subst (λ ps. Printed (separated_pieces (bare_parts (map with_pieces ps)))) (back h.2) (all_separated (pieces h.0) _ h.3.0 (all_bare h.1 h.3.1))
 
 abbrev NamesPrinted : List RawBound → List RawBound → List Item → Type 0
 NamesPrinted before names rest = (b : RawBound) × (bs : List RawBound) × (names ≡ before ++ b ∷ bs) × AllByRecursion (λ x. Printed (declared x)) (b ∷ bs) × AllProper rest
@@ -180,7 +180,7 @@ all_declared [] h = tt
 all_declared (b ∷ bs) h = (h.0, all_declared bs h.1)
 
 abbrev BodyPrinted : List Raw → List Raw → List Item → Type 0
-BodyPrinted before parts rest = (new : List Raw) × (parts ≡ before ++ new) × Printed (body (map with_pieces new)) × AllProper rest
+BodyPrinted before parts rest = (new : List Raw) × (parts ≡ before ++ new) × Printed (body_pieces (map with_pieces new)) × AllProper rest
 
 -- the part of a type that stands before ⦂
 abbrev IsPrintedSide : Option Raw → Type 0
@@ -195,7 +195,7 @@ with_type : (before : Option Raw) (t : Raw) → IsPrintedSide before → Printed
 with_type None t h own = own
 with_type (Some a) t h own = two_printed lev.Typing rawop.OfType (sym.Infix lev.Typing rawop.OfType) refl refl a t (place_of a) h own
 
-with_start : (before : Option Shape) (a : Shape) → IsPrintedStart before → IsPrintedPattern a → IsPrintedPattern (joined before a)
+with_start : (before : Option Shape) (a : Shape) → IsPrintedStart before → IsPrintedPattern a → IsPrintedPattern (joined_shape before a)
 with_start None a h own = own
 with_start (Some b) a h own = pair_printed b a h own
 
@@ -228,16 +228,16 @@ module _ (limit : Option ℕ) where
         (applied_printed o f a (place_of f) (suffix_symbol x b o sx) left.0 right.0, right.1.1)
     reads (converted {f = f} rf sf) all =
         let own = reads rf all in
-        (node (rawop.Plain op.Converse) (f ∷ []) (place_of f) sym.Converse refl (in_brackets (operand (f, pieces f)) _ (as_operand f (pieces f) own.0) converse_of), own.1.1)
+        (node (rawop.Plain op.Converse) (f ∷ []) (place_of f) sym.Converse refl (in_brackets (operand_pieces (f, pieces f)) _ (as_operand f (pieces f) own.0) converse_of), own.1.1)
     reads (set_by_members {p = p} {members = members} ox ps) all =
         let own = parts_printed ps all.1 in
         (node (rawop.Plain op.SetExtension) members p (sym.Open bracket.Brace) refl (braces _ (separated_parts members [] _ own)), own.4)
     reads (by_names {c = c} {x = x} {p = p} {names = names} {parts = parts} ox tn ds bd k) all =
         let declared_names = names_printed ds all.1 in
         let inside = body_printed bd declared_names.4 in
-        let names_own : Printed (separated (map declared names)) = subst (λ bs. Printed (separated (map declared bs))) (back declared_names.2) (all_separated _ _ declared_names.3.0 (all_declared declared_names.1 declared_names.3.1)) in
-        let body_own : Printed (body (map with_pieces parts)) = subst (λ ps. Printed (body (map with_pieces ps))) (back inside.1) inside.2 in
-        (plain_scope c tn (form_symbol x c ox all.0) names parts p (in_brackets (separated (map declared names)) (dot ∷ body (map with_pieces parts)) names_own (behind_dot _ body_own)), inside.3)
+        let names_own : Printed (separated_pieces (map declared names)) = subst (λ bs. Printed (separated_pieces (map declared bs))) (back declared_names.2) (all_separated _ _ declared_names.3.0 (all_declared declared_names.1 declared_names.3.1)) in
+        let body_own : Printed (body_pieces (map with_pieces parts)) = subst (λ ps. Printed (body_pieces (map with_pieces ps))) (back inside.1) inside.2 in
+        (plain_scope c tn (form_symbol x c ox all.0) names parts p (in_brackets (separated_pieces (map declared names)) (dot_piece ∷ body_pieces (map with_pieces parts)) names_own (behind_dot _ body_own)), inside.3)
     reads (by_shape {c = c} {x = x} {p = p} {e = e} {t = t} ox ts re fe lp k) all =
         let first = reads re all.1 in
         let last = last_printed lp first.1.1 in
@@ -246,9 +246,9 @@ module _ (limit : Option ℕ) where
         let names = pattern_printed pt all.1 tt in
         let inside = body_printed bd names.1.1 in
         let taken : pattern shape.tree (map declared shape.names) ≡ names.0.qs = ap (pattern shape.tree) (back (append-nil (map declared shape.names))) ∙ names.0.prints [] in
-        let own : Printed (names.0.qs ++ (dot ∷ body (map with_pieces inside.0))) = in_brackets names.0.qs _ names.0.printed (behind_dot _ inside.2) in
-        let whole : Printed (printing.lambda (map declared shape.names) (map with_pieces (shape.tree ∷ inside.0))) = subst (λ q. Printed (q ++ (dot ∷ body (map with_pieces inside.0)))) (back taken) own in
-        let all_parts : Printed (printing.lambda (map declared shape.names) (map with_pieces parts)) = subst (λ ps. Printed (printing.lambda (map declared shape.names) (map with_pieces ps))) (back inside.1) whole in
+        let own : Printed (names.0.qs ++ (dot_piece ∷ body_pieces (map with_pieces inside.0))) = in_brackets names.0.qs _ names.0.printed (behind_dot _ inside.2) in
+        let whole : Printed (printing.lambda_pieces (map declared shape.names) (map with_pieces (shape.tree ∷ inside.0))) = subst (λ q. Printed (q ++ (dot_piece ∷ body_pieces (map with_pieces inside.0)))) (back taken) own in
+        let all_parts : Printed (printing.lambda_pieces (map declared shape.names) (map with_pieces parts)) = subst (λ ps. Printed (printing.lambda_pieces (map declared shape.names) (map with_pieces ps))) (back inside.1) whole in
         (subst Printed (back (pieces-Bind rawbinder.Lambda shape.names parts p)) (open_ended _ _ ready-lambda _ all_parts), inside.3)
 
     parts_printed : {h : Hole} {many : Option ℕ} {b : Bracket} {before parts : List Raw} {s rest : List Item} → Parts limit h many b before s parts rest → AllProper s → PartsPrinted before parts rest

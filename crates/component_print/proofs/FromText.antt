@@ -14,11 +14,11 @@ use Rattle.math_tokens.specs.Texts.{meaning}
 use Rattle.math_grammar.specs.declared.symbols.Symbol.{Symbol}
 use Rattle.math_grammar.specs.declared.symbols.TheConstants.{SYMBOLS}
 use Rattle.math_grammar.specs.Tokens.{word_in, words, or_word, symbol_of, bytes_of, item_of}
-use Rattle.component_tokens.specs.Pieces.{IsLabelOrToken, Cut, at_end, over_gap, past_token, at_fault, at_sign}
+use Rattle.component_tokens.specs.Pieces.{IsLabelOrToken, CutInto, at_end, over_gap, past_token, at_fault, at_sign}
 use Rattle.component_tokens.specs.declared.piece.CutFault.{CutFault}
 use Rattle.std.proofs.lemmas.Bool.Decides.{nat_tests}
 use Rattle.formula_core.specs.Texts.{begins_with}
-use Rattle.component_text.specs.Marks.{word, label, plain, is_structural, mark_of, marks_of}
+use Rattle.component_text.specs.Marks.{word, label, plain, is_structural, token_mark, marks_of}
 use Rattle.raw_print.specs.Back.{IsProper, IsProperItem}
 use Rattle.component_print.proofs.Made.{IsSmallMark, AreSmall}
 
@@ -75,7 +75,7 @@ literal_there : (text : List ℕ) (at : ℕ) (t : Token) → IsLabelOrToken text
 literal_there text at t (inl h) = subst (λ u. IsLiteral u.kind) (back h.1) tt
 literal_there text at t (inr h) = let is = h.1 in meant is.0 _ at t.kind is.6
 
-small_mark : (text : List ℕ) (t : Token) → IsLiteral t.kind → IsSmallMark IsProperItem (mark_of text t)
+small_mark : (text : List ℕ) (t : Token) → IsLiteral t.kind → IsSmallMark IsProperItem (token_mark text t)
 small_mark text t h = go (begins_with at_sign (bytes_of text t)) (is_structural (bytes_of text t))
   where
     go : (a b : Bool) → IsSmallMark IsProperItem (cond a (label (drop 1 (bytes_of text t)) t.from) (cond b (word (bytes_of text t) t.from) (plain (item_of text t))))
@@ -83,7 +83,7 @@ small_mark text t h = go (begins_with at_sign (bytes_of text t)) (is_structural 
     go false true = tt
     go false false = proper_symbol t.kind (bytes_of text t) h
 
-pub small_marks : (text : List ℕ) (at : ℕ) (ts : List Token) (o : Option CutFault) → Cut text at ts o → AreSmall IsProperItem (marks_of text ts)
+pub small_marks : (text : List ℕ) (at : ℕ) (ts : List Token) (o : Option CutFault) → CutInto text at ts o → AreSmall IsProperItem (marks_of text ts)
 small_marks text at ts o (at_end e) = tt
 small_marks text at ts o (over_gap {n = n} {ts = us} {o = p} less gap more) = small_marks text _ us p more
 small_marks text at ts o (past_token {ts = us} {o = p} t less is more) = (small_mark text t (literal_there text at t is.1), small_marks text t.to us p more)

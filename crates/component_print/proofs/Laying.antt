@@ -15,9 +15,9 @@ use Rattle.math_grammar.specs.Grammar.{item}
 use Rattle.math_grammar.specs.Tokens.{Item, symbol_of, bytes_of, item_of}
 use Rattle.component_tokens.specs.declared.gap.Gap.TheVariants as gap
 use Rattle.component_tokens.specs.Gaps.{gap_in, slash}
-use Rattle.component_tokens.specs.Pieces.{at_sign, label_length, label_token, Cut, at_end, over_gap, past_token}
-use Rattle.component_text.specs.Marks.{Mark, word, label, plain, is_structural, mark_by, mark_of, marks_of}
-use Rattle.token_text.specs.Spacing.{is_space, Fits}
+use Rattle.component_tokens.specs.Pieces.{at_sign, label_length, label_token, CutInto, at_end, over_gap, past_token}
+use Rattle.component_text.specs.Marks.{Mark, word, label, plain, is_structural, mark_by, token_mark, marks_of}
+use Rattle.token_text.specs.Spacing.{is_space, FitsBefore}
 use Rattle.token_text.proofs.Cutting.{one_blank}
 use Rattle.component_print.proofs.Marked.{unplaced_mark}
 use Rattle.math_places.specs.Places.{unplaced_item}
@@ -36,7 +36,7 @@ ends_label l (c ∷ cs) = not (is_in_label c)
 pub data Laid : List Mark → List ℕ → Type 0 where
   the_end : Laid [] []
   a_blank : {s : List Mark} {t : List ℕ} (c : ℕ) → is_space c ≡ true → Laid s t → Laid s (c ∷ t)
-  a_token : {s : List Mark} {t : List ℕ} (x : Item) → Fits x t → opens_no_piece x.text ≡ true → Laid s t → Laid (mark_by x.text 0 (unplaced_item x) ∷ s) (x.text ++ t)
+  a_token : {s : List Mark} {t : List ℕ} (x : Item) → FitsBefore x t → opens_no_piece x.text ≡ true → Laid s t → Laid (mark_by x.text 0 (unplaced_item x) ∷ s) (x.text ++ t)
   a_label : {s : List Mark} {t : List ℕ} (l : List ℕ) → is_label l ≡ true → ends_label l t ≡ true → Laid s t → Laid (label l 0 ∷ s) (at_sign ∷ (l ++ t))
 
 gap_of_space : (c : ℕ) (rest : List ℕ) → is_space c ≡ true → gap_in (c ∷ rest) ≡ gap.Bytes 1
@@ -92,26 +92,26 @@ unplaced_mark_by text from x = go (begins_with at_sign text) (is_structural text
     go false false = refl
 
 pub laid_from : (s : List Mark) (t : List ℕ) → Laid s t → (text : List ℕ) (at : ℕ) → at ≤ length text → drop at text ≡ t
-    → (us : List Token) × Cut text at us None × (map unplaced_mark (marks_of text us) ≡ s)
+    → (us : List Token) × CutInto text at us None × (map unplaced_mark (marks_of text us) ≡ s)
 laid_from marks whole the_end text at within here =
     let none : length text - at ≡ 0 = sym (length-drop at text) ∙ ap length here in
     ([], at_end (omega (arith, none)), refl)
 laid_from marks whole (a_blank {s = s} {t = rest} c blank more) text at within here =
     let some : length text - at ≡ length (c ∷ rest) = sym (length-drop at text) ∙ ap length here in
     let behind : drop (at + 1) text ≡ rest = sym (drop-drop 1 at text) ∙ ap (drop 1) here in
-    let later : (us : List Token) × Cut text (at + 1) us None × (map unplaced_mark (marks_of text us) ≡ s) = laid_from s rest more text (at + 1) (omega (arith, some)) behind in
+    let later : (us : List Token) × CutInto text (at + 1) us None × (map unplaced_mark (marks_of text us) ≡ s) = laid_from s rest more text (at + 1) (omega (arith, some)) behind in
     (later.0, over_gap {n = 1} (omega (arith, some)) (ap gap_in here ∙ gap_of_space c rest blank) later.1, later.2)
 laid_from marks whole (a_token {s = s} {t = rest} x is opens more) text at within here =
     let n : ℕ = length x.text in
     let all : length text - at ≡ n + length rest = sym (length-drop at text) ∙ ap length here ∙ length-append x.text rest in
     let behind : drop (at + n) text ≡ rest = sym (drop-drop n at text) ∙ ap (drop n) here ∙ drop-append_seam x.text rest in
-    let later : (us : List Token) × Cut text (at + n) us None × (map unplaced_mark (marks_of text us) ≡ s) = laid_from s rest more text (at + n) (omega (arith, all, is.longest.some)) behind in
+    let later : (us : List Token) × CutInto text (at + n) us None × (map unplaced_mark (marks_of text us) ≡ s) = laid_from s rest more text (at + n) (omega (arith, all, is.longest.some)) behind in
     let token : Token = record { kind = is.kind; from = at; to = at + n } in
     let taken : take n (drop at text) ≡ x.text = ap (take n) here ∙ take-append_seam x.text rest in
     let long : at + n - at ≡ n = omega arith in
     let own : bytes_of text token ≡ x.text = ap (λ m. take m (drop at text)) long ∙ taken in
     let as_item : unplaced_item (item_of text token) ≡ unplaced_item x = λ i. item ((ap (symbol_of is.kind) own ∙ is.class) i) 0 (own i) in
-    let as_mark : unplaced_mark (mark_of text token) ≡ mark_by x.text 0 (unplaced_item x) =
+    let as_mark : unplaced_mark (token_mark text token) ≡ mark_by x.text 0 (unplaced_item x) =
     unplaced_mark_by (bytes_of text token) at (item_of text token) ∙ (λ i. mark_by (own i) 0 (as_item i)) in (
       token ∷ later.0,
       past_token token (omega (arith, all, is.longest.some)) (
@@ -129,18 +129,18 @@ laid_from marks whole (a_label {s = s} {t = rest} l is ends more) text at within
     let all : length text - at ≡ suc n + length rest = sym (length-drop at text) ∙ ap length here ∙ length-append (at_sign ∷ l) rest in
     let behind : drop (at + suc n) text ≡ rest = sym (drop-drop (suc n) at text) ∙ ap (drop (suc n)) here ∙ drop-append_seam (at_sign ∷ l) rest in
     let to : at + 1 + n ≡ at + suc n = omega arith in
-    let later : (us : List Token) × Cut text (at + suc n) us None × (map unplaced_mark (marks_of text us) ≡ s) = laid_from s rest more text (at + suc n) (omega (arith, all)) behind in
+    let later : (us : List Token) × CutInto text (at + suc n) us None × (map unplaced_mark (marks_of text us) ≡ s) = laid_from s rest more text (at + suc n) (omega (arith, all)) behind in
     let token : Token = label_token at n in
     let taken : take (suc n) (drop at text) ≡ at_sign ∷ l = ap (take (suc n)) here ∙ take-append_seam (at_sign ∷ l) rest in
     let long : at + 1 + n - at ≡ suc n = omega arith in
     let own : bytes_of text token ≡ at_sign ∷ l = ap (λ m. take m (drop at text)) long ∙ taken in
     let run : label_length (drop at text) ≡ n = ap label_length here ∙ ap (λ m. min m 64) (all_in l rest facts.2 ends) ∙ small_min n facts.1 in
-    let as_mark : unplaced_mark (mark_of text token) ≡ label l 0 = ap (λ b. unplaced_mark (mark_by b at (item_of text token))) own in (
+    let as_mark : unplaced_mark (token_mark text token) ≡ label l 0 = ap (λ b. unplaced_mark (mark_by b at (item_of text token))) own in (
       token ∷ later.0,
-      past_token token (omega (arith, all)) (ap gap_in here, inl (rw run facts.0, rw run refl)) (subst (λ m. Cut text m later.0 None) (sym to) later.1),
+      past_token token (omega (arith, all)) (ap gap_in here, inl (rw run facts.0, rw run refl)) (subst (λ m. CutInto text m later.0 None) (sym to) later.1),
       (λ i. as_mark i ∷ later.2 i),
     )
 
 -- the text is cut, with no fault, into these marks but for their places
-pub laid_cut : (s : List Mark) (text : List ℕ) → Laid s text → (us : List Token) × Cut text 0 us None × (map unplaced_mark (marks_of text us) ≡ s)
+pub laid_cut : (s : List Mark) (text : List ℕ) → Laid s text → (us : List Token) × CutInto text 0 us None × (map unplaced_mark (marks_of text us) ≡ s)
 laid_cut s text laid = laid_from s text laid text 0 (omega arith) refl

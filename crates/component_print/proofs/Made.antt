@@ -19,10 +19,10 @@ use Rattle.model_core.specs.declared.component.RawEvent.{RawEvent}
 use Rattle.model_core.specs.declared.component.RawComponent.{RawComponent}
 use Rattle.model_core.specs.declared.component.RawComponent.TheVariants.{Context, Machine}
 use Rattle.component_text.specs.declared.machine.Abstracts.{Abstracts}
-use Rattle.component_text.specs.Marks.{Mark, word, label, plain, run}
+use Rattle.component_text.specs.Marks.{Mark, word, label, plain, token_run}
 use Rattle.component_text.specs.Forms.{Bounds, limits, One, Nothing, Choice, taken, other, no_more, one_more}
 use Rattle.component_text.specs.Grammar.{IsFormula, reference, label_at, Names, SomeNames, Labelled, Line, Lines, NamesBehind, SomeNamesBehind, ContextBody}
-use Rattle.component_text.specs.Machines.{IsAct, word_at, Refines, VariantExpression, Variant, Witnesses, Step, Steps, References, Guards, With, Actions, EventBody, Event, EventList, Events, MachineBody, IsComponent, a_context, a_machine}
+use Rattle.component_text.specs.Machines.{IsActionWithin, word_at, Refines, VariantExpression, Variant, Witnesses, Step, ManySteps, References, Guards, With, Actions, EventBody, Event, EventList, Events, MachineBody, IsComponent, a_context, a_machine}
 use Rattle.component_text.proofs.Parts.{Good, good_one}
 use Rattle.raw_print.specs.Back.{is_whole}
 use Rattle.component_text.proofs.Components.{good_line, good_extends, good_sets, good_constants}
@@ -116,7 +116,7 @@ module _ (Small : Item → Type 0) where
 
 module _ (Small : Item → Type 0) (IsGood : Hole → Raw → Type 0) (IsGoodAction : RawAction → Type 0)
     (formula_good : (h : Hole) (s : List Item) (t : Raw) → is_whole h ≡ true → AllByRecursion Small s → IsFormula h limits s t → IsGood h t)
-    (action_good : (s : List Item) (a : RawAction) → AllByRecursion Small s → IsAct limits s a → IsGoodAction a) where
+    (action_good : (s : List Item) (a : RawAction) → AllByRecursion Small s → IsActionWithin limits s a → IsGoodAction a) where
   small_behind : (front rest : List Mark) → AreSmall Small (front ++ rest) → AreSmall Small rest
   small_behind [] rest h = h
   small_behind (x ∷ front) rest h = small_behind front rest h.1
@@ -124,7 +124,7 @@ module _ (Small : Item → Type 0) (IsGood : Hole → Raw → Type 0) (IsGoodAct
   small_rest : {X : Type 0} (P : Bounds → List Mark → X → List Mark → Type 0) → Good P → (s : List Mark) (x : X) (m : List Mark) → P limits s x m → AreSmall Small s → AreSmall Small m
   small_rest P good s x m h small = let front = good.split limits s x m h in small_behind front.0 m (subst (AreSmall Small) front.1 small)
 
-  small_run : (s : List Mark) → AreSmall Small s → AllByRecursion Small (run s)
+  small_run : (s : List Mark) → AreSmall Small s → AllByRecursion Small (token_run s)
   small_run [] h = tt
   small_run (plain x ∷ s) h = (h.0, small_run s h.1)
   small_run (word w p ∷ s) h = tt
@@ -133,7 +133,7 @@ module _ (Small : Item → Type 0) (IsGood : Hole → Raw → Type 0) (IsGoodAct
   labelled_made : (theorem : Bool) (s : List Mark) (l : RawLabelled) (rest : List Mark) → AreSmall Small s → Labelled theorem limits s l rest → IsLine IsGood l × (l.theorem ≡ theorem)
   labelled_made theorem s l rest small h =
       let middle : AreSmall Small h.part.middle = (subst (AreSmall Small) h.part.first.there small).1 in
-      let good : IsGood hole.Predicate h.from.1.0 = formula_good hole.Predicate (run h.part.middle) h.from.1.0 refl (small_run h.part.middle middle) h.part.second.spelled.0 in
+      let good : IsGood hole.Predicate h.from.1.0 = formula_good hole.Predicate (token_run h.part.middle) h.from.1.0 refl (small_run h.part.middle middle) h.part.second.spelled.0 in
       subst (λ k. IsLine IsGood k × (k.theorem ≡ theorem)) h.is ((label_read h.part.first.mark h.from.0 h.part.first.is, good), refl)
 
   line_made : (s : List Mark) (l : RawLabelled) (rest : List Mark) → AreSmall Small s → Line limits s l rest → IsLine IsGood l
@@ -161,9 +161,9 @@ module _ (Small : Item → Type 0) (IsGood : Hole → Raw → Type 0) (IsGoodAct
   step_made : (s : List Mark) (a : RawStep) (rest : List Mark) → AreSmall Small s → Step limits s a rest → IsStep IsGood IsGoodAction a
   step_made s a rest small h =
       let middle : AreSmall Small h.part.middle = (subst (AreSmall Small) h.part.first.there small).1 in
-      subst (IsStep IsGood IsGoodAction) h.is (label_read h.part.first.mark h.from.0 h.part.first.is, action_good (run h.part.middle) h.from.1 (small_run h.part.middle middle) h.part.second.spelled)
+      subst (IsStep IsGood IsGoodAction) h.is (label_read h.part.first.mark h.from.0 h.part.first.is, action_good (token_run h.part.middle) h.from.1 (small_run h.part.middle middle) h.part.second.spelled)
 
-  steps_made : (s : List Mark) (acts : List RawStep) (rest : List Mark) → AreSmall Small s → Steps limits s acts rest → AllByRecursion (IsStep IsGood IsGoodAction) acts
+  steps_made : (s : List Mark) (acts : List RawStep) (rest : List Mark) → AreSmall Small s → ManySteps limits s acts rest → AllByRecursion (IsStep IsGood IsGoodAction) acts
   steps_made s acts rest small (no_more isnt e) = tt
   steps_made s acts rest small (one_more {m = m} {x = a} {xs = more} does h hs) = (step_made s a m small h, steps_made m more rest (small_rest Step good_step s a m h small) hs)
 
@@ -218,8 +218,8 @@ module _ (Small : Item → Type 0) (IsGood : Hole → Raw → Type 0) (IsGoodAct
   refines_made s o rest (other isnt h) = subst IsRefined (sym h.is) tt
 
   variant_expression_made : (s : List Mark) (e : Raw × ℕ) (rest : List Mark) → AreSmall Small s → VariantExpression limits s e rest → IsGood hole.Expression e.0
-  variant_expression_made s e rest small (taken x m t is h) = formula_good hole.Expression (run m) e.0 refl (small_run m (subst (AreSmall Small) t small).1) h.spelled.0
-  variant_expression_made s e rest small (other isnt h) = formula_good hole.Expression (run s) e.0 refl (small_run s small) h.spelled.0
+  variant_expression_made s e rest small (taken x m t is h) = formula_good hole.Expression (token_run m) e.0 refl (small_run m (subst (AreSmall Small) t small).1) h.spelled.0
+  variant_expression_made s e rest small (other isnt h) = formula_good hole.Expression (token_run s) e.0 refl (small_run s small) h.spelled.0
 
   variant_made : (s : List Mark) (o : Option RawVariant) (rest : List Mark) → AreSmall Small s → Variant limits s o rest → IsVariant IsGood o
   variant_made s o rest small (taken x m t is h) = subst (IsVariant IsGood) h.is (variant_expression_made m h.from rest (subst (AreSmall Small) t small).1 h.part)

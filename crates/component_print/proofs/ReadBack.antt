@@ -16,11 +16,11 @@ use Rattle.math_places.proofs.Actions.{action_spelled_again}
 use Rattle.math_places.proofs.Twice.{unplaced_twice, action_twice}
 use Rattle.model_core.specs.declared.component.RawComponent.{RawComponent}
 use Rattle.component_tokens.specs.declared.piece.CutFault.{CutFault}
-use Rattle.component_tokens.specs.Pieces.{Cut}
+use Rattle.component_tokens.specs.Pieces.{CutInto}
 use Rattle.component_text.specs.Marks.{Mark, plain, marks_of}
 use Rattle.component_text.specs.Forms.{limits, parts, none}
 use Rattle.component_text.specs.Grammar.{IsFormula}
-use Rattle.component_text.specs.Machines.{IsAct}
+use Rattle.component_text.specs.Machines.{IsActionWithin}
 use Rattle.component_text.proofs.Looser.{formula_looser, action_looser}
 use Rattle.component_text.proofs.Unique.{OneFormula}
 use Rattle.component_text.proofs.Once.{OneAction}
@@ -31,7 +31,7 @@ use Rattle.raw_print.specs.Back.{is_whole}
 use Rattle.raw_print.proofs.Spelled.{spelled_again}
 use Rattle.raw_print.proofs.ActionsSpelled.{action_spelled}
 use Rattle.component_print.specs.Printed.{component_text}
-use Rattle.component_print.specs.Back.{IsReadable, ReadsBack}
+use Rattle.component_print.specs.Back.{IsReadable, IsReread}
 use Rattle.component_print.proofs.Marked.{component_marks}
 use Rattle.component_print.proofs.Made.{IsMade, component_made}
 use Rattle.component_print.proofs.FromText.{small_marks}
@@ -53,7 +53,7 @@ IsGoodAction a = (tokens : List Item) × AllProper tokens × SpellsAction most_p
 formula_good : (h : Hole) (s : List Item) (t : Raw) → is_whole h ≡ true → AllByRecursion IsProperItem s → IsFormula h limits s t → IsGood h t
 formula_good h s t whole all k = (whole, s, all, k.0)
 
-action_good : (s : List Item) (a : RawAction) → AllByRecursion IsProperItem s → IsAct limits s a → IsGoodAction a
+action_good : (s : List Item) (a : RawAction) → AllByRecursion IsProperItem s → IsActionWithin limits s a → IsGoodAction a
 action_good s a all k = (s, all, k.0)
 
 -- printed tokens have no places
@@ -83,10 +83,10 @@ formula_in_parts h r good s e = formula_elsewhere most_parts h r good.1 good.0 g
 formula_in_none : (h : Hole) (r : Raw) → IsGood h r → (s : List Item) → map unplaced_item s ≡ raw_tokens r → (again : Raw) × IsFormula h none s again × (unplaced again ≡ unplaced r)
 formula_in_none h r good s e = formula_elsewhere None h r good.1 good.0 good.2 (formula_looser h good.1 r good.3) s e
 
-action_in_parts : (a : RawAction) → IsGoodAction a → (s : List Item) → map unplaced_item s ≡ action_tokens a → (again : RawAction) × IsAct parts s again × (unplaced_action again ≡ unplaced_action a)
+action_in_parts : (a : RawAction) → IsGoodAction a → (s : List Item) → map unplaced_item s ≡ action_tokens a → (again : RawAction) × IsActionWithin parts s again × (unplaced_action again ≡ unplaced_action a)
 action_in_parts a good s e = action_elsewhere most_parts a good.0 good.1 good.2 s e
 
-action_in_none : (a : RawAction) → IsGoodAction a → (s : List Item) → map unplaced_item s ≡ action_tokens a → (again : RawAction) × IsAct none s again × (unplaced_action again ≡ unplaced_action a)
+action_in_none : (a : RawAction) → IsGoodAction a → (s : List Item) → map unplaced_item s ≡ action_tokens a → (again : RawAction) × IsActionWithin none s again × (unplaced_action again ≡ unplaced_action a)
 action_in_none a good s e = action_elsewhere None a good.0 good.1 (action_looser good.0 a good.2) s e
 
 -- the text of pieces before the end of a line
@@ -105,8 +105,8 @@ readable_made : (c : RawComponent) → IsReadable c → IsMade IsGood IsGoodActi
 readable_made c k = component_made IsProperItem IsGood IsGoodAction formula_good action_good (marks_of k.1 k.2.tokens) c (small_marks k.1 0 k.2.tokens None k.2.cut) k.2.sentence
 
 -- The text of a component that some text spells reads back.
-pub printed_reads_back : OneFormula → OneAction → ((text : List ℕ) (ts us : List Token) (o p : Option CutFault) → Cut text 0 ts o → Cut text 0 us p → (ts ≡ us) × (o ≡ p)) →
-    (c : RawComponent) → IsReadable c → ReadsBack c (component_text c)
+pub printed_reads_back : OneFormula → OneAction → ((text : List ℕ) (ts us : List Token) (o p : Option CutFault) → CutInto text 0 ts o → CutInto text 0 us p → (ts ≡ us) × (o ≡ p)) →
+    (c : RawComponent) → IsReadable c → IsReread c (component_text c)
 printed_reads_back law action_law ways c k =
     let made : IsMade IsGood IsGoodAction c = readable_made c k in
     let cut = laid_cut (component_marks c) (component_text c) (component_laid IsGood IsGoodAction formula_laid action_laid c made) in

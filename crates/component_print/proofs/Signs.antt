@@ -21,7 +21,7 @@ use Rattle.math_grammar.specs.Grammar.{item}
 use Rattle.math_grammar.specs.Tokens.{symbol_of as class_of}
 use Rattle.component_tokens.specs.Pieces.{at_sign}
 use Rattle.component_text.specs.Marks.{is_structural}
-use Rattle.token_text.specs.Spacing.{is_space, Fits}
+use Rattle.token_text.specs.Spacing.{is_space, FitsBefore}
 use Rattle.token_text.proofs.Following.{stops, Follows}
 use Rattle.token_text.proofs.Tokens.{NoneGoesOn, both_true}
 use Rattle.token_text.proofs.Signs.{opens_set, free_fits, passing_sign, stopped_fits}
@@ -37,7 +37,7 @@ IsPlainText w = (opens_no_piece w ≡ true) × (begins_with at_sign w ≡ false)
 
 -- a token of formulas before what passes
 pub record Ready (p : ℕ → Bool) (x : Symbol) (w : List ℕ) : Type 0 where
-  pub fits : (t : List ℕ) → Follows p t → Fits (item x 0 w) t
+  pub fits : (t : List ℕ) → Follows p t → FitsBefore (item x 0 w) t
   pub plain : IsPlainText w
   -- it is no closing brace
   pub opens : (t : List ℕ) → Follows opens_set (w ++ t)
@@ -204,10 +204,10 @@ unfolding lib.Utf8.encode
 ready-becomes_such = spaced 68 (sym.BecomesSuch) 58 (226 ∷ 136 ∷ 163 ∷ []) refl refl refl (λ rest. refl) refl refl (refl, refl, refl) refl
 
 -- the braces: the one that opens before anything but the one that closes
-pub fits-open_brace : (t : List ℕ) → Follows opens_set t → Fits (item (sym.Open bracket.Brace) 0 (bytes "{")) t
+pub fits-open_brace : (t : List ℕ) → Follows opens_set t → FitsBefore (item (sym.Open bracket.Brace) 0 (bytes "{")) t
 unfolding lib.Utf8.encode
 fits-open_brace = passing_sign opens_set 73 (sym.Open bracket.Brace) 123 [] refl refl refl (λ rest. refl) refl refl
 
-pub fits-close_brace : (t : List ℕ) → Fits (item (sym.Close bracket.Brace) 0 (bytes "}")) t
+pub fits-close_brace : (t : List ℕ) → FitsBefore (item (sym.Close bracket.Brace) 0 (bytes "}")) t
 unfolding lib.Utf8.encode
 fits-close_brace = free_fits 74 (sym.Close bracket.Brace) 125 [] refl refl refl (λ rest. refl) refl refl

@@ -12,7 +12,7 @@ use Rattle.formula_core.specs.declared.raw.RawAction.{RawAction}
 use Rattle.formula_core.specs.declared.raw.Ref.{Ref}
 use Rattle.math_tokens.specs.declared.lexemes.Lexeme.TheVariants as lexeme
 use Rattle.math_tokens.specs.declared.cutting.TokenKind.TheVariants as kind
-use Rattle.math_tokens.specs.Lexemes.{sign_in, is_word as is_token_word}
+use Rattle.math_tokens.specs.Lexemes.{sign_in, is_token_word}
 use Rattle.math_tokens.specs.SignForms.{sign_forms}
 use Rattle.math_tokens.specs.Texts.{blank_length, meaning}
 use Rattle.math_grammar.specs.declared.holes.Hole.{Hole}

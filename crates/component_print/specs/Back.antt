@@ -6,17 +6,17 @@ use Rattle.model_core.specs.Components.{heading}
 use Rattle.component_text.specs.declared.pieces.ReadFault.{ReadFault}
 use Rattle.component_text.specs.declared.pieces.ReadFault.TheVariants as fault
 use Rattle.component_text.specs.Machines.{IsComponent}
-use Rattle.component_text.specs.Spelled.{Spells, Finds, IsReadFault}
+use Rattle.component_text.specs.Spelled.{SpellsComponent, FindsComponent, IsReadFault}
 use Rattle.component_print.specs.Unplaced.{unplaced_component}
 
 -- some text spells it
 abbrev pub IsReadable : RawComponent → Type 0
-IsReadable c = (name : List ℕ) × (text : List ℕ) × Spells IsComponent name text c
+IsReadable c = (name : List ℕ) × (text : List ℕ) × SpellsComponent IsComponent name text c
 
 -- what `read` answers on the text of the component of the name, by its promises
-pub record IsReadAs (name text : List ℕ) (answer : Result RawComponent ReadFault) : Type 0 where
-  pub found : IfOk answer (λ c. Spells IsComponent name text c)
-  pub only : (c : RawComponent) → Spells IsComponent name text c → Finds answer c
+pub record IsParse (name text : List ℕ) (answer : Result RawComponent ReadFault) : Type 0 where
+  pub found : IfOk answer (λ c. SpellsComponent IsComponent name text c)
+  pub only : (c : RawComponent) → SpellsComponent IsComponent name text c → FindsComponent answer c
   pub fault : IfErr answer (λ f. IsReadFault IsComponent name text f)
 
 -- the same component but for places, or the fault of a formula that is too large, unless memory runs out
@@ -26,5 +26,5 @@ IsSame c (Err (fault.Fault f)) = f.kind ≡ kind.FormulaTooLarge
 IsSame c (Err fault.OutOfMemory) = Unit {0}
 
 -- whatever is read of the text
-abbrev pub ReadsBack : RawComponent → List ℕ → Type 0
-ReadsBack c text = (answer : Result RawComponent ReadFault) → IsReadAs (heading c).name text answer → IsSame c answer
+abbrev pub IsReread : RawComponent → List ℕ → Type 0
+IsReread c text = (answer : Result RawComponent ReadFault) → IsParse (heading c).name text answer → IsSame c answer

@@ -15,8 +15,8 @@ unplaced_labelled l = record l { formula = unplaced l.formula; place = 0; first 
 abbrev pub unplaced_variant : RawVariant → RawVariant
 unplaced_variant v = record { formula = unplaced v.formula; first = 0 }
 
-abbrev pub unplaced_step : RawStep → RawStep
-unplaced_step s = record s { action = unplaced_action s.action; place = 0 }
+abbrev pub unplaced_labelled_action : RawStep → RawStep
+unplaced_labelled_action s = record s { action = unplaced_action s.action; place = 0 }
 
 abbrev pub unplaced_event : RawEvent → RawEvent
 unplaced_event e = record e {
@@ -25,7 +25,7 @@ unplaced_event e = record e {
   params = map unplaced_ref e.params;
   guards = map unplaced_labelled e.guards;
   witnesses = map unplaced_labelled e.witnesses;
-  actions = map unplaced_step e.actions;
+  actions = map unplaced_labelled_action e.actions;
 }
 
 -- the component with every place 0

@@ -2,7 +2,7 @@
 
 ghost use Rattle.std.specs.Prelude.{◌≡◌, ◌++◌, string_bytes, OnOk, IfOk};
 ghost use Rattle.component_print.specs.Printed.{heading_text, context_sections, machine_sections, component_text};
-ghost use Rattle.component_print.specs.Back.{IsReadable, ReadsBack};
+ghost use Rattle.component_print.specs.Back.{IsReadable, IsReread};
 
 use crate::machine::{print_events, print_variant};
 use crate::sections::{print_names, print_section};
@@ -109,7 +109,7 @@ pub fn print(alloc: Global, component: &RawComponent) -> Result<String, OutOfMem
     requires { IsReadable component.now }
     ensures text { IfOk result (λ text. string_bytes text ≡ component_text component.now) }
     // What is read of the text is the same component but for places, or that the added parentheses make a formula too large.
-    ensures reads_back { IfOk result (λ text. ReadsBack component.now (string_bytes text)) }
+    ensures reads_back { IfOk result (λ text. IsReread component.now (string_bytes text)) }
 {
     one_formula();
     one_action();

@@ -20,10 +20,10 @@ use Rattle.model_core.specs.declared.component.RawLabelled.{RawLabelled}
 use Rattle.model_core.specs.declared.component.RawComponent.{RawComponent}
 use Rattle.component_text.specs.declared.stop.Stop.{Stop}
 use Rattle.component_text.specs.declared.stop.Stop.TheVariants as stop
-use Rattle.component_text.specs.Marks.{Mark, word, label, plain, behind_run, is_word, is_at}
+use Rattle.component_text.specs.Marks.{Mark, word, label, plain, behind_run, is_word_mark, is_at}
 use Rattle.component_text.specs.Forms.{Bounds, limits, parts, One, Run, Nothing, Then, Choice, taken, other, no_more, one_more}
 use Rattle.component_text.specs.Grammar.{IsPlaced, reference, is_reference, label_at, Names, SomeNames, labelled, Labelled, Line, begins_line, Lines, NamesBehind, SomeNamesBehind, LinesBehind, context_of, ContextBody, IsContext}
-use Rattle.component_text.specs.PrivateReading.{end_mark, Begins, Refuses, Passes, Reads, Takes, Lacks, ReadsFormula, AddsNames, Ends, ReadsWhole}
+use Rattle.component_text.specs.PrivateReading.{end_mark, Begins, RefusesAt, Passes, ReadsOrStops, Takes, Lacks, ReadsFormula, AddsNames, TakesEnd, ReadsWhole}
 use Rattle.component_text.proofs.Parts.{IsLooser, Good, good_one, good_run, good_nothing, good_then, good_of, good_choice, good_many}
 use Rattle.component_text.proofs.Refusing.{CanSkip, skip_begins, left_out, one_refused, one_then_refused, one_then_passes, first_refused, first_passes, both_skip, second_refused, second_passes, of_refused, of_passes, taken_refused, taken_passes, other_refused, other_passes, other_skip, many_skip, many_here, many_here_passes, many_later, many_later_passes}
 use Rattle.component_text.proofs.Formulas.{label_refused, label_passes}
@@ -104,7 +104,7 @@ one_name_more s m x xs rest h hs = one_more (ap (is_at is_reference) h.there ∙
 pub good_some_names : Good SomeNames
 good_some_names = good_of (λ p. p.0 ∷ p.1) (Then (One reference) Names) (good_then (One reference) Names (good_one reference) good_names)
 
-pub some_names_refused : (s : List Mark) → Lacks reference s → Refuses SomeNames s s
+pub some_names_refused : (s : List Mark) → Lacks reference s → RefusesAt SomeNames s s
 some_names_refused s h =
     of_refused (λ p. p.0 ∷ p.1) (Then (One reference) Names) s s (one_refused reference Names s some_name some_ref h some_name_is (skip_begins Names names_skip parts))
 
@@ -125,7 +125,7 @@ pub good_labelled : (theorem : Bool) → Good (Labelled theorem)
 good_labelled theorem = good_of (labelled theorem) (Then (One label_at) (Run (IsPlaced hole.Predicate)))
     (good_then (One label_at) (Run (IsPlaced hole.Predicate)) (good_one label_at) (good_run (IsPlaced hole.Predicate) (loose_placed hole.Predicate)))
 
-pub labelled_refused : (theorem : Bool) (s : List Mark) → Lacks label_at s → Refuses (Labelled theorem) s s
+pub labelled_refused : (theorem : Bool) (s : List Mark) → Lacks label_at s → RefusesAt (Labelled theorem) s s
 labelled_refused theorem s h =
     of_refused (labelled theorem) (Then (One label_at) (Run (IsPlaced hole.Predicate))) s s
     (one_refused label_at (Run (IsPlaced hole.Predicate)) s some_label (codes "x", 0) h some_label_is predicate_begins)
@@ -133,7 +133,7 @@ labelled_refused theorem s h =
 pub labelled_read : (theorem : Bool) (s m rest : List Mark) (x : List ℕ × ℕ) (t : Raw × ℕ) → One label_at limits s x m → Run (IsPlaced hole.Predicate) limits m t rest → Labelled theorem limits s (labelled theorem (x, t)) rest
 labelled_read theorem s m rest x t o h = record { from = (x, t); is = refl; part = record { middle = m; first = o; second = h } }
 
-pub labelled_stops : (theorem : Bool) (s m rest : List Mark) (x : List ℕ × ℕ) (e : Stop) → One label_at limits s x m → ReadsFormula (IsPlaced hole.Predicate) m (Err e) rest → Reads (Labelled theorem) s (Err e) rest
+pub labelled_stops : (theorem : Bool) (s m rest : List Mark) (x : List ℕ × ℕ) (e : Stop) → One label_at limits s x m → ReadsFormula (IsPlaced hole.Predicate) m (Err e) rest → ReadsOrStops (Labelled theorem) s (Err e) rest
 labelled_stops theorem s m rest x stop.Unexpected o h =
     of_refused (labelled theorem) (Then (One label_at) (Run (IsPlaced hole.Predicate))) s rest
     (label_refused (IsPlaced hole.Predicate) s m x o rest h.0 h.1 h.2)
@@ -147,7 +147,7 @@ name_alone (word w p) r e = cc
 name_alone (label l p) r e = cc
 name_alone (plain x) r e = all_plain (x ∷ []) refl
 
-pub word_alone : (w : List ℕ) → bytes_eq w (codes "variant") ≡ false → (y : Mark) → is_word w y ≡ true → NoFormula (y ∷ [])
+pub word_alone : (w : List ℕ) → bytes_eq w (codes "variant") ≡ false → (y : Mark) → is_word_mark w y ≡ true → NoFormula (y ∷ [])
 word_alone w isnt (word v p) e = behind_word [] v p [] refl (ap (λ u. bytes_eq u (codes "variant")) ((bytes_eq-Decides v w).0 e) ∙ isnt)
 word_alone w isnt (label l p) e = cc
 word_alone w isnt (plain x) e = cc
@@ -166,7 +166,7 @@ leaves_labelled theorem = leaves_formula (labelled theorem) label_at (IsPlaced h
 
 -- lines
 pub good_line : Good Line
-good_line = good_choice (is_word (codes "theorem")) (Labelled true) (Labelled false) (good_labelled true) (good_labelled false) refl
+good_line = good_choice (is_word_mark (codes "theorem")) (Labelled true) (Labelled false) (good_labelled true) (good_labelled false) refl
 
 pub behind_shorter : (s : List Mark) → length (behind_run s) ≤ length s
 behind_shorter [] = omega arith
@@ -182,7 +182,7 @@ pub line_takes : (b : Bounds) (s : List Mark) (x : RawLabelled) (m : List Mark) 
 line_takes b s x m (taken y t e is h) = omega (arith, ap length e, labelled_takes true b t x m h)
 line_takes b s x m (other e h) = labelled_takes false b s x m h
 
-label_is_no_theorem : is_word (codes "theorem") some_label ≡ false
+label_is_no_theorem : is_word_mark (codes "theorem") some_label ≡ false
 unfolding some_label
 label_is_no_theorem = refl
 
@@ -197,18 +197,18 @@ line_begins = record {
   });
 }
 
-pub line_reads : (s m rest : List Mark) (theorem : Bool) (r : Result RawLabelled Stop) → Takes (is_word (codes "theorem")) s theorem m → Reads (Labelled theorem) m r rest → Reads Line s r rest
+pub line_reads : (s m rest : List Mark) (theorem : Bool) (r : Result RawLabelled Stop) → Takes (is_word_mark (codes "theorem")) s theorem m → ReadsOrStops (Labelled theorem) m r rest → ReadsOrStops Line s r rest
 line_reads s m rest true (Ok x) k h = taken k.0 m k.1 k.2 h
-line_reads s m rest true (Err stop.Unexpected) k h = taken_refused (is_word (codes "theorem")) (Labelled true) (Labelled false) (word_alone (codes "theorem") refl) s m rest k.0 k.1 k.2 h
-line_reads s m rest true (Err stop.TooLarge) k h = taken_passes (is_word (codes "theorem")) (Labelled true) (Labelled false) (word_alone (codes "theorem") refl) s m rest k.0 k.1 k.2 h
+line_reads s m rest true (Err stop.Unexpected) k h = taken_refused (is_word_mark (codes "theorem")) (Labelled true) (Labelled false) (word_alone (codes "theorem") refl) s m rest k.0 k.1 k.2 h
+line_reads s m rest true (Err stop.TooLarge) k h = taken_passes (is_word_mark (codes "theorem")) (Labelled true) (Labelled false) (word_alone (codes "theorem") refl) s m rest k.0 k.1 k.2 h
 line_reads s m rest true (Err stop.OutOfMemory) k h = tt
 line_reads s m rest false (Ok x) k h = other k.1 (subst (λ t. Labelled false limits t x rest) k.0 h)
-line_reads s m rest false (Err stop.Unexpected) k h = other_refused (is_word (codes "theorem")) (Labelled true) (Labelled false) s rest k.1 line_begins (subst (λ t. Refuses (Labelled false) t rest) k.0 h)
-line_reads s m rest false (Err stop.TooLarge) k h = other_passes (is_word (codes "theorem")) (Labelled true) (Labelled false) s rest k.1 line_begins (subst (λ t. Passes (Labelled false) t rest) k.0 h)
+line_reads s m rest false (Err stop.Unexpected) k h = other_refused (is_word_mark (codes "theorem")) (Labelled true) (Labelled false) s rest k.1 line_begins (subst (λ t. RefusesAt (Labelled false) t rest) k.0 h)
+line_reads s m rest false (Err stop.TooLarge) k h = other_passes (is_word_mark (codes "theorem")) (Labelled true) (Labelled false) s rest k.1 line_begins (subst (λ t. Passes (Labelled false) t rest) k.0 h)
 line_reads s m rest false (Err stop.OutOfMemory) k h = tt
 
 pub leaves_line : Leaves Line
-leaves_line = leaves_choice (is_word (codes "theorem")) (Labelled true) (Labelled false) (good_labelled true) (word_alone (codes "theorem") refl) (leaves_labelled true) (leaves_labelled false)
+leaves_line = leaves_choice (is_word_mark (codes "theorem")) (Labelled true) (Labelled false) (good_labelled true) (word_alone (codes "theorem") refl) (leaves_labelled true) (leaves_labelled false)
 
 pub good_lines : Good Lines
 good_lines = good_many begins_line Line good_line refl line_takes
@@ -219,13 +219,13 @@ leaves_lines = leaves_many begins_line Line good_line good_lines.split leaves_li
 pub lines_skip : CanSkip Lines
 lines_skip = many_skip begins_line Line good_line refl line_takes
 
-pub lines_here : (s rest : List Mark) → is_at begins_line s ≡ true → Refuses Line s rest → Refuses Lines s rest
+pub lines_here : (s rest : List Mark) → is_at begins_line s ≡ true → RefusesAt Line s rest → RefusesAt Lines s rest
 lines_here = many_here begins_line Line good_line refl line_takes
 
 pub lines_here_passes : (s rest : List Mark) → is_at begins_line s ≡ true → Passes Line s rest → Passes Lines s rest
 lines_here_passes = many_here_passes begins_line Line good_line refl line_takes
 
-pub lines_later : (s m rest : List Mark) (x : RawLabelled) → is_at begins_line s ≡ true → Line limits s x m → Refuses Lines m rest → Refuses Lines s rest
+pub lines_later : (s m rest : List Mark) (x : RawLabelled) → is_at begins_line s ≡ true → Line limits s x m → RefusesAt Lines m rest → RefusesAt Lines s rest
 lines_later = many_later begins_line Line good_line refl line_takes leaves_line
 
 pub lines_later_passes : (s m rest : List Mark) (x : RawLabelled) → is_at begins_line s ≡ true → Line limits s x m → Passes Lines m rest → Passes Lines s rest
@@ -233,7 +233,7 @@ lines_later_passes = many_later_passes begins_line Line good_line refl line_take
 
 -- sections
 module _ {X : Type 0} (test : Mark → Bool) (P : Bounds → List Mark → List X → List Mark → Type 0) (words : (y : Mark) → test y ≡ true → NoFormula (y ∷ [])) where
-  pub section_reads : (s m rest : List Mark) (r : Result (List X) Stop) → Takes test s true m → Reads P m r rest → Reads (Choice test P (Nothing [])) s r rest
+  pub section_reads : (s m rest : List Mark) (r : Result (List X) Stop) → Takes test s true m → ReadsOrStops P m r rest → ReadsOrStops (Choice test P (Nothing [])) s r rest
   section_reads s m rest (Ok x) k h = taken k.0 m k.1 k.2 h
   section_reads s m rest (Err stop.Unexpected) k h = taken_refused test P (Nothing []) words s m rest k.0 k.1 k.2 h
   section_reads s m rest (Err stop.TooLarge) k h = taken_passes test P (Nothing []) words s m rest k.0 k.1 k.2 h
@@ -265,28 +265,28 @@ abbrev Axioms : Bounds → List Mark → List RawLabelled → List Mark → Type
 Axioms = LinesBehind (codes "axioms")
 
 pub good_extends : Good Extends
-good_extends = good_section (is_word (codes "extends")) SomeNames (word_alone (codes "extends") refl) good_some_names refl
+good_extends = good_section (is_word_mark (codes "extends")) SomeNames (word_alone (codes "extends") refl) good_some_names refl
 
 pub good_sets : Good Sets
-good_sets = good_section (is_word (codes "sets")) Names (word_alone (codes "sets") refl) good_names refl
+good_sets = good_section (is_word_mark (codes "sets")) Names (word_alone (codes "sets") refl) good_names refl
 
 pub good_constants : Good Constants
-good_constants = good_section (is_word (codes "constants")) Names (word_alone (codes "constants") refl) good_names refl
+good_constants = good_section (is_word_mark (codes "constants")) Names (word_alone (codes "constants") refl) good_names refl
 
 good_axioms : Good Axioms
-good_axioms = good_section (is_word (codes "axioms")) Lines (word_alone (codes "axioms") refl) good_lines refl
+good_axioms = good_section (is_word_mark (codes "axioms")) Lines (word_alone (codes "axioms") refl) good_lines refl
 
 skip_extends : CanSkip Extends
-skip_extends = section_skip (is_word (codes "extends")) SomeNames (word_alone (codes "extends") refl) refl
+skip_extends = section_skip (is_word_mark (codes "extends")) SomeNames (word_alone (codes "extends") refl) refl
 
 skip_sets : CanSkip Sets
-skip_sets = section_skip (is_word (codes "sets")) Names (word_alone (codes "sets") refl) refl
+skip_sets = section_skip (is_word_mark (codes "sets")) Names (word_alone (codes "sets") refl) refl
 
 skip_constants : CanSkip Constants
-skip_constants = section_skip (is_word (codes "constants")) Names (word_alone (codes "constants") refl) refl
+skip_constants = section_skip (is_word_mark (codes "constants")) Names (word_alone (codes "constants") refl) refl
 
 skip_axioms : CanSkip Axioms
-skip_axioms = section_skip (is_word (codes "axioms")) Lines (word_alone (codes "axioms") refl) refl
+skip_axioms = section_skip (is_word_mark (codes "axioms")) Lines (word_alone (codes "axioms") refl) refl
 
 -- from each clause on
 abbrev FromConstants : Bounds → List Mark → (List Ref × List RawLabelled) → List Mark → Type 0
@@ -312,16 +312,16 @@ good_context_body = good_of context_of (Then (One reference) FromExtends)
     (good_then (One reference) FromExtends (good_one reference) (good_then Extends FromSets good_extends (good_then Sets FromConstants good_sets (good_then Constants Axioms good_constants good_axioms))))
 
 leaves_extends : Leaves Extends
-leaves_extends = leaves_section (is_word (codes "extends")) SomeNames (word_alone (codes "extends") refl) good_some_names leaves_some_names
+leaves_extends = leaves_section (is_word_mark (codes "extends")) SomeNames (word_alone (codes "extends") refl) good_some_names leaves_some_names
 
 leaves_sets : Leaves Sets
-leaves_sets = leaves_section (is_word (codes "sets")) Names (word_alone (codes "sets") refl) good_names leaves_names
+leaves_sets = leaves_section (is_word_mark (codes "sets")) Names (word_alone (codes "sets") refl) good_names leaves_names
 
 leaves_constants : Leaves Constants
-leaves_constants = leaves_section (is_word (codes "constants")) Names (word_alone (codes "constants") refl) good_names leaves_names
+leaves_constants = leaves_section (is_word_mark (codes "constants")) Names (word_alone (codes "constants") refl) good_names leaves_names
 
 leaves_axioms : Leaves Axioms
-leaves_axioms = leaves_section (is_word (codes "axioms")) Lines (word_alone (codes "axioms") refl) good_lines leaves_lines
+leaves_axioms = leaves_section (is_word_mark (codes "axioms")) Lines (word_alone (codes "axioms") refl) good_lines leaves_lines
 
 pub leaves_context_body : Leaves ContextBody
 leaves_context_body = leaves_of context_of (Then (One reference) FromExtends)
@@ -341,11 +341,11 @@ context_body_begins = record {
   };
 }
 
-pub no_context_name : (s : List Mark) → Lacks reference s → Refuses ContextBody s s
+pub no_context_name : (s : List Mark) → Lacks reference s → RefusesAt ContextBody s s
 no_context_name s h = of_refused context_of (Then (One reference) FromExtends) s s (one_refused reference FromExtends s some_name some_ref h some_name_is (skip_begins FromExtends skip_from_extends parts))
 
 module _ (s a : List Mark) (n : Ref) (name : One reference limits s n a) where
-  behind_name_refused : (rest : List Mark) → Refuses FromExtends a rest → Refuses ContextBody s rest
+  behind_name_refused : (rest : List Mark) → RefusesAt FromExtends a rest → RefusesAt ContextBody s rest
   behind_name_refused rest h =
       of_refused context_of (Then (One reference) FromExtends) s rest
       (one_then_refused reference FromExtends s a rest n name h (name_alone name.mark n name.is))
@@ -353,37 +353,37 @@ module _ (s a : List Mark) (n : Ref) (name : One reference limits s n a) where
   behind_name_passes : (rest : List Mark) → Passes FromExtends a rest → Passes ContextBody s rest
   behind_name_passes rest h = of_passes context_of (Then (One reference) FromExtends) s rest (one_then_passes reference FromExtends s a rest n name h (name_alone name.mark n name.is))
 
-  pub extends_stops : (rest : List Mark) (e : Stop) → Reads Extends a (Err e) rest → Reads ContextBody s (Err e) rest
+  pub extends_stops : (rest : List Mark) (e : Stop) → ReadsOrStops Extends a (Err e) rest → ReadsOrStops ContextBody s (Err e) rest
   extends_stops rest stop.Unexpected h = behind_name_refused rest (first_refused Extends FromSets a rest h skip_from_sets)
   extends_stops rest stop.TooLarge h = behind_name_passes rest (first_passes Extends FromSets a rest h skip_from_sets)
   extends_stops rest stop.OutOfMemory h = tt
 
   module _ (b : List Mark) (es : List Ref) (extends : Extends limits a es b) where
-    behind_extends_refused : (rest : List Mark) → Refuses FromSets b rest → Refuses ContextBody s rest
+    behind_extends_refused : (rest : List Mark) → RefusesAt FromSets b rest → RefusesAt ContextBody s rest
     behind_extends_refused rest h = behind_name_refused rest (second_refused Extends FromSets good_extends leaves_extends a b rest es extends h skip_from_sets)
 
     behind_extends_passes : (rest : List Mark) → Passes FromSets b rest → Passes ContextBody s rest
     behind_extends_passes rest h = behind_name_passes rest (second_passes Extends FromSets good_extends leaves_extends a b rest es extends h skip_from_sets)
 
-    pub sets_stop : (rest : List Mark) (e : Stop) → Reads Sets b (Err e) rest → Reads ContextBody s (Err e) rest
+    pub sets_stop : (rest : List Mark) (e : Stop) → ReadsOrStops Sets b (Err e) rest → ReadsOrStops ContextBody s (Err e) rest
     sets_stop rest stop.Unexpected h = behind_extends_refused rest (first_refused Sets FromConstants b rest h skip_from_constants)
     sets_stop rest stop.TooLarge h = behind_extends_passes rest (first_passes Sets FromConstants b rest h skip_from_constants)
     sets_stop rest stop.OutOfMemory h = tt
 
     module _ (c : List Mark) (ss : List Ref) (sets : Sets limits b ss c) where
-      behind_sets_refused : (rest : List Mark) → Refuses FromConstants c rest → Refuses ContextBody s rest
+      behind_sets_refused : (rest : List Mark) → RefusesAt FromConstants c rest → RefusesAt ContextBody s rest
       behind_sets_refused rest h = behind_extends_refused rest (second_refused Sets FromConstants good_sets leaves_sets b c rest ss sets h skip_from_constants)
 
       behind_sets_passes : (rest : List Mark) → Passes FromConstants c rest → Passes ContextBody s rest
       behind_sets_passes rest h = behind_extends_passes rest (second_passes Sets FromConstants good_sets leaves_sets b c rest ss sets h skip_from_constants)
 
-      pub constants_stop : (rest : List Mark) (e : Stop) → Reads Constants c (Err e) rest → Reads ContextBody s (Err e) rest
+      pub constants_stop : (rest : List Mark) (e : Stop) → ReadsOrStops Constants c (Err e) rest → ReadsOrStops ContextBody s (Err e) rest
       constants_stop rest stop.Unexpected h = behind_sets_refused rest (first_refused Constants Axioms c rest h skip_axioms)
       constants_stop rest stop.TooLarge h = behind_sets_passes rest (first_passes Constants Axioms c rest h skip_axioms)
       constants_stop rest stop.OutOfMemory h = tt
 
       module _ (d : List Mark) (cs : List Ref) (constants : Constants limits c cs d) where
-        pub axioms_stop : (rest : List Mark) (e : Stop) → Reads Axioms d (Err e) rest → Reads ContextBody s (Err e) rest
+        pub axioms_stop : (rest : List Mark) (e : Stop) → ReadsOrStops Axioms d (Err e) rest → ReadsOrStops ContextBody s (Err e) rest
         axioms_stop rest stop.Unexpected h = behind_sets_refused rest (second_refused Constants Axioms good_constants leaves_constants c d rest cs constants h skip_axioms)
         axioms_stop rest stop.TooLarge h = behind_sets_passes rest (second_passes Constants Axioms good_constants leaves_constants c d rest cs constants h skip_axioms)
         axioms_stop rest stop.OutOfMemory h = tt
@@ -401,19 +401,19 @@ module _ (s a : List Mark) (n : Ref) (name : One reference limits s n a) where
 
 -- the exit of a `?`
 pub exit_with : {X : Type 0} (P : Bounds → List Mark → X → List Mark → Type 0) (old new : List Mark) (r : Result X Stop) (e : Stop) →
-    IsErrAnd r (λ d. d ≡ e) → Reads P old (Err e) new → Reads P old r new
+    IsErrAnd r (λ d. d ≡ e) → ReadsOrStops P old (Err e) new → ReadsOrStops P old r new
 exit_with P old new r e h k = let p = err_from_is_err_and r h in rw (p.1, p.2) k
 
-pub labelled_none : (theorem : Bool) (s m : List Mark) → (m ≡ s) × Lacks label_at s → Refuses (Labelled theorem) s m
-labelled_none theorem s m h = subst (λ t. Refuses (Labelled theorem) s t) (sym h.0) (labelled_refused theorem s h.1)
+pub labelled_none : (theorem : Bool) (s m : List Mark) → (m ≡ s) × Lacks label_at s → RefusesAt (Labelled theorem) s m
+labelled_none theorem s m h = subst (λ t. RefusesAt (Labelled theorem) s t) (sym h.0) (labelled_refused theorem s h.1)
 
-pub some_names_none : (s m : List Mark) → (m ≡ s) × Lacks reference s → Refuses SomeNames s m
-some_names_none s m h = subst (λ t. Refuses SomeNames s t) (sym h.0) (some_names_refused s h.1)
+pub some_names_none : (s m : List Mark) → (m ≡ s) × Lacks reference s → RefusesAt SomeNames s m
+some_names_none s m h = subst (λ t. RefusesAt SomeNames s t) (sym h.0) (some_names_refused s h.1)
 
-pub context_name_none : (s m : List Mark) → (m ≡ s) × Lacks reference s → Refuses ContextBody s m
-context_name_none s m h = subst (λ t. Refuses ContextBody s t) (sym h.0) (no_context_name s h.1)
+pub context_name_none : (s m : List Mark) → (m ≡ s) × Lacks reference s → RefusesAt ContextBody s m
+context_name_none s m h = subst (λ t. RefusesAt ContextBody s t) (sym h.0) (no_context_name s h.1)
 
-pub ends_or_more : (s m : List Mark) (b : Bool) → Takes (is_word (codes "end")) s true m → b ≡ (length m == 0) → Ends s b m
+pub ends_or_more : (s m : List Mark) (b : Bool) → Takes (is_word_mark (codes "end")) s true m → b ≡ (length m == 0) → TakesEnd s b m
 ends_or_more s [] true h e = let is = word_is (codes "end") h.0 h.2 in (is.0, h.1 ∙ ap (λ x. x ∷ []) is.1)
 ends_or_more s [] false h e = cc
 ends_or_more s (y ∷ m) true h e = let isnt : (suc (length m) == 0) ≡ false = grind (arith, nat_tests) in cc
@@ -442,33 +442,33 @@ pub lines_done : (old : List RawLabelled) (whole s : List Mark) → is_at begins
 lines_done old whole s isnt so_far = subst (λ ys. Lines limits whole ys s) (append-nil old) (so_far [] s (no_more isnt refl))
 
 -- a line that stops
-pub lines_stop : (whole s rest : List Mark) (e : Stop) → is_at begins_line s ≡ true → Reads Line s (Err e) rest →
-    ((r : List Mark) → Refuses Lines s r → Refuses Lines whole r) → ((r : List Mark) → Passes Lines s r → Passes Lines whole r) → Reads Lines whole (Err e) rest
+pub lines_stop : (whole s rest : List Mark) (e : Stop) → is_at begins_line s ≡ true → ReadsOrStops Line s (Err e) rest →
+    ((r : List Mark) → RefusesAt Lines s r → RefusesAt Lines whole r) → ((r : List Mark) → Passes Lines s r → Passes Lines whole r) → ReadsOrStops Lines whole (Err e) rest
 lines_stop whole s rest stop.Unexpected does h refused passed = refused rest (lines_here s rest does h)
 lines_stop whole s rest stop.TooLarge does h refused passed = passed rest (lines_here_passes s rest does h)
 lines_stop whole s rest stop.OutOfMemory does h refused passed = tt
 
 -- the whole context
-pub stops_in_body : (s m rest : List Mark) (p : ℕ) (e : Stop) → s ≡ word (codes "context") p ∷ m → Reads ContextBody m (Err e) rest → ReadsWhole IsContext s (Err e) rest
+pub stops_in_body : (s m rest : List Mark) (p : ℕ) (e : Stop) → s ≡ word (codes "context") p ∷ m → ReadsOrStops ContextBody m (Err e) rest → ReadsWhole IsContext s (Err e) rest
 stops_in_body s m rest p stop.Unexpected e h =
     (body_unexpected (codes "context") refl ContextBody s m rest p e h, body_wrong (codes "context") refl ContextBody s m p e h.wrong)
 stops_in_body s m rest p stop.TooLarge e h =
     (body_too_large (codes "context") refl ContextBody s m rest p e h, body_wrong (codes "context") refl ContextBody s m p e h.wrong)
 stops_in_body s m rest p stop.OutOfMemory e h = tt
 
-pub no_context : (s m : List Mark) → (m ≡ s) × (is_at (is_word (codes "context")) s ≡ false) → ReadsWhole IsContext s (Err stop.Unexpected) m
+pub no_context : (s m : List Mark) → (m ≡ s) × (is_at (is_word_mark (codes "context")) s ≡ false) → ReadsWhole IsContext s (Err stop.Unexpected) m
 no_context s m h = subst (λ t. ReadsWhole IsContext s (Err stop.Unexpected) t) (sym h.0)
     (head_unexpected (codes "context") refl ContextBody s h.1 context_body_begins, head_wrong (codes "context") refl ContextBody s h.1)
 
-pub context_read : (s m k rest : List Mark) (p : ℕ) (c : RawComponent) → s ≡ word (codes "context") p ∷ m → ContextBody limits m c k → Ends k true rest → IsContext limits s c
+pub context_read : (s m k rest : List Mark) (p : ℕ) (c : RawComponent) → s ≡ word (codes "context") p ∷ m → ContextBody limits m c k → TakesEnd k true rest → IsContext limits s c
 context_read s m k rest p c e h f = whole (codes "context") refl ContextBody s m k p f.0 c e h f.1
 
-pub context_unended : (s m k rest : List Mark) (p : ℕ) (c : RawComponent) → s ≡ word (codes "context") p ∷ m → ContextBody limits m c k → Ends k false rest → ReadsWhole IsContext s (Err stop.Unexpected) rest
+pub context_unended : (s m k rest : List Mark) (p : ℕ) (c : RawComponent) → s ≡ word (codes "context") p ∷ m → ContextBody limits m c k → TakesEnd k false rest → ReadsWhole IsContext s (Err stop.Unexpected) rest
 context_unended s m k rest p c e h (inl f) =
     subst (λ t. ReadsWhole IsContext s (Err stop.Unexpected) t) (sym f.0) (
       after_body (codes "context") refl ContextBody good_context_body leaves_context_body s m k p c e h f.1,
       end_wrong (codes "context") refl ContextBody good_context_body s m k p c e h
-          (λ q is. let does : is_at (is_word (codes "end")) k ≡ true = ap (is_at (is_word (codes "end"))) is in let contra : true ≡ false = sym does ∙ f.1 in cc),
+          (λ q is. let does : is_at (is_word_mark (codes "end")) k ≡ true = ap (is_at (is_word_mark (codes "end"))) is in let contra : true ≡ false = sym does ∙ f.1 in cc),
     )
 context_unended s m k rest p c e h (inr f) =
     let is : k ≡ word (codes "end") f.0 ∷ (f.1 ∷ f.2) = f.3 ∙ ap (λ t. word (codes "end") f.0 ∷ t) f.4 in
@@ -481,5 +481,5 @@ pub whole_exit : (s rest : List Mark) (r : Result RawComponent Stop) (e : Stop) 
 whole_exit s rest r e h k = let p = err_from_is_err_and r h in rw (p.1, p.2) k
 
 -- the word that was taken
-pub word_there : (w : List ℕ) (s m : List Mark) → Takes (is_word w) s true m → (p : ℕ) × (s ≡ word w p ∷ m)
+pub word_there : (w : List ℕ) (s m : List Mark) → Takes (is_word_mark w) s true m → (p : ℕ) × (s ≡ word w p ∷ m)
 word_there w s m k = let is = word_is w k.0 k.2 in (is.0, k.1 ∙ ap (λ x. x ∷ m) is.1)

@@ -22,12 +22,12 @@ use Rattle.model_core.specs.declared.component.RawEvent.{RawEvent}
 use Rattle.component_text.specs.declared.stop.Stop.{Stop}
 use Rattle.component_text.specs.declared.stop.Stop.TheVariants as stop
 use Rattle.component_text.specs.declared.machine.Abstracts.{Abstracts}
-use Rattle.component_text.specs.Marks.{Mark, word, label, plain, run, is_word, is_at}
+use Rattle.component_text.specs.Marks.{Mark, word, label, plain, token_run, is_word_mark, is_at}
 use Rattle.component_text.specs.Forms.{Bounds, limits, parts, One, Run, Nothing, Then, Choice, taken, other, Of}
 use Rattle.component_text.specs.Grammar.{IsPlaced, reference, label_at, is_a_label, SomeNames, Names, Labelled, Lines, SomeNamesBehind, NamesBehind, LinesBehind}
-use Rattle.component_text.specs.Machines.{IsAct, word_at, Refines, Expression, VariantExpression, variant_of, Variant, Witnesses, step, Step, Steps, extending, refining, References, either, Guards, With, Actions, event_of, EventBody, Event, begins_event, EventList, Events, machine_of, MachineBody}
+use Rattle.component_text.specs.Machines.{IsActionWithin, word_at, Refines, Expression, VariantExpression, variant_of, Variant, Witnesses, labelled_step, Step, ManySteps, extending, refining, References, either, Guards, With, Actions, event_of, EventBody, Event, begins_event, EventList, Events, machine_of, MachineBody}
 use Rattle.component_text.specs.Faults.{opens_formula}
-use Rattle.component_text.specs.PrivateReading.{end_mark, BeginsIn, Begins, NoneHasIn, Refuses, Reads, Takes, Lacks, ReadsFormula, is_plain, AreShort, NoFormula}
+use Rattle.component_text.specs.PrivateReading.{end_mark, BeginsIn, Begins, NoneHasIn, RefusesAt, ReadsOrStops, Takes, Lacks, ReadsFormula, is_plain, AreShort, NoFormula}
 use Rattle.component_text.proofs.Looser.{action_looser, loose}
 use Rattle.std.proofs.lemmas.List.{append_cancel_right}
 use Rattle.component_text.proofs.Shorts.{short_append, run_short, before_label}
@@ -41,13 +41,13 @@ use Rattle.component_text.proofs.Components.{some_ref, some_name, some_name_is, 
 
 -- a structural word
 either_alone : (v w : List ℕ) → bytes_eq v (codes "variant") ≡ false → bytes_eq w (codes "variant") ≡ false → (y : Mark) → either v w y ≡ true → NoFormula (y ∷ [])
-either_alone v w p q y e = go (is_word v y) refl e
+either_alone v w p q y e = go (is_word_mark v y) refl e
   where
-    go : (b : Bool) → is_word v y ≡ b → (b || is_word w y) ≡ true → NoFormula (y ∷ [])
+    go : (b : Bool) → is_word_mark v y ≡ b → (b || is_word_mark w y) ≡ true → NoFormula (y ∷ [])
     go true is h = word_alone v p y is
     go false is h = word_alone w q y h
 
-word_at_is : (w : List ℕ) (y : Mark) (p : ℕ) → word_at w y ≡ Some p → is_word w y ≡ true
+word_at_is : (w : List ℕ) (y : Mark) (p : ℕ) → word_at w y ≡ Some p → is_word_mark w y ≡ true
 word_at_is w (label l q) p e = cc
 word_at_is w (plain x) p e = cc
 word_at_is w (word v q) p e = go (bytes_eq v w) e
@@ -59,15 +59,15 @@ word_at_is w (word v q) p e = go (bytes_eq v w) e
 pub word_at_alone : (w : List ℕ) → bytes_eq w (codes "variant") ≡ false → (y : Mark) (p : ℕ) → word_at w y ≡ Some p → NoFormula (y ∷ [])
 word_at_alone w isnt y p e = word_alone w isnt y (word_at_is w y p e)
 
-pub word_taken : (w : List ℕ) (s m : List Mark) → Takes (is_word w) s true m → (p : ℕ) × One (word_at w) limits s p m
+pub word_taken : (w : List ℕ) (s m : List Mark) → Takes (is_word_mark w) s true m → (p : ℕ) × One (word_at w) limits s p m
 word_taken w s m k =
     let is = word_there w s m k in
     (is.0, record { mark = word w is.0; there = is.1; is = ap (λ b. cond {A = Option ℕ} b (Some is.0) None) (same_word w) })
 
-pub word_lacks : (w : List ℕ) (s m : List Mark) → Takes (is_word w) s false m → (m ≡ s) × Lacks (word_at w) s
+pub word_lacks : (w : List ℕ) (s m : List Mark) → Takes (is_word_mark w) s false m → (m ≡ s) × Lacks (word_at w) s
 word_lacks w s m k = (k.0, go s k.1)
   where
-    go : (s : List Mark) → is_at (is_word w) s ≡ false → Lacks (word_at w) s
+    go : (s : List Mark) → is_at (is_word_mark w) s ≡ false → Lacks (word_at w) s
     go [] e = tt
     go (word v p ∷ s) e = ap (λ b. cond {A = Option ℕ} b (Some p) None) e
     go (label l p ∷ s) e = refl
@@ -86,20 +86,20 @@ module _ {X : Type 0} (test : Mark → Bool) (absent : X) (P : Bounds → List M
 
 -- "refines" name
 pub good_refines : Good Refines
-good_refines = good_optional (is_word (codes "refines")) None (Of Some (One reference)) (good_of Some (One reference) (good_one reference)) refl
+good_refines = good_optional (is_word_mark (codes "refines")) None (Of Some (One reference)) (good_of Some (One reference) (good_one reference)) refl
 
 skip_refines : CanSkip Refines
-skip_refines = skip_optional (is_word (codes "refines")) None (Of Some (One reference)) refl
+skip_refines = skip_optional (is_word_mark (codes "refines")) None (Of Some (One reference)) refl
 
 leaves_refines : Leaves Refines
-leaves_refines = leaves_optional (is_word (codes "refines")) None (Of Some (One reference)) (word_alone (codes "refines") refl) (good_of Some (One reference) (good_one reference)) (leaves_of Some (One reference) leaves_name)
+leaves_refines = leaves_optional (is_word_mark (codes "refines")) None (Of Some (One reference)) (word_alone (codes "refines") refl) (good_of Some (One reference) (good_one reference)) (leaves_of Some (One reference) leaves_name)
 
-pub refines_none : (s m k : List Mark) → Takes (is_word (codes "refines")) s true m → (k ≡ m) × Lacks reference m → Refuses Refines s k
+pub refines_none : (s m k : List Mark) → Takes (is_word_mark (codes "refines")) s true m → (k ≡ m) × Lacks reference m → RefusesAt Refines s k
 refines_none s m k t h =
-    taken_reads (is_word (codes "refines")) (Of Some (One reference)) (Nothing None) (word_alone (codes "refines") refl) s m k (Err stop.Unexpected) t
+    taken_reads (is_word_mark (codes "refines")) (Of Some (One reference)) (Nothing None) (word_alone (codes "refines") refl) s m k (Err stop.Unexpected) t
     (of_stops Some (One reference) m k stop.Unexpected (one_missing reference m k some_name some_ref h some_name_is))
 
-pub refines_read : (s m rest : List Mark) (n : Ref) → Takes (is_word (codes "refines")) s true m → One reference limits m n rest → Refines limits s (Some n) rest
+pub refines_read : (s m rest : List Mark) (n : Ref) → Takes (is_word_mark (codes "refines")) s true m → One reference limits m n rest → Refines limits s (Some n) rest
 refines_read s m rest n t h = taken t.0 m t.1 t.2 (record { from = n; is = refl; part = h })
 
 -- "variant"
@@ -110,10 +110,10 @@ pub good_variant_expression : Good VariantExpression
 good_variant_expression = good_choice is_a_label Expression Expression good_expression good_expression refl
 
 pub good_variant : Good Variant
-good_variant = good_optional (is_word (codes "variant")) None (Of variant_of VariantExpression) (good_of variant_of VariantExpression good_variant_expression) refl
+good_variant = good_optional (is_word_mark (codes "variant")) None (Of variant_of VariantExpression) (good_of variant_of VariantExpression good_variant_expression) refl
 
 skip_variant : CanSkip Variant
-skip_variant = skip_optional (is_word (codes "variant")) None (Of variant_of VariantExpression) refl
+skip_variant = skip_optional (is_word_mark (codes "variant")) None (Of variant_of VariantExpression) refl
 
 expression_ended : (b : Bounds) (s : List Mark) (x : Raw × ℕ) (m : List Mark) → VariantExpression b s x m → Ended m
 expression_ended b s x m (taken y t e is h) = subst Ended (sym h.behind) (run_ends t)
@@ -155,7 +155,7 @@ unlabelled b f c =
     let k = run_begins IsExpression b f c in
     record { more = k.more; value = k.value; goes_on = λ tail. other (not_label b (map plain f ++ (k.more ++ end_mark ∷ tail)) k.value (end_mark ∷ tail) (k.goes_on tail) refl) (k.goes_on tail) }
 
-variant_opens : (y : Mark) → is_word (codes "variant") y ≡ true → opens_formula y ≡ true
+variant_opens : (y : Mark) → is_word_mark (codes "variant") y ≡ true → opens_formula y ≡ true
 variant_opens (word w p) e = e
 variant_opens (label l p) e = cc
 variant_opens (plain x) e = cc
@@ -165,30 +165,30 @@ label_opens_one (label l p) e = refl
 label_opens_one (word w p) e = cc
 label_opens_one (plain x) e = cc
 
-module _ (s m k : List Mark) (v : Takes (is_word (codes "variant")) s true m) where
+module _ (s m k : List Mark) (v : Takes (is_word_mark (codes "variant")) s true m) where
   abbrev OfVariant : Bounds → List Mark → Option RawVariant → List Mark → Type 0
   OfVariant = Of variant_of VariantExpression
 
   module _ (l : Takes is_a_label m true k) where
     labelled_begins : (b : Bounds) (f : List Item) → BeginsOne (IsExpression b) f → BeginsIn b Variant (v.0 ∷ (l.0 ∷ map plain f))
     labelled_begins b f c =
-        taken_begins (is_word (codes "variant")) OfVariant (Nothing None) b v.0 (l.0 ∷ map plain f) v.2
+        taken_begins (is_word_mark (codes "variant")) OfVariant (Nothing None) b v.0 (l.0 ∷ map plain f) v.2
         (of_begins variant_of VariantExpression b (l.0 ∷ map plain f) (taken_begins is_a_label Expression Expression b l.0 (map plain f) l.2 (run_begins IsExpression b f c)))
 
     labelled_nowhere : (b : Bounds) (before rest : List Mark) → k ≡ before ++ rest → NoneHasIn b Expression before rest → NoneHasIn b Variant (v.0 ∷ (l.0 ∷ before)) rest
     labelled_nowhere b before rest e n =
-        taken_nowhere (is_word (codes "variant")) OfVariant (Nothing None) b v.0 (l.0 ∷ before) rest v.2
+        taken_nowhere (is_word_mark (codes "variant")) OfVariant (Nothing None) b v.0 (l.0 ∷ before) rest v.2
         (of_nowhere variant_of VariantExpression b (l.0 ∷ before) rest (taken_nowhere is_a_label Expression Expression b l.0 before rest l.2 n))
 
-    labelled_wrong : ((x : Raw × ℕ) → IsExpression limits (run k) x → ⊥) → (z : Option RawVariant) (r : List Mark) → Variant limits s z r → ⊥
+    labelled_wrong : ((x : Raw × ℕ) → IsExpression limits (token_run k) x → ⊥) → (z : Option RawVariant) (r : List Mark) → Variant limits s z r → ⊥
     labelled_wrong isnt =
-        taken_wrong (is_word (codes "variant")) OfVariant (Nothing None) s m v.0 v.1 v.2
+        taken_wrong (is_word_mark (codes "variant")) OfVariant (Nothing None) s m v.0 v.1 v.2
         (λ z r h. taken_wrong is_a_label Expression Expression m k l.0 l.1 l.2 (λ x t p. isnt x p.spelled) h.from r h.part)
 
     labelled_there : s ≡ (v.0 ∷ []) ++ l.0 ∷ k
     labelled_there = v.1 ∙ ap (λ t. v.0 ∷ t) l.1
 
-    pub labelled_variant_stops : (rest : List Mark) (e : Stop) → ReadsFormula IsExpression k (Err e) rest → Reads Variant s (Err e) rest
+    pub labelled_variant_stops : (rest : List Mark) (e : Stop) → ReadsFormula IsExpression k (Err e) rest → ReadsOrStops Variant s (Err e) rest
     labelled_variant_stops rest stop.Unexpected h =
         opened_refused IsExpression Variant (v.0 ∷ []) l.0 s k labelled_there (label_opens_one l.0 l.2) (λ t. before_label v.0 l.0 t l.2) labelled_begins labelled_nowhere labelled_wrong rest h.0 h.1 h.2
     labelled_variant_stops rest stop.TooLarge h =
@@ -198,24 +198,24 @@ module _ (s m k : List Mark) (v : Takes (is_word (codes "variant")) s true m) wh
   module _ (isnt_label : is_at is_a_label m ≡ false) where
     bare_begins : (b : Bounds) (f : List Item) → BeginsOne (IsExpression b) f → BeginsIn b Variant (v.0 ∷ map plain f)
     bare_begins b f c =
-        taken_begins (is_word (codes "variant")) OfVariant (Nothing None) b v.0 (map plain f) v.2 (of_begins variant_of VariantExpression b (map plain f) (unlabelled b f c))
+        taken_begins (is_word_mark (codes "variant")) OfVariant (Nothing None) b v.0 (map plain f) v.2 (of_begins variant_of VariantExpression b (map plain f) (unlabelled b f c))
 
     bare_nowhere : (b : Bounds) (before rest : List Mark) → m ≡ before ++ rest → NoneHasIn b Expression before rest → NoneHasIn b Variant (v.0 ∷ before) rest
     bare_nowhere b before rest e n =
-        taken_nowhere (is_word (codes "variant")) OfVariant (Nothing None) b v.0 before rest v.2
+        taken_nowhere (is_word_mark (codes "variant")) OfVariant (Nothing None) b v.0 before rest v.2
         (of_nowhere variant_of VariantExpression b before rest (other_nowhere is_a_label Expression Expression b m before rest e isnt_label n))
 
-    bare_wrong : ((x : Raw × ℕ) → IsExpression limits (run m) x → ⊥) → (z : Option RawVariant) (r : List Mark) → Variant limits s z r → ⊥
+    bare_wrong : ((x : Raw × ℕ) → IsExpression limits (token_run m) x → ⊥) → (z : Option RawVariant) (r : List Mark) → Variant limits s z r → ⊥
     bare_wrong isnt =
-        taken_wrong (is_word (codes "variant")) OfVariant (Nothing None) s m v.0 v.1 v.2
+        taken_wrong (is_word_mark (codes "variant")) OfVariant (Nothing None) s m v.0 v.1 v.2
         (λ z r h. other_wrong is_a_label Expression Expression m isnt_label (λ x t p. isnt x p.spelled) h.from r h.part)
 
-    bare_variant_stops : (rest : List Mark) (e : Stop) → ReadsFormula IsExpression m (Err e) rest → Reads Variant s (Err e) rest
+    bare_variant_stops : (rest : List Mark) (e : Stop) → ReadsFormula IsExpression m (Err e) rest → ReadsOrStops Variant s (Err e) rest
     bare_variant_stops rest stop.Unexpected h = opened_refused IsExpression Variant [] v.0 s m v.1 (variant_opens v.0 v.2) (λ t. tt) bare_begins bare_nowhere bare_wrong rest h.0 h.1 h.2
     bare_variant_stops rest stop.TooLarge h = opened_passes IsExpression Variant [] v.0 s m v.1 (variant_opens v.0 v.2) (λ t. tt) bare_begins bare_nowhere bare_wrong rest h.0 h.1 h.2
     bare_variant_stops rest stop.OutOfMemory h = tt
 
-  pub variant_stops : (rest : List Mark) (b : Bool) (e : Stop) → Takes is_a_label m b k → ReadsFormula IsExpression k (Err e) rest → Reads Variant s (Err e) rest
+  pub variant_stops : (rest : List Mark) (b : Bool) (e : Stop) → Takes is_a_label m b k → ReadsFormula IsExpression k (Err e) rest → ReadsOrStops Variant s (Err e) rest
   variant_stops rest true e l h = labelled_variant_stops l rest e h
   variant_stops rest false e l h = bare_variant_stops l.1 rest e (subst (λ t. ReadsFormula IsExpression t (Err e) rest) l.0 h)
 
@@ -228,35 +228,35 @@ abbrev Extended : Bounds → List Mark → Abstracts → List Mark → Type 0
 Extended = Of extending (One reference)
 
 pub good_refined_names : Good (SomeNamesBehind (codes "refines"))
-good_refined_names = good_section (is_word (codes "refines")) SomeNames (word_alone (codes "refines") refl) good_some_names refl
+good_refined_names = good_section (is_word_mark (codes "refines")) SomeNames (word_alone (codes "refines") refl) good_some_names refl
 
 pub good_references : Good References
-good_references = good_choice (is_word (codes "extends")) Extended (Of refining (SomeNamesBehind (codes "refines"))) (good_of extending (One reference) (good_one reference))
+good_references = good_choice (is_word_mark (codes "extends")) Extended (Of refining (SomeNamesBehind (codes "refines"))) (good_of extending (One reference) (good_one reference))
     (good_of refining (SomeNamesBehind (codes "refines")) good_refined_names) refl
 
 skip_references : CanSkip References
-skip_references = other_skip (is_word (codes "extends")) Extended (Of refining (SomeNamesBehind (codes "refines"))) refl
-    (of_skip refining (SomeNamesBehind (codes "refines")) (section_skip (is_word (codes "refines")) SomeNames (word_alone (codes "refines") refl) refl))
+skip_references = other_skip (is_word_mark (codes "extends")) Extended (Of refining (SomeNamesBehind (codes "refines"))) refl
+    (of_skip refining (SomeNamesBehind (codes "refines")) (section_skip (is_word_mark (codes "refines")) SomeNames (word_alone (codes "refines") refl) refl))
 
 leaves_references : Leaves References
-leaves_references = leaves_choice (is_word (codes "extends")) Extended (Of refining (SomeNamesBehind (codes "refines"))) (good_of extending (One reference) (good_one reference)) (word_alone (codes "extends") refl)
+leaves_references = leaves_choice (is_word_mark (codes "extends")) Extended (Of refining (SomeNamesBehind (codes "refines"))) (good_of extending (One reference) (good_one reference)) (word_alone (codes "extends") refl)
     (leaves_of extending (One reference) leaves_name)
-    (leaves_of refining (SomeNamesBehind (codes "refines")) (leaves_section (is_word (codes "refines")) SomeNames (word_alone (codes "refines") refl) good_some_names leaves_some_names))
+    (leaves_of refining (SomeNamesBehind (codes "refines")) (leaves_section (is_word_mark (codes "refines")) SomeNames (word_alone (codes "refines") refl) good_some_names leaves_some_names))
 
-pub extended_none : (s m k : List Mark) → Takes (is_word (codes "extends")) s true m → (k ≡ m) × Lacks reference m → Refuses References s k
+pub extended_none : (s m k : List Mark) → Takes (is_word_mark (codes "extends")) s true m → (k ≡ m) × Lacks reference m → RefusesAt References s k
 extended_none s m k t h =
-    taken_reads (is_word (codes "extends")) Extended (Of refining (SomeNamesBehind (codes "refines"))) (word_alone (codes "extends") refl) s m k (Err stop.Unexpected) t
+    taken_reads (is_word_mark (codes "extends")) Extended (Of refining (SomeNamesBehind (codes "refines"))) (word_alone (codes "extends") refl) s m k (Err stop.Unexpected) t
     (of_stops extending (One reference) m k stop.Unexpected (one_missing reference m k some_name some_ref h some_name_is))
 
-pub extended_read : (s m rest : List Mark) (n : Ref) → Takes (is_word (codes "extends")) s true m → One reference limits m n rest → References limits s (record { extended = true; names = n ∷ [] }) rest
+pub extended_read : (s m rest : List Mark) (n : Ref) → Takes (is_word_mark (codes "extends")) s true m → One reference limits m n rest → References limits s (record { extended = true; names = n ∷ [] }) rest
 extended_read s m rest n t h = taken t.0 m t.1 t.2 (record { from = n; is = refl; part = h })
 
-pub refined_stops : (s m rest : List Mark) (e : Stop) → Takes (is_word (codes "extends")) s false m → Reads (SomeNamesBehind (codes "refines")) m (Err e) rest → Reads References s (Err e) rest
+pub refined_stops : (s m rest : List Mark) (e : Stop) → Takes (is_word_mark (codes "extends")) s false m → ReadsOrStops (SomeNamesBehind (codes "refines")) m (Err e) rest → ReadsOrStops References s (Err e) rest
 refined_stops s m rest e t h =
-    other_reads (is_word (codes "extends")) Extended (Of refining (SomeNamesBehind (codes "refines"))) (skip_begins References skip_references parts) s m rest (Err e) t
+    other_reads (is_word_mark (codes "extends")) Extended (Of refining (SomeNamesBehind (codes "refines"))) (skip_begins References skip_references parts) s m rest (Err e) t
     (of_stops refining (SomeNamesBehind (codes "refines")) m rest e h)
 
-pub refined_read : (s m rest : List Mark) (ns : List Ref) → Takes (is_word (codes "extends")) s false m → SomeNamesBehind (codes "refines") limits m ns rest → References limits s (record { extended = false; names = ns }) rest
+pub refined_read : (s m rest : List Mark) (ns : List Ref) → Takes (is_word_mark (codes "extends")) s false m → SomeNamesBehind (codes "refines") limits m ns rest → References limits s (record { extended = false; names = ns }) rest
 refined_read s m rest ns t h = other t.1 (subst (λ u. Of refining (SomeNamesBehind (codes "refines")) limits u (refining ns) rest) t.0 (record { from = ns; is = refl; part = h }))
 
 -- guards, witnesses and actions
@@ -279,26 +279,26 @@ leaves_witnesses : Leaves Witnesses
 leaves_witnesses = leaves_many is_a_label (Labelled false) good_witness good_witnesses.split leaves_witness
 
 pub step_takes : (b : Bounds) (s : List Mark) (x : RawStep) (m : List Mark) → Step b s x m → length m < length s
-step_takes b s x m h = labelled_shorter IsAct b s h.from m h.part
+step_takes b s x m h = labelled_shorter IsActionWithin b s h.from m h.part
 
 pub good_step : Good Step
-good_step = good_of step (Then (One label_at) (Run IsAct)) (good_then (One label_at) (Run IsAct) (good_one label_at) (good_run IsAct (loose SpellsAction action_looser)))
+good_step = good_of labelled_step (Then (One label_at) (Run IsActionWithin)) (good_then (One label_at) (Run IsActionWithin) (good_one label_at) (good_run IsActionWithin (loose SpellsAction action_looser)))
 
-pub good_steps : Good Steps
+pub good_steps : Good ManySteps
 good_steps = good_many is_a_label Step good_step refl step_takes
 
 pub leaves_step : Leaves Step
-leaves_step = leaves_formula step label_at IsAct (λ f a k. k.1)
+leaves_step = leaves_formula labelled_step label_at IsActionWithin (λ f a k. k.1)
 
-leaves_steps : Leaves Steps
+leaves_steps : Leaves ManySteps
 leaves_steps = leaves_many is_a_label Step good_step good_steps.split leaves_step
 
-pub step_stops : (s m rest : List Mark) (x : List ℕ × ℕ) (e : Stop) → One label_at limits s x m → ReadsFormula IsAct m (Err e) rest → Reads Step s (Err e) rest
-step_stops s m rest x stop.Unexpected o h = of_stops step (Then (One label_at) (Run IsAct)) s rest stop.Unexpected (label_refused IsAct s m x o rest h.0 h.1 h.2)
-step_stops s m rest x stop.TooLarge o h = of_stops step (Then (One label_at) (Run IsAct)) s rest stop.TooLarge (label_passes IsAct s m x o rest h.0 h.1 h.2)
+pub step_stops : (s m rest : List Mark) (x : List ℕ × ℕ) (e : Stop) → One label_at limits s x m → ReadsFormula IsActionWithin m (Err e) rest → ReadsOrStops Step s (Err e) rest
+step_stops s m rest x stop.Unexpected o h = of_stops labelled_step (Then (One label_at) (Run IsActionWithin)) s rest stop.Unexpected (label_refused IsActionWithin s m x o rest h.0 h.1 h.2)
+step_stops s m rest x stop.TooLarge o h = of_stops labelled_step (Then (One label_at) (Run IsActionWithin)) s rest stop.TooLarge (label_passes IsActionWithin s m x o rest h.0 h.1 h.2)
 step_stops s m rest x stop.OutOfMemory o h = tt
 
-pub step_read : (s m rest : List Mark) (x : List ℕ × ℕ) (a : RawAction) → One label_at limits s x m → Run IsAct limits m a rest → Step limits s (step (x, a)) rest
+pub step_read : (s m rest : List Mark) (x : List ℕ × ℕ) (a : RawAction) → One label_at limits s x m → Run IsActionWithin limits m a rest → Step limits s (labelled_step (x, a)) rest
 step_read s m rest x a o h = record { from = (x, a); is = refl; part = record { middle = m; first = o; second = h } }
 
 pub good_guards : Good Guards
@@ -311,31 +311,31 @@ leaves_guards : Leaves Guards
 leaves_guards = leaves_optional (either (codes "where") (codes "when")) [] Lines (either_alone (codes "where") (codes "when") refl refl) good_lines leaves_lines
 
 pub good_with : Good With
-good_with = good_optional (is_word (codes "with")) [] Witnesses good_witnesses refl
+good_with = good_optional (is_word_mark (codes "with")) [] Witnesses good_witnesses refl
 
 skip_with : CanSkip With
-skip_with = skip_optional (is_word (codes "with")) [] Witnesses refl
+skip_with = skip_optional (is_word_mark (codes "with")) [] Witnesses refl
 
 leaves_with : Leaves With
-leaves_with = leaves_optional (is_word (codes "with")) [] Witnesses (word_alone (codes "with") refl) good_witnesses leaves_witnesses
+leaves_with = leaves_optional (is_word_mark (codes "with")) [] Witnesses (word_alone (codes "with") refl) good_witnesses leaves_witnesses
 
 pub good_actions : Good Actions
-good_actions = good_optional (either (codes "then") (codes "begin")) [] Steps good_steps refl
+good_actions = good_optional (either (codes "then") (codes "begin")) [] ManySteps good_steps refl
 
 skip_actions : CanSkip Actions
-skip_actions = skip_optional (either (codes "then") (codes "begin")) [] Steps refl
+skip_actions = skip_optional (either (codes "then") (codes "begin")) [] ManySteps refl
 
 leaves_actions : Leaves Actions
-leaves_actions = leaves_optional (either (codes "then") (codes "begin")) [] Steps (either_alone (codes "then") (codes "begin") refl refl) good_steps leaves_steps
+leaves_actions = leaves_optional (either (codes "then") (codes "begin")) [] ManySteps (either_alone (codes "then") (codes "begin") refl refl) good_steps leaves_steps
 
-pub guards_read : (s m rest : List Mark) (r : Result (List RawLabelled) Stop) → Takes (either (codes "where") (codes "when")) s true m → Reads Lines m r rest → Reads Guards s r rest
+pub guards_read : (s m rest : List Mark) (r : Result (List RawLabelled) Stop) → Takes (either (codes "where") (codes "when")) s true m → ReadsOrStops Lines m r rest → ReadsOrStops Guards s r rest
 guards_read = taken_reads (either (codes "where") (codes "when")) Lines (Nothing []) (either_alone (codes "where") (codes "when") refl refl)
 
-pub with_reads : (s m rest : List Mark) (r : Result (List RawLabelled) Stop) → Takes (is_word (codes "with")) s true m → Reads Witnesses m r rest → Reads With s r rest
-with_reads = taken_reads (is_word (codes "with")) Witnesses (Nothing []) (word_alone (codes "with") refl)
+pub with_reads : (s m rest : List Mark) (r : Result (List RawLabelled) Stop) → Takes (is_word_mark (codes "with")) s true m → ReadsOrStops Witnesses m r rest → ReadsOrStops With s r rest
+with_reads = taken_reads (is_word_mark (codes "with")) Witnesses (Nothing []) (word_alone (codes "with") refl)
 
-pub actions_read : (s m rest : List Mark) (r : Result (List RawStep) Stop) → Takes (either (codes "then") (codes "begin")) s true m → Reads Steps m r rest → Reads Actions s r rest
-actions_read = taken_reads (either (codes "then") (codes "begin")) Steps (Nothing []) (either_alone (codes "then") (codes "begin") refl refl)
+pub actions_read : (s m rest : List Mark) (r : Result (List RawStep) Stop) → Takes (either (codes "then") (codes "begin")) s true m → ReadsOrStops ManySteps m r rest → ReadsOrStops Actions s r rest
+actions_read = taken_reads (either (codes "then") (codes "begin")) ManySteps (Nothing []) (either_alone (codes "then") (codes "begin") refl refl)
 
 -- an event, from each clause on
 abbrev EndWord : Bounds → List Mark → ℕ → List Mark → Type 0
@@ -366,10 +366,10 @@ abbrev FromEvent : Bounds → List Mark → (ℕ × (Ref × (Abstracts × (List 
 FromEvent = Then (One (word_at (codes "event"))) FromName
 
 pub good_any : Good Any
-good_any = good_section (is_word (codes "any")) Names (word_alone (codes "any") refl) good_names refl
+good_any = good_section (is_word_mark (codes "any")) Names (word_alone (codes "any") refl) good_names refl
 
 leaves_any : Leaves Any
-leaves_any = leaves_section (is_word (codes "any")) Names (word_alone (codes "any") refl) good_names leaves_names
+leaves_any = leaves_section (is_word_mark (codes "any")) Names (word_alone (codes "any") refl) good_names leaves_names
 
 skip_end : CanSkip EndWord
 skip_end = record { fill = end_mark ∷ []; value = 0; behind = λ tail. end_mark ∷ tail; starts = λ tail. refl; skips = λ b tail. record { mark = end_mark; there = refl; is = refl } }
@@ -384,7 +384,7 @@ skip_from_guards : CanSkip FromGuards
 skip_from_guards = both_skip Guards FromWith skip_guards skip_from_with
 
 skip_from_any : CanSkip FromAny
-skip_from_any = both_skip Any FromGuards (section_skip (is_word (codes "any")) Names (word_alone (codes "any") refl) refl) skip_from_guards
+skip_from_any = both_skip Any FromGuards (section_skip (is_word_mark (codes "any")) Names (word_alone (codes "any") refl) refl) skip_from_guards
 
 skip_from_references : CanSkip FromReferences
 skip_from_references = both_skip References FromAny skip_references skip_from_any
@@ -450,60 +450,60 @@ event_body_begins c = record {
 }
 
 module _ (c : Convergence) where
-  pub event_missing : (s m : List Mark) → Takes (is_word (codes "event")) s false m → Refuses (EventBody c) s m
+  pub event_missing : (s m : List Mark) → Takes (is_word_mark (codes "event")) s false m → RefusesAt (EventBody c) s m
   event_missing s m t = of_stops (event_of c) FromEvent s m stop.Unexpected (one_missing_first (word_at (codes "event")) FromName s m event_mark 0 (word_lacks (codes "event") s m t) event_mark_is name_begins)
 
-  module _ (s a : List Mark) (t : Takes (is_word (codes "event")) s true a) where
-    behind_event : (rest : List Mark) (e : Stop) → Reads FromName a (Err e) rest → Reads (EventBody c) s (Err e) rest
+  module _ (s a : List Mark) (t : Takes (is_word_mark (codes "event")) s true a) where
+    behind_event : (rest : List Mark) (e : Stop) → ReadsOrStops FromName a (Err e) rest → ReadsOrStops (EventBody c) s (Err e) rest
     behind_event rest e h =
         let w = word_taken (codes "event") s a t in
         of_stops (event_of c) FromEvent s rest e (one_stops (word_at (codes "event")) FromName (word_at_alone (codes "event") refl) s a rest w.0 e w.1 h)
 
-    pub event_name_missing : (m : List Mark) → (m ≡ a) × Lacks reference a → Refuses (EventBody c) s m
+    pub event_name_missing : (m : List Mark) → (m ≡ a) × Lacks reference a → RefusesAt (EventBody c) s m
     event_name_missing m h = behind_event m stop.Unexpected (one_missing_first reference FromReferences a m some_name some_ref h some_name_is (skip_begins FromReferences skip_from_references parts))
 
     module _ (b : List Mark) (n : Ref) (name : One reference limits a n b) where
-      behind_event_name : (rest : List Mark) (e : Stop) → Reads FromReferences b (Err e) rest → Reads (EventBody c) s (Err e) rest
+      behind_event_name : (rest : List Mark) (e : Stop) → ReadsOrStops FromReferences b (Err e) rest → ReadsOrStops (EventBody c) s (Err e) rest
       behind_event_name rest e h = behind_event rest e (one_stops reference FromReferences name_alone a b rest n e name h)
 
-      pub references_stop : (rest : List Mark) (e : Stop) → Reads References b (Err e) rest → Reads (EventBody c) s (Err e) rest
+      pub references_stop : (rest : List Mark) (e : Stop) → ReadsOrStops References b (Err e) rest → ReadsOrStops (EventBody c) s (Err e) rest
       references_stop rest e h = behind_event_name rest e (then_first References FromAny skip_from_any b rest e h)
 
       module _ (d : List Mark) (rs : Abstracts) (references : References limits b rs d) where
-        behind_references : (rest : List Mark) (e : Stop) → Reads FromAny d (Err e) rest → Reads (EventBody c) s (Err e) rest
+        behind_references : (rest : List Mark) (e : Stop) → ReadsOrStops FromAny d (Err e) rest → ReadsOrStops (EventBody c) s (Err e) rest
         behind_references rest e h = behind_event_name rest e (then_later References FromAny good_references leaves_references skip_from_any b d rest rs e references h)
 
-        pub any_stops : (rest : List Mark) (e : Stop) → Reads Any d (Err e) rest → Reads (EventBody c) s (Err e) rest
+        pub any_stops : (rest : List Mark) (e : Stop) → ReadsOrStops Any d (Err e) rest → ReadsOrStops (EventBody c) s (Err e) rest
         any_stops rest e h = behind_references rest e (then_first Any FromGuards skip_from_guards d rest e h)
 
         module _ (f : List Mark) (ps : List Ref) (any : Any limits d ps f) where
-          behind_any : (rest : List Mark) (e : Stop) → Reads FromGuards f (Err e) rest → Reads (EventBody c) s (Err e) rest
+          behind_any : (rest : List Mark) (e : Stop) → ReadsOrStops FromGuards f (Err e) rest → ReadsOrStops (EventBody c) s (Err e) rest
           behind_any rest e h = behind_references rest e (then_later Any FromGuards good_any leaves_any skip_from_guards d f rest ps e any h)
 
-          pub guards_stop : (rest : List Mark) (e : Stop) → Reads Guards f (Err e) rest → Reads (EventBody c) s (Err e) rest
+          pub guards_stop : (rest : List Mark) (e : Stop) → ReadsOrStops Guards f (Err e) rest → ReadsOrStops (EventBody c) s (Err e) rest
           guards_stop rest e h = behind_any rest e (then_first Guards FromWith skip_from_with f rest e h)
 
           module _ (g : List Mark) (gs : List RawLabelled) (guards : Guards limits f gs g) where
-            behind_guards : (rest : List Mark) (e : Stop) → Reads FromWith g (Err e) rest → Reads (EventBody c) s (Err e) rest
+            behind_guards : (rest : List Mark) (e : Stop) → ReadsOrStops FromWith g (Err e) rest → ReadsOrStops (EventBody c) s (Err e) rest
             behind_guards rest e h = behind_any rest e (then_later Guards FromWith good_guards leaves_guards skip_from_with f g rest gs e guards h)
 
-            pub with_stops : (rest : List Mark) (e : Stop) → Reads With g (Err e) rest → Reads (EventBody c) s (Err e) rest
+            pub with_stops : (rest : List Mark) (e : Stop) → ReadsOrStops With g (Err e) rest → ReadsOrStops (EventBody c) s (Err e) rest
             with_stops rest e h = behind_guards rest e (then_first With FromActions skip_from_actions g rest e h)
 
             module _ (i : List Mark) (ws : List RawLabelled) (witnesses : With limits g ws i) where
-              behind_with : (rest : List Mark) (e : Stop) → Reads FromActions i (Err e) rest → Reads (EventBody c) s (Err e) rest
+              behind_with : (rest : List Mark) (e : Stop) → ReadsOrStops FromActions i (Err e) rest → ReadsOrStops (EventBody c) s (Err e) rest
               behind_with rest e h = behind_guards rest e (then_later With FromActions good_with leaves_with skip_from_actions g i rest ws e witnesses h)
 
-              pub actions_stop : (rest : List Mark) (e : Stop) → Reads Actions i (Err e) rest → Reads (EventBody c) s (Err e) rest
+              pub actions_stop : (rest : List Mark) (e : Stop) → ReadsOrStops Actions i (Err e) rest → ReadsOrStops (EventBody c) s (Err e) rest
               actions_stop rest e h = behind_with rest e (then_first Actions EndWord skip_end i rest e h)
 
               module _ (j : List Mark) (steps : List RawStep) (actions : Actions limits i steps j) where
-                pub event_unended : (m : List Mark) → Takes (is_word (codes "end")) j false m → Refuses (EventBody c) s m
+                pub event_unended : (m : List Mark) → Takes (is_word_mark (codes "end")) j false m → RefusesAt (EventBody c) s m
                 event_unended m u =
                     behind_with m stop.Unexpected (then_later Actions EndWord good_actions leaves_actions skip_end i j m steps stop.Unexpected actions
                     (one_missing (word_at (codes "end")) j m end_mark 0 (word_lacks (codes "end") j m u) refl))
 
-                pub event_body_read : (m : List Mark) → Takes (is_word (codes "end")) j true m →
+                pub event_body_read : (m : List Mark) → Takes (is_word_mark (codes "end")) j true m →
                     EventBody c limits s (record { name = n; convergence = c; extended = rs.extended; refines = rs.names; params = ps; guards = gs; witnesses = ws; actions = steps }) m
                 event_body_read m u =
                     let w = word_taken (codes "event") s a t in
@@ -532,25 +532,25 @@ module _ (c : Convergence) where
 
 -- "ordinary", "convergent" or "anticipated", and the event
 abbrev pub Unconvergent : Bounds → List Mark → RawEvent → List Mark → Type 0
-Unconvergent = Choice (is_word (codes "anticipated")) (EventBody Anticipated) (EventBody Ordinary)
+Unconvergent = Choice (is_word_mark (codes "anticipated")) (EventBody Anticipated) (EventBody Ordinary)
 
 abbrev pub Unordinary : Bounds → List Mark → RawEvent → List Mark → Type 0
-Unordinary = Choice (is_word (codes "convergent")) (EventBody Convergent) Unconvergent
+Unordinary = Choice (is_word_mark (codes "convergent")) (EventBody Convergent) Unconvergent
 
 pub good_unconvergent : Good Unconvergent
-good_unconvergent = good_choice (is_word (codes "anticipated")) (EventBody Anticipated) (EventBody Ordinary) (good_event_body Anticipated) (good_event_body Ordinary) refl
+good_unconvergent = good_choice (is_word_mark (codes "anticipated")) (EventBody Anticipated) (EventBody Ordinary) (good_event_body Anticipated) (good_event_body Ordinary) refl
 
 pub good_unordinary : Good Unordinary
-good_unordinary = good_choice (is_word (codes "convergent")) (EventBody Convergent) Unconvergent (good_event_body Convergent) good_unconvergent refl
+good_unordinary = good_choice (is_word_mark (codes "convergent")) (EventBody Convergent) Unconvergent (good_event_body Convergent) good_unconvergent refl
 
 pub good_event : Good Event
-good_event = good_choice (is_word (codes "ordinary")) (EventBody Ordinary) Unordinary (good_event_body Ordinary) good_unordinary refl
+good_event = good_choice (is_word_mark (codes "ordinary")) (EventBody Ordinary) Unordinary (good_event_body Ordinary) good_unordinary refl
 
 pub leaves_event : Leaves Event
 leaves_event =
-    leaves_choice (is_word (codes "ordinary")) (EventBody Ordinary) Unordinary (good_event_body Ordinary) (word_alone (codes "ordinary") refl) (leaves_event_body Ordinary)
-    (leaves_choice (is_word (codes "convergent")) (EventBody Convergent) Unconvergent (good_event_body Convergent) (word_alone (codes "convergent") refl) (leaves_event_body Convergent)
-    (leaves_choice (is_word (codes "anticipated")) (EventBody Anticipated) (EventBody Ordinary) (good_event_body Anticipated) (word_alone (codes "anticipated") refl) (leaves_event_body Anticipated) (leaves_event_body Ordinary)))
+    leaves_choice (is_word_mark (codes "ordinary")) (EventBody Ordinary) Unordinary (good_event_body Ordinary) (word_alone (codes "ordinary") refl) (leaves_event_body Ordinary)
+    (leaves_choice (is_word_mark (codes "convergent")) (EventBody Convergent) Unconvergent (good_event_body Convergent) (word_alone (codes "convergent") refl) (leaves_event_body Convergent)
+    (leaves_choice (is_word_mark (codes "anticipated")) (EventBody Anticipated) (EventBody Ordinary) (good_event_body Anticipated) (word_alone (codes "anticipated") refl) (leaves_event_body Anticipated) (leaves_event_body Ordinary)))
 
 unconvergent_begins : Begins Unconvergent []
 unconvergent_begins = record { more = (event_body_begins Ordinary).more; value = (event_body_begins Ordinary).value; goes_on = λ tail. other refl ((event_body_begins Ordinary).goes_on tail) }
@@ -561,25 +561,25 @@ unordinary_begins = record { more = (event_body_begins Ordinary).more; value = (
 event_begins : Begins Event []
 event_begins = record { more = (event_body_begins Ordinary).more; value = (event_body_begins Ordinary).value; goes_on = λ tail. other refl (other refl (other refl ((event_body_begins Ordinary).goes_on tail))) }
 
-pub ordinary_reads : (s m rest : List Mark) (r : Result RawEvent Stop) → Takes (is_word (codes "ordinary")) s true m → Reads (EventBody Ordinary) m r rest → Reads Event s r rest
-ordinary_reads = taken_reads (is_word (codes "ordinary")) (EventBody Ordinary) Unordinary (word_alone (codes "ordinary") refl)
+pub ordinary_reads : (s m rest : List Mark) (r : Result RawEvent Stop) → Takes (is_word_mark (codes "ordinary")) s true m → ReadsOrStops (EventBody Ordinary) m r rest → ReadsOrStops Event s r rest
+ordinary_reads = taken_reads (is_word_mark (codes "ordinary")) (EventBody Ordinary) Unordinary (word_alone (codes "ordinary") refl)
 
-module _ (s a : List Mark) (t : Takes (is_word (codes "ordinary")) s false a) where
-  unordinary_reads : (rest : List Mark) (r : Result RawEvent Stop) → Reads Unordinary a r rest → Reads Event s r rest
-  unordinary_reads rest r h = other_reads (is_word (codes "ordinary")) (EventBody Ordinary) Unordinary event_begins s a rest r t h
+module _ (s a : List Mark) (t : Takes (is_word_mark (codes "ordinary")) s false a) where
+  unordinary_reads : (rest : List Mark) (r : Result RawEvent Stop) → ReadsOrStops Unordinary a r rest → ReadsOrStops Event s r rest
+  unordinary_reads rest r h = other_reads (is_word_mark (codes "ordinary")) (EventBody Ordinary) Unordinary event_begins s a rest r t h
 
-  pub convergent_reads : (m rest : List Mark) (r : Result RawEvent Stop) → Takes (is_word (codes "convergent")) a true m → Reads (EventBody Convergent) m r rest → Reads Event s r rest
-  convergent_reads m rest r u h = unordinary_reads rest r (taken_reads (is_word (codes "convergent")) (EventBody Convergent) Unconvergent (word_alone (codes "convergent") refl) a m rest r u h)
+  pub convergent_reads : (m rest : List Mark) (r : Result RawEvent Stop) → Takes (is_word_mark (codes "convergent")) a true m → ReadsOrStops (EventBody Convergent) m r rest → ReadsOrStops Event s r rest
+  convergent_reads m rest r u h = unordinary_reads rest r (taken_reads (is_word_mark (codes "convergent")) (EventBody Convergent) Unconvergent (word_alone (codes "convergent") refl) a m rest r u h)
 
-  module _ (b : List Mark) (u : Takes (is_word (codes "convergent")) a false b) where
-    unconvergent_reads : (rest : List Mark) (r : Result RawEvent Stop) → Reads Unconvergent b r rest → Reads Event s r rest
-    unconvergent_reads rest r h = unordinary_reads rest r (other_reads (is_word (codes "convergent")) (EventBody Convergent) Unconvergent unordinary_begins a b rest r u h)
+  module _ (b : List Mark) (u : Takes (is_word_mark (codes "convergent")) a false b) where
+    unconvergent_reads : (rest : List Mark) (r : Result RawEvent Stop) → ReadsOrStops Unconvergent b r rest → ReadsOrStops Event s r rest
+    unconvergent_reads rest r h = unordinary_reads rest r (other_reads (is_word_mark (codes "convergent")) (EventBody Convergent) Unconvergent unordinary_begins a b rest r u h)
 
-    pub anticipated_reads : (m rest : List Mark) (r : Result RawEvent Stop) → Takes (is_word (codes "anticipated")) b true m → Reads (EventBody Anticipated) m r rest → Reads Event s r rest
-    anticipated_reads m rest r v h = unconvergent_reads rest r (taken_reads (is_word (codes "anticipated")) (EventBody Anticipated) (EventBody Ordinary) (word_alone (codes "anticipated") refl) b m rest r v h)
+    pub anticipated_reads : (m rest : List Mark) (r : Result RawEvent Stop) → Takes (is_word_mark (codes "anticipated")) b true m → ReadsOrStops (EventBody Anticipated) m r rest → ReadsOrStops Event s r rest
+    anticipated_reads m rest r v h = unconvergent_reads rest r (taken_reads (is_word_mark (codes "anticipated")) (EventBody Anticipated) (EventBody Ordinary) (word_alone (codes "anticipated") refl) b m rest r v h)
 
-    pub plain_reads : (m rest : List Mark) (r : Result RawEvent Stop) → Takes (is_word (codes "anticipated")) b false m → Reads (EventBody Ordinary) m r rest → Reads Event s r rest
-    plain_reads m rest r v h = unconvergent_reads rest r (other_reads (is_word (codes "anticipated")) (EventBody Anticipated) (EventBody Ordinary) unconvergent_begins b m rest r v h)
+    pub plain_reads : (m rest : List Mark) (r : Result RawEvent Stop) → Takes (is_word_mark (codes "anticipated")) b false m → ReadsOrStops (EventBody Ordinary) m r rest → ReadsOrStops Event s r rest
+    plain_reads m rest r v h = unconvergent_reads rest r (other_reads (is_word_mark (codes "anticipated")) (EventBody Anticipated) (EventBody Ordinary) unconvergent_begins b m rest r v h)
 
 -- events
 event_body_takes : (c : Convergence) (b : Bounds) (s : List Mark) (x : RawEvent) (m : List Mark) → EventBody c b s x m → length m < length s
@@ -597,19 +597,19 @@ pub good_event_list : Good EventList
 good_event_list = good_many begins_event Event good_event refl event_takes
 
 pub good_events : Good Events
-good_events = good_optional (is_word (codes "events")) [] EventList good_event_list refl
+good_events = good_optional (is_word_mark (codes "events")) [] EventList good_event_list refl
 
 skip_events : CanSkip Events
-skip_events = skip_optional (is_word (codes "events")) [] EventList refl
+skip_events = skip_optional (is_word_mark (codes "events")) [] EventList refl
 
 leaves_event_list : Leaves EventList
 leaves_event_list = leaves_many begins_event Event good_event good_event_list.split leaves_event
 
 leaves_events : Leaves Events
-leaves_events = leaves_optional (is_word (codes "events")) [] EventList (word_alone (codes "events") refl) good_event_list leaves_event_list
+leaves_events = leaves_optional (is_word_mark (codes "events")) [] EventList (word_alone (codes "events") refl) good_event_list leaves_event_list
 
-pub events_read : (s m rest : List Mark) (r : Result (List RawEvent) Stop) → Takes (is_word (codes "events")) s true m → Reads EventList m r rest → Reads Events s r rest
-events_read = taken_reads (is_word (codes "events")) EventList (Nothing []) (word_alone (codes "events") refl)
+pub events_read : (s m rest : List Mark) (r : Result (List RawEvent) Stop) → Takes (is_word_mark (codes "events")) s true m → ReadsOrStops EventList m r rest → ReadsOrStops Events s r rest
+events_read = taken_reads (is_word_mark (codes "events")) EventList (Nothing []) (word_alone (codes "events") refl)
 
 -- a machine, from each clause on
 abbrev Sees : Bounds → List Mark → List Ref → List Mark → Type 0
@@ -637,34 +637,34 @@ abbrev FromRefines : Bounds → List Mark → (Option Ref × (List Ref × (List 
 FromRefines = Then Refines FromSees
 
 pub good_sees : Good Sees
-good_sees = good_section (is_word (codes "sees")) SomeNames (word_alone (codes "sees") refl) good_some_names refl
+good_sees = good_section (is_word_mark (codes "sees")) SomeNames (word_alone (codes "sees") refl) good_some_names refl
 
 leaves_sees : Leaves Sees
-leaves_sees = leaves_section (is_word (codes "sees")) SomeNames (word_alone (codes "sees") refl) good_some_names leaves_some_names
+leaves_sees = leaves_section (is_word_mark (codes "sees")) SomeNames (word_alone (codes "sees") refl) good_some_names leaves_some_names
 
 pub good_variables : Good Variables
-good_variables = good_section (is_word (codes "variables")) Names (word_alone (codes "variables") refl) good_names refl
+good_variables = good_section (is_word_mark (codes "variables")) Names (word_alone (codes "variables") refl) good_names refl
 
 leaves_variables : Leaves Variables
-leaves_variables = leaves_section (is_word (codes "variables")) Names (word_alone (codes "variables") refl) good_names leaves_names
+leaves_variables = leaves_section (is_word_mark (codes "variables")) Names (word_alone (codes "variables") refl) good_names leaves_names
 
 pub good_invariants : Good Invariants
-good_invariants = good_section (is_word (codes "invariants")) Lines (word_alone (codes "invariants") refl) good_lines refl
+good_invariants = good_section (is_word_mark (codes "invariants")) Lines (word_alone (codes "invariants") refl) good_lines refl
 
 leaves_invariants : Leaves Invariants
-leaves_invariants = leaves_section (is_word (codes "invariants")) Lines (word_alone (codes "invariants") refl) good_lines leaves_lines
+leaves_invariants = leaves_section (is_word_mark (codes "invariants")) Lines (word_alone (codes "invariants") refl) good_lines leaves_lines
 
 skip_from_variant : CanSkip FromVariant
 skip_from_variant = both_skip Variant Events skip_variant skip_events
 
 skip_from_invariants : CanSkip FromInvariants
-skip_from_invariants = both_skip Invariants FromVariant (section_skip (is_word (codes "invariants")) Lines (word_alone (codes "invariants") refl) refl) skip_from_variant
+skip_from_invariants = both_skip Invariants FromVariant (section_skip (is_word_mark (codes "invariants")) Lines (word_alone (codes "invariants") refl) refl) skip_from_variant
 
 skip_from_variables : CanSkip FromVariables
-skip_from_variables = both_skip Variables FromInvariants (section_skip (is_word (codes "variables")) Names (word_alone (codes "variables") refl) refl) skip_from_invariants
+skip_from_variables = both_skip Variables FromInvariants (section_skip (is_word_mark (codes "variables")) Names (word_alone (codes "variables") refl) refl) skip_from_invariants
 
 skip_from_sees : CanSkip FromSees
-skip_from_sees = both_skip Sees FromVariables (section_skip (is_word (codes "sees")) SomeNames (word_alone (codes "sees") refl) refl) skip_from_variables
+skip_from_sees = both_skip Sees FromVariables (section_skip (is_word_mark (codes "sees")) SomeNames (word_alone (codes "sees") refl) refl) skip_from_variables
 
 skip_from_refines : CanSkip FromRefines
 skip_from_refines = both_skip Refines FromSees skip_refines skip_from_sees
@@ -708,47 +708,47 @@ machine_body_begins = record {
   };
 }
 
-pub machine_name_missing : (s m : List Mark) → (m ≡ s) × Lacks reference s → Refuses MachineBody s m
+pub machine_name_missing : (s m : List Mark) → (m ≡ s) × Lacks reference s → RefusesAt MachineBody s m
 machine_name_missing s m h =
     of_stops machine_of (Then (One reference) FromRefines) s m stop.Unexpected (one_missing_first reference FromRefines s m some_name some_ref h some_name_is (skip_begins FromRefines skip_from_refines parts))
 
 module _ (s a : List Mark) (n : Ref) (name : One reference limits s n a) where
-  behind_name : (rest : List Mark) (e : Stop) → Reads FromRefines a (Err e) rest → Reads MachineBody s (Err e) rest
+  behind_name : (rest : List Mark) (e : Stop) → ReadsOrStops FromRefines a (Err e) rest → ReadsOrStops MachineBody s (Err e) rest
   behind_name rest e h = of_stops machine_of (Then (One reference) FromRefines) s rest e (one_stops reference FromRefines name_alone s a rest n e name h)
 
-  pub refines_stop : (rest : List Mark) (e : Stop) → Reads Refines a (Err e) rest → Reads MachineBody s (Err e) rest
+  pub refines_stop : (rest : List Mark) (e : Stop) → ReadsOrStops Refines a (Err e) rest → ReadsOrStops MachineBody s (Err e) rest
   refines_stop rest e h = behind_name rest e (then_first Refines FromSees skip_from_sees a rest e h)
 
   module _ (b : List Mark) (rs : Option Ref) (refines : Refines limits a rs b) where
-    behind_refines : (rest : List Mark) (e : Stop) → Reads FromSees b (Err e) rest → Reads MachineBody s (Err e) rest
+    behind_refines : (rest : List Mark) (e : Stop) → ReadsOrStops FromSees b (Err e) rest → ReadsOrStops MachineBody s (Err e) rest
     behind_refines rest e h = behind_name rest e (then_later Refines FromSees good_refines leaves_refines skip_from_sees a b rest rs e refines h)
 
-    pub sees_stop : (rest : List Mark) (e : Stop) → Reads Sees b (Err e) rest → Reads MachineBody s (Err e) rest
+    pub sees_stop : (rest : List Mark) (e : Stop) → ReadsOrStops Sees b (Err e) rest → ReadsOrStops MachineBody s (Err e) rest
     sees_stop rest e h = behind_refines rest e (then_first Sees FromVariables skip_from_variables b rest e h)
 
     module _ (d : List Mark) (ss : List Ref) (sees : Sees limits b ss d) where
-      behind_sees : (rest : List Mark) (e : Stop) → Reads FromVariables d (Err e) rest → Reads MachineBody s (Err e) rest
+      behind_sees : (rest : List Mark) (e : Stop) → ReadsOrStops FromVariables d (Err e) rest → ReadsOrStops MachineBody s (Err e) rest
       behind_sees rest e h = behind_refines rest e (then_later Sees FromVariables good_sees leaves_sees skip_from_variables b d rest ss e sees h)
 
-      pub variables_stop : (rest : List Mark) (e : Stop) → Reads Variables d (Err e) rest → Reads MachineBody s (Err e) rest
+      pub variables_stop : (rest : List Mark) (e : Stop) → ReadsOrStops Variables d (Err e) rest → ReadsOrStops MachineBody s (Err e) rest
       variables_stop rest e h = behind_sees rest e (then_first Variables FromInvariants skip_from_invariants d rest e h)
 
       module _ (f : List Mark) (vs : List Ref) (variables : Variables limits d vs f) where
-        behind_variables : (rest : List Mark) (e : Stop) → Reads FromInvariants f (Err e) rest → Reads MachineBody s (Err e) rest
+        behind_variables : (rest : List Mark) (e : Stop) → ReadsOrStops FromInvariants f (Err e) rest → ReadsOrStops MachineBody s (Err e) rest
         behind_variables rest e h = behind_sees rest e (then_later Variables FromInvariants good_variables leaves_variables skip_from_invariants d f rest vs e variables h)
 
-        pub invariants_stop : (rest : List Mark) (e : Stop) → Reads Invariants f (Err e) rest → Reads MachineBody s (Err e) rest
+        pub invariants_stop : (rest : List Mark) (e : Stop) → ReadsOrStops Invariants f (Err e) rest → ReadsOrStops MachineBody s (Err e) rest
         invariants_stop rest e h = behind_variables rest e (then_first Invariants FromVariant skip_from_variant f rest e h)
 
         module _ (g : List Mark) (ls : List RawLabelled) (invariants : Invariants limits f ls g) where
-          behind_invariants : (rest : List Mark) (e : Stop) → Reads FromVariant g (Err e) rest → Reads MachineBody s (Err e) rest
+          behind_invariants : (rest : List Mark) (e : Stop) → ReadsOrStops FromVariant g (Err e) rest → ReadsOrStops MachineBody s (Err e) rest
           behind_invariants rest e h = behind_variables rest e (then_later Invariants FromVariant good_invariants leaves_invariants skip_from_variant f g rest ls e invariants h)
 
-          pub variant_stop : (rest : List Mark) (e : Stop) → Reads Variant g (Err e) rest → Reads MachineBody s (Err e) rest
+          pub variant_stop : (rest : List Mark) (e : Stop) → ReadsOrStops Variant g (Err e) rest → ReadsOrStops MachineBody s (Err e) rest
           variant_stop rest e h = behind_invariants rest e (then_first Variant Events skip_events g rest e h)
 
           module _ (i : List Mark) (v : Option RawVariant) (variant : Variant limits g v i) where
-            pub events_stop : (rest : List Mark) (e : Stop) → Reads Events i (Err e) rest → Reads MachineBody s (Err e) rest
+            pub events_stop : (rest : List Mark) (e : Stop) → ReadsOrStops Events i (Err e) rest → ReadsOrStops MachineBody s (Err e) rest
             events_stop rest e h = behind_invariants rest e (then_later Variant Events good_variant leaves_variant skip_events g i rest v e variant h)
 
             pub machine_body_read : (rest : List Mark) (es : List RawEvent) → Events limits i es rest → MachineBody limits s (machine_of (n, (rs, (ss, (vs, (ls, (v, es))))))) rest
@@ -775,13 +775,13 @@ module _ (s a : List Mark) (n : Ref) (name : One reference limits s n a) where
             }
 
 -- x :∈ x
-action_begins : Begins (Run IsAct) []
-action_begins = run_begins IsAct parts [] (
+action_begins : Begins (Run IsActionWithin) []
+action_begins = run_begins IsActionWithin parts [] (
   item sign.Word 0 (codes "x") ∷ (item sign.BecomesIn 0 (codes "x") ∷ (item sign.Word 0 (codes "x") ∷ [])),
   act.ChooseIn (record { name = codes "x"; place = 0 }) (raw.Name (codes "x") 0),
   chooses_in refl (record { g = grade.Name; reads = a_name refl; fit = refl }),
 )
 
-pub step_missing : (s m : List Mark) → (m ≡ s) × Lacks label_at s → Refuses Step s m
+pub step_missing : (s m : List Mark) → (m ≡ s) × Lacks label_at s → RefusesAt Step s m
 step_missing s m h =
-    of_stops step (Then (One label_at) (Run IsAct)) s m stop.Unexpected (one_missing_first label_at (Run IsAct) s m (label (codes "x") 0) (codes "x", 0) h refl action_begins)
+    of_stops labelled_step (Then (One label_at) (Run IsActionWithin)) s m stop.Unexpected (one_missing_first label_at (Run IsActionWithin) s m (label (codes "x") 0) (codes "x", 0) h refl action_begins)

@@ -14,12 +14,12 @@ use Rattle.formula_core.specs.declared.raw.RawAction.{RawAction}
 use Rattle.math_action.specs.Limits.{IsAction, IsActionFault}
 use Rattle.component_text.specs.Forms.{Bounds, limits, parts, none, Run}
 use Rattle.component_text.specs.Grammar.{IsFormula, first_place, IsPlaced}
-use Rattle.component_text.specs.Machines.{IsAct, either}
+use Rattle.component_text.specs.Machines.{IsActionWithin, either}
 use Rattle.formula_core.specs.Texts.{begins_with}
 use Rattle.math_tokens.specs.declared.cutting.Token.{Token}
 use Rattle.math_grammar.specs.Tokens.{Item, bytes_of, item_of, items_of}
 use Rattle.component_tokens.specs.Pieces.{at_sign}
-use Rattle.component_text.specs.Marks.{Mark, word, label, plain, is_structural, mark_by, mark_of, marks_of, run, behind_run, is_word, is_at}
+use Rattle.component_text.specs.Marks.{Mark, word, label, plain, is_structural, mark_by, token_mark, marks_of, token_run, behind_run, is_word_mark, is_at}
 use Rattle.component_text.specs.PrivateReading.{Takes, from_token, bounded, FailsBy, ReadsFormula}
 use Rattle.component_text.specs.PrivateTexts.{is_plain_text, plain_length}
 
@@ -55,57 +55,57 @@ marks_behind text (t ∷ tokens) zero = refl
 marks_behind text (t ∷ tokens) (suc n) = marks_behind text tokens n
 
 -- the tokens of a formula, by their number
-plain_is : (text : List ℕ) (t : Token) (b : Bool) → is_plain_text (bytes_of text t) ≡ b → PlainBy b (mark_of text t) (item_of text t)
+plain_is : (text : List ℕ) (t : Token) (b : Bool) → is_plain_text (bytes_of text t) ≡ b → PlainBy b (token_mark text t) (item_of text t)
 plain_is text t true e = go (begins_with at_sign (bytes_of text t)) refl (is_structural (bytes_of text t)) refl e
   where
     go : (a : Bool) → begins_with at_sign (bytes_of text t) ≡ a → (d : Bool) → is_structural (bytes_of text t) ≡ d →
-        is_plain_text (bytes_of text t) ≡ true → mark_of text t ≡ plain (item_of text t)
+        is_plain_text (bytes_of text t) ≡ true → token_mark text t ≡ plain (item_of text t)
     go true p d q e = let no : is_plain_text (bytes_of text t) ≡ false = ap (λ v. not (v || is_structural (bytes_of text t))) p in cc
     go false p true q e = let no : is_plain_text (bytes_of text t) ≡ false = ap (λ v. not (v || is_structural (bytes_of text t))) p ∙ ap not q in cc
     go false p false q e = by_plain (bytes_of text t) t.from (item_of text t) p q
 plain_is text t false e = go (begins_with at_sign (bytes_of text t)) refl (is_structural (bytes_of text t)) refl e
   where
     go : (a : Bool) → begins_with at_sign (bytes_of text t) ≡ a → (d : Bool) → is_structural (bytes_of text t) ≡ d →
-        is_plain_text (bytes_of text t) ≡ false → Ends (mark_of text t)
+        is_plain_text (bytes_of text t) ≡ false → Ends (token_mark text t)
     go true p d q e = subst Ends (sym (by_label (bytes_of text t) t.from (item_of text t) p)) tt
     go false p true q e = subst Ends (sym (by_word (bytes_of text t) t.from (item_of text t) p q)) tt
     go false p false q e = let yes : is_plain_text (bytes_of text t) ≡ true = ap (λ v. not (v || is_structural (bytes_of text t))) p ∙ ap not q in cc
 
-run_ended : (x : Mark) (s : List Mark) → Ends x → (run (x ∷ s) ≡ []) × (behind_run (x ∷ s) ≡ x ∷ s)
+run_ended : (x : Mark) (s : List Mark) → Ends x → (token_run (x ∷ s) ≡ []) × (behind_run (x ∷ s) ≡ x ∷ s)
 run_ended (word w p) s h = (refl, refl)
 run_ended (label l p) s h = (refl, refl)
 run_ended (plain x) s h = absurd h
 
-pub run_tokens : (text : List ℕ) (tokens : List Token) → run (marks_of text tokens) ≡ items_of text (take (plain_length text tokens) tokens)
+pub run_tokens : (text : List ℕ) (tokens : List Token) → token_run (marks_of text tokens) ≡ items_of text (take (plain_length text tokens) tokens)
 run_tokens text [] = refl
 run_tokens text (t ∷ tokens) = go (is_plain_text (bytes_of text t)) refl (run_tokens text tokens)
   where
-    go : (b : Bool) → is_plain_text (bytes_of text t) ≡ b → run (marks_of text tokens) ≡ items_of text (take (plain_length text tokens) tokens) →
-        run (mark_of text t ∷ marks_of text tokens) ≡ items_of text (take (cond b (1 + plain_length text tokens) 0) (t ∷ tokens))
+    go : (b : Bool) → is_plain_text (bytes_of text t) ≡ b → token_run (marks_of text tokens) ≡ items_of text (take (plain_length text tokens) tokens) →
+        token_run (token_mark text t ∷ marks_of text tokens) ≡ items_of text (take (cond b (1 + plain_length text tokens) 0) (t ∷ tokens))
     go true e again =
         let one : 1 + plain_length text tokens ≡ suc (plain_length text tokens) = omega arith in
-        ap (λ m. run (m ∷ marks_of text tokens)) (plain_is text t true e) ∙ ap (λ f. item_of text t ∷ f) again
+        ap (λ m. token_run (m ∷ marks_of text tokens)) (plain_is text t true e) ∙ ap (λ f. item_of text t ∷ f) again
         ∙ ap (λ n. items_of text (take n (t ∷ tokens))) (sym one)
-    go false e again = (run_ended (mark_of text t) (marks_of text tokens) (plain_is text t false e)).0
+    go false e again = (run_ended (token_mark text t) (marks_of text tokens) (plain_is text t false e)).0
 
 pub behind_tokens : (text : List ℕ) (tokens : List Token) → behind_run (marks_of text tokens) ≡ marks_of text (drop (plain_length text tokens) tokens)
 behind_tokens text [] = refl
 behind_tokens text (t ∷ tokens) = go (is_plain_text (bytes_of text t)) refl (behind_tokens text tokens)
   where
     go : (b : Bool) → is_plain_text (bytes_of text t) ≡ b → behind_run (marks_of text tokens) ≡ marks_of text (drop (plain_length text tokens) tokens) →
-        behind_run (mark_of text t ∷ marks_of text tokens) ≡ marks_of text (drop (cond b (1 + plain_length text tokens) 0) (t ∷ tokens))
+        behind_run (token_mark text t ∷ marks_of text tokens) ≡ marks_of text (drop (cond b (1 + plain_length text tokens) 0) (t ∷ tokens))
     go true e again =
         let one : 1 + plain_length text tokens ≡ suc (plain_length text tokens) = omega arith in
         ap (λ m. behind_run (m ∷ marks_of text tokens)) (plain_is text t true e) ∙ again
         ∙ ap (λ n. marks_of text (drop n (t ∷ tokens))) (sym one)
-    go false e again = (run_ended (mark_of text t) (marks_of text tokens) (plain_is text t false e)).1
+    go false e again = (run_ended (token_mark text t) (marks_of text tokens) (plain_is text t false e)).1
 
 -- from the token at i of a formula on
-pub tokens_from : (text : List ℕ) (tokens : List Token) (i : ℕ) → i ≤ length (run (marks_of text tokens)) → marks_of text (drop i tokens) ≡ from_token i (marks_of text tokens)
+pub tokens_from : (text : List ℕ) (tokens : List Token) (i : ℕ) → i ≤ length (token_run (marks_of text tokens)) → marks_of text (drop i tokens) ≡ from_token i (marks_of text tokens)
 tokens_from text [] i h = ap (λ n. marks_of text (drop n [])) (let e : i ≡ 0 = omega arith in e) ∙ ap (λ n. map plain (drop n []) ++ []) (let e : 0 ≡ i = omega arith in e)
-tokens_from text (t ∷ tokens) zero h = whole (mark_of text t ∷ marks_of text tokens)
+tokens_from text (t ∷ tokens) zero h = whole (token_mark text t ∷ marks_of text tokens)
   where
-    whole : (s : List Mark) → s ≡ map plain (run s) ++ behind_run s
+    whole : (s : List Mark) → s ≡ map plain (token_run s) ++ behind_run s
     whole [] = refl
     whole (plain x ∷ s) = ap (λ u. plain x ∷ u) (whole s)
     whole (word w p ∷ s) = refl
@@ -113,21 +113,21 @@ tokens_from text (t ∷ tokens) zero h = whole (mark_of text t ∷ marks_of text
 tokens_from text (t ∷ tokens) (suc i) h = go (is_plain_text (bytes_of text t)) refl (tokens_from text tokens i)
   where
     go : (b : Bool) → is_plain_text (bytes_of text t) ≡ b →
-        (i ≤ length (run (marks_of text tokens)) → marks_of text (drop i tokens) ≡ from_token i (marks_of text tokens)) → marks_of text (drop i tokens) ≡ from_token (suc i) (mark_of text t ∷ marks_of text tokens)
+        (i ≤ length (token_run (marks_of text tokens)) → marks_of text (drop i tokens) ≡ from_token i (marks_of text tokens)) → marks_of text (drop i tokens) ≡ from_token (suc i) (token_mark text t ∷ marks_of text tokens)
     go true e later =
         let is = plain_is text t true e in
-        let short : suc i ≤ length (run (plain (item_of text t) ∷ marks_of text tokens)) = subst (λ m. suc i ≤ length (run (m ∷ marks_of text tokens))) is h in
+        let short : suc i ≤ length (token_run (plain (item_of text t) ∷ marks_of text tokens)) = subst (λ m. suc i ≤ length (token_run (m ∷ marks_of text tokens))) is h in
         later (omega (arith, short)) ∙ ap (λ m. from_token (suc i) (m ∷ marks_of text tokens)) (sym is)
     go false e later =
-        let none = (run_ended (mark_of text t) (marks_of text tokens) (plain_is text t false e)).0 in
+        let none = (run_ended (token_mark text t) (marks_of text tokens) (plain_is text t false e)).0 in
         absurd (omega (arith, h, ap length none))
 
 -- the word by its bytes
 pub word_test : (bytes : List ℕ) (from : ℕ) (item : Item) (w : List ℕ) →
-    is_word w (mark_by bytes from item) ≡ (bytes_eq bytes w && (not (begins_with at_sign bytes) && is_structural bytes))
+    is_word_mark w (mark_by bytes from item) ≡ (bytes_eq bytes w && (not (begins_with at_sign bytes) && is_structural bytes))
 word_test bytes from item w = go (begins_with at_sign bytes) (is_structural bytes) (bytes_eq bytes w) refl
   where
-    go : (a b d : Bool) → bytes_eq bytes w ≡ d → is_word w (cond a (label (drop 1 bytes) from) (cond b (word bytes from) (plain item))) ≡ (d && (not a && b))
+    go : (a b d : Bool) → bytes_eq bytes w ≡ d → is_word_mark w (cond a (label (drop 1 bytes) from) (cond b (word bytes from) (plain item))) ≡ (d && (not a && b))
     go true b true e = refl
     go true b false e = refl
     go false true true e = e
@@ -142,19 +142,19 @@ took_one test text [] e = cc
 took_one test text (t ∷ tokens) e =
     let n : suc (length tokens) - 1 ≡ length tokens = omega arith in
     let whole : take (suc (length tokens) - 1) tokens ≡ tokens = ap (λ k. take k tokens) n ∙ take-length tokens in
-    (mark_of text t, ap (λ ts. mark_of text t ∷ marks_of text ts) (sym whole), e)
+    (token_mark text t, ap (λ ts. token_mark text t ∷ marks_of text ts) (sym whole), e)
 
-pub at_first : (test : Mark → Bool) (text : List ℕ) (tokens : List Token) (t : Token) → Some t ≡ slice_get tokens 0 → is_at test (marks_of text tokens) ≡ test (mark_of text t)
+pub at_first : (test : Mark → Bool) (text : List ℕ) (tokens : List Token) (t : Token) → Some t ≡ slice_get tokens 0 → is_at test (marks_of text tokens) ≡ test (token_mark text t)
 at_first test text [] t e = cc
-at_first test text (u ∷ tokens) t e = let same : u ≡ t = cc in ap (λ v. test (mark_of text v)) same
+at_first test text (u ∷ tokens) t e = let same : u ≡ t = cc in ap (λ v. test (token_mark text v)) same
 
 -- formulas, by slices
 pub rest_slice : {A : Type 0} (n : ℕ) (xs : List A) → take (length xs - n) (drop n xs) ≡ drop n xs
 rest_slice n xs = take_rest xs n
 
 module _ {X : Type 0} (F : Bounds → List Item → X → Type 0) (text : List ℕ) (tokens : List Token) (n : ℕ) (s : List Mark) (view : marks_of text tokens ≡ s) (size : n ≡ plain_length text tokens) where
-  run_is : run s ≡ items_of text (take n tokens)
-  run_is = ap run (sym view) ∙ run_tokens text tokens ∙ ap (λ k. items_of text (take k tokens)) (sym size)
+  run_is : token_run s ≡ items_of text (take n tokens)
+  run_is = ap token_run (sym view) ∙ run_tokens text tokens ∙ ap (λ k. items_of text (take k tokens)) (sym size)
 
   pub formula_read : (t : X) → F limits (items_of text (take n tokens)) t → Run F limits s t (marks_of text (take (length tokens - n) (drop n tokens)))
   formula_read t k = record {
@@ -163,18 +163,18 @@ module _ {X : Type 0} (F : Bounds → List Item → X → Type 0) (text : List �
         ap (marks_of text) (rest_slice n tokens) ∙ ap (λ m. marks_of text (drop m tokens)) size ∙ sym (behind_tokens text tokens) ∙ ap behind_run view;
   }
 
-  at_token : (i : ℕ) → i ≤ length (run s) → marks_of text (take (length tokens - i) (drop i tokens)) ≡ from_token i s
+  at_token : (i : ℕ) → i ≤ length (token_run s) → marks_of text (take (length tokens - i) (drop i tokens)) ≡ from_token i s
   at_token i short =
-      ap (marks_of text) (rest_slice i tokens) ∙ tokens_from text tokens i (subst (λ m. i ≤ length (run m)) (sym view) short) ∙ ap (from_token i) view
+      ap (marks_of text) (rest_slice i tokens) ∙ tokens_from text tokens i (subst (λ m. i ≤ length (token_run m)) (sym view) short) ∙ ap (from_token i) view
 
   pub formula_unexpected : (i : ℕ) → FailsBy F (items_of text (take n tokens)) (fault.Unexpected i) → ReadsFormula F s (Err stop.Unexpected) (marks_of text (take (length tokens - i) (drop i tokens)))
   formula_unexpected i k =
-      let there : FailsBy F (run s) (fault.Unexpected i) = subst (λ f. FailsBy F f (fault.Unexpected i)) (sym run_is) k in
+      let there : FailsBy F (token_run s) (fault.Unexpected i) = subst (λ f. FailsBy F f (fault.Unexpected i)) (sym run_is) k in
       (i, at_token i there.first.0, there)
 
   pub formula_too_large : (i : ℕ) → FailsBy F (items_of text (take n tokens)) (fault.TooLarge i) → ReadsFormula F s (Err stop.TooLarge) (marks_of text (take (length tokens - i) (drop i tokens)))
   formula_too_large i k =
-      let there : FailsBy F (run s) (fault.TooLarge i) = subst (λ f. FailsBy F f (fault.TooLarge i)) (sym run_is) k in
+      let there : FailsBy F (token_run s) (fault.TooLarge i) = subst (λ f. FailsBy F f (fault.TooLarge i)) (sym run_is) k in
       (i, at_token i (omega (arith, there.first.0)), there)
 
 -- what the parsers of formulas and of actions tell
@@ -199,24 +199,24 @@ placed_fault h f fault.OutOfMemory k = tt
 pub formula_fails : (h : Hole) (f : List Item) (e : ParseFault) → IsFault h f e → ((t : Raw) → IsSentence h f t → ⊥) → FailsBy (IsPlaced h) f e
 formula_fails h f e k isnt = record { first = placed_fault h f e k; wrong = λ p s. isnt p.0 s.0 }
 
-action_fault : (f : List Item) (e : ParseFault) → IsActionFault f e → IsFaultOf (bounded IsAct) f e
+action_fault : (f : List Item) (e : ParseFault) → IsActionFault f e → IsFaultOf (bounded IsActionWithin) f e
 action_fault f (fault.Unexpected i) k = k
 action_fault f (fault.TooLarge i) k = k
 action_fault f fault.OutOfMemory k = tt
 
-pub action_fails : (f : List Item) (e : ParseFault) → IsActionFault f e → ((a : RawAction) → IsAction f a → ⊥) → FailsBy IsAct f e
+pub action_fails : (f : List Item) (e : ParseFault) → IsActionFault f e → ((a : RawAction) → IsAction f a → ⊥) → FailsBy IsActionWithin f e
 action_fails f e k isnt = record { first = action_fault f e k; wrong = isnt }
 
 -- one of two words
-pub either_first : (v w : List ℕ) (s m : List Mark) → Takes (is_word v) s true m → Takes (either v w) s true m
-either_first v w s m k = (k.0, k.1, ap (λ b. b || is_word w k.0) k.2)
+pub either_first : (v w : List ℕ) (s m : List Mark) → Takes (is_word_mark v) s true m → Takes (either v w) s true m
+either_first v w s m k = (k.0, k.1, ap (λ b. b || is_word_mark w k.0) k.2)
 
-pub either_second : (v w : List ℕ) (s a m : List Mark) (b : Bool) → Takes (is_word v) s false a → Takes (is_word w) a b m → Takes (either v w) s b m
+pub either_second : (v w : List ℕ) (s a m : List Mark) (b : Bool) → Takes (is_word_mark v) s false a → Takes (is_word_mark w) a b m → Takes (either v w) s b m
 either_second v w s a m true k h =
     let there : s ≡ h.0 ∷ m = sym k.0 ∙ h.1 in
-    (h.0, there, ap (λ b. b || is_word w h.0) (sym (ap (is_at (is_word v)) there) ∙ k.1) ∙ h.2)
-either_second v w s a m false k h = (h.0 ∙ k.0, neither s k.1 (ap (is_at (is_word w)) (sym k.0) ∙ h.1))
+    (h.0, there, ap (λ b. b || is_word_mark w h.0) (sym (ap (is_at (is_word_mark v)) there) ∙ k.1) ∙ h.2)
+either_second v w s a m false k h = (h.0 ∙ k.0, neither s k.1 (ap (is_at (is_word_mark w)) (sym k.0) ∙ h.1))
   where
-    neither : (s : List Mark) → is_at (is_word v) s ≡ false → is_at (is_word w) s ≡ false → is_at (either v w) s ≡ false
+    neither : (s : List Mark) → is_at (is_word_mark v) s ≡ false → is_at (is_word_mark w) s ≡ false → is_at (either v w) s ≡ false
     neither [] p q = refl
-    neither (x ∷ s) p q = ap (λ b. b || is_word w x) p ∙ q
+    neither (x ∷ s) p q = ap (λ b. b || is_word_mark w x) p ∙ q

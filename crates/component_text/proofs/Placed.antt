@@ -4,7 +4,7 @@ use Rattle.std.specs.Prelude.{Option}
 use Rattle.std.proofs.lemmas.List.{append_cancel_right}
 use Rattle.math_grammar.specs.Tokens.{Item}
 use Rattle.math_parse.specs.Limits.{first_large}
-use Rattle.component_text.specs.Marks.{Mark, word, label, plain, run, is_at}
+use Rattle.component_text.specs.Marks.{Mark, word, label, plain, token_run, is_at}
 use Rattle.component_text.specs.Forms.{Bounds, limits, One, Run, Nothing, Then, Choice, taken, other, Many, no_more, one_more, Of}
 use Rattle.component_text.specs.Faults.{opens_formula, IsLong}
 use Rattle.component_text.specs.PrivateReading.{is_plain, NoFormula, behind_word, all_plain, AreShort, Placed, not_plain, no_formula, in_formula}
@@ -19,8 +19,8 @@ map_append (x ∷ f) g = ap (λ t. plain x ∷ t) (map_append f g)
 abbrev opened_by : Mark → List Mark → Option (Mark × List Item) → Option (Mark × List Item)
 opened_by x s (Some r) = Some r
 opened_by (plain y) s None = None
-opened_by (word w p) s None = Some (word w p, run s)
-opened_by (label l p) s None = Some (label l p, run s)
+opened_by (word w p) s None = Some (word w p, token_run s)
+opened_by (label l p) s None = Some (label l p, token_run s)
 
 abbrev opened : List Mark → Option (Mark × List Item)
 opened [] = None
@@ -30,8 +30,8 @@ opened_plain : (f : List Item) → opened (map plain f) ≡ None
 opened_plain [] = refl
 opened_plain (x ∷ f) = ap (opened_by (plain x) (map plain f)) (opened_plain f)
 
-run_plain : (f : List Item) → run (map plain f) ≡ f
-run_plain f = ap run (sym (append-nil (map plain f))) ∙ run_of f [] nothing_there
+run_plain : (f : List Item) → token_run (map plain f) ≡ f
+run_plain f = ap token_run (sym (append-nil (map plain f))) ∙ run_of f [] nothing_there
 
 opened_further : (x : Mark) (s : List Mark) (r : Mark × List Item) → opened s ≡ Some r → opened (x ∷ s) ≡ Some r
 opened_further x s r e = ap (opened_by x s) e

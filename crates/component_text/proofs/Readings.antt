@@ -15,7 +15,7 @@ use Rattle.component_text.specs.Marks.{Mark, marks_of}
 use Rattle.component_text.specs.Forms.{limits, parts, none}
 use Rattle.component_text.specs.Machines.{IsComponent}
 use Rattle.component_text.specs.Faults.{BeginsWithin, IsLargeAt, long, wide, IsUnexpectedAt, IsTooLargeAt}
-use Rattle.component_text.specs.Spelled.{place_of, text_of, misnamed, IsFirst, bad_sign, number_too_wide, unexpected, unexpected_end, too_large, comment_not_closed, wrong_name, IsRead, HasOneReading}
+use Rattle.component_text.specs.Spelled.{place_of_mark, text_of_mark, misnamed, IsFirst, bad_sign, number_too_wide, unexpected, unexpected_end, too_large, comment_not_closed, wrong_name, IsRead, HasOneReading}
 use Rattle.component_text.specs.PrivatePieces.{fault_kind, fault_place}
 use Rattle.component_text.proofs.Once.{component_unique}
 use Rattle.component_text.proofs.Texted.{component_loosens, component_short, component_named}
@@ -80,8 +80,8 @@ module _ (name text : List ℕ) (marks : List Mark) (cut : Option CutFault) wher
   told_end (Some f) = (fault_kind f, (fault_place f, []))
 
   abbrev told_token : Mark → Bool → Told
-  told_token x true = (kind.FormulaTooLarge, (place_of x, []))
-  told_token x false = (kind.Unexpected, (place_of x, text_of x))
+  told_token x true = (kind.FormulaTooLarge, (place_of_mark x, []))
+  told_token x false = (kind.Unexpected, (place_of_mark x, text_of_mark x))
 
   abbrev told_at : List Mark → Bool → Told
   told_at [] large = told_end cut
@@ -108,7 +108,7 @@ module _ (name text : List ℕ) (marks : List Mark) (cut : Option CutFault) wher
     is = e;
   }
 
-  seen_unexpected : (x : Mark) (later : List Mark) → IsUnexpectedAt IsComponent marks (x ∷ later) → Seen (kind.Unexpected, (place_of x, text_of x))
+  seen_unexpected : (x : Mark) (later : List Mark) → IsUnexpectedAt IsComponent marks (x ∷ later) → Seen (kind.Unexpected, (place_of_mark x, text_of_mark x))
   seen_unexpected x later u = record {
     before = u.before;
     rest = x ∷ later;
@@ -127,7 +127,7 @@ module _ (name text : List ℕ) (marks : List Mark) (cut : Option CutFault) wher
     is = refl;
   }
 
-  seen_too_large : (x : Mark) (later : List Mark) → IsTooLargeAt IsComponent marks (x ∷ later) → Seen (kind.FormulaTooLarge, (place_of x, []))
+  seen_too_large : (x : Mark) (later : List Mark) → IsTooLargeAt IsComponent marks (x ∷ later) → Seen (kind.FormulaTooLarge, (place_of_mark x, []))
   seen_too_large x later u =
       let token : u.token ≡ x = (let e = u.next in cc) in
       let large : (y : Mark) (l : List Mark) → x ∷ later ≡ y ∷ l → IsLargeAt IsComponent u.before y =

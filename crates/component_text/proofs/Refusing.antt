@@ -4,7 +4,7 @@ use Rattle.std.specs.Prelude.{Option}
 use Rattle.component_text.specs.Marks.{Mark, is_at}
 use Rattle.component_text.specs.Forms.{Bounds, limits, parts, none, One, Then, Choice, taken, other, Many, no_more, one_more, Of}
 use Rattle.component_text.specs.Faults.{IsLong}
-use Rattle.component_text.specs.PrivateReading.{end_mark, BeginsIn, Begins, NoneHasIn, NoneHas, IsLargeIn, is_long, is_wide, Refuses, Passes, Lacks, is_plain, NoFormula, no_formula}
+use Rattle.component_text.specs.PrivateReading.{end_mark, BeginsIn, Begins, NoneHasIn, NoneHas, IsLargeIn, is_long, is_wide, RefusesAt, Passes, Lacks, is_plain, NoFormula, no_formula}
 use Rattle.component_text.proofs.Placed.{none_free, placed_behind, Leaves}
 use Rattle.component_text.proofs.Shorts.{alone_short, short_behind}
 use Rattle.component_text.proofs.Parts.{SameStart, same_first, same, closing, Good, same_start_self}
@@ -66,7 +66,7 @@ module _ {X Y : Type 0} (value : Mark → Option X) (Q : Bounds → List Mark �
   one_nowhere (y ∷ rest) isnt = λ more x r h. one_lacks y more x.0 h.middle isnt h.first
 
   -- it isn't there
-  pub one_refused : (s : List Mark) (y : Mark) (x : X) → Lacks value s → value y ≡ Some x → Begins Q [] → Refuses (Then (One value) Q) s s
+  pub one_refused : (s : List Mark) (y : Mark) (x : X) → Lacks value s → value y ≡ Some x → Begins Q [] → RefusesAt (Then (One value) Q) s s
   one_refused s y x isnt is q = record {
     before = [];
     is = refl;
@@ -100,7 +100,7 @@ module _ {X Y : Type 0} (value : Mark → Option X) (Q : Bounds → List Mark �
       let tail : k.middle ≡ m = cc in
       q z.1 r (subst (λ t. Q limits t z.1 r) tail k.second)
 
-  pub one_then_refused : (s m rest : List Mark) (x : X) (h : One value limits s x m) (q : Refuses Q m rest) → NoFormula (h.mark ∷ []) → Refuses (Then (One value) Q) s rest
+  pub one_then_refused : (s m rest : List Mark) (x : X) (h : One value limits s x m) (q : RefusesAt Q m rest) → NoFormula (h.mark ∷ []) → RefusesAt (Then (One value) Q) s rest
   one_then_refused s m rest x h q alone = record {
     before = h.mark ∷ q.before;
     is = h.there ∙ ap (λ t. h.mark ∷ t) q.is;
@@ -145,7 +145,7 @@ module _ {X Y : Type 0} (P : Bounds → List Mark → X → List Mark → Type 0
   first_nowhere b before [] h = λ x r k. h x.0 k.middle k.first
   first_nowhere b before (y ∷ rest) h = λ more x r k. h more x.0 k.middle k.first
 
-  pub first_refused : (s rest : List Mark) → Refuses P s rest → CanSkip Q → Refuses (Then P Q) s rest
+  pub first_refused : (s rest : List Mark) → RefusesAt P s rest → CanSkip Q → RefusesAt (Then P Q) s rest
   first_refused s rest h q = record { before = h.before; is = h.is; begins = first_begins parts h.before h.begins q; nowhere = first_nowhere none h.before rest h.nowhere; placed = h.placed; short = h.short; wrong = λ z r k. h.wrong z.0 k.middle k.first }
 
   pub first_passes : (s rest : List Mark) → Passes P s rest → CanSkip Q → Passes (Then P Q) s rest
@@ -214,7 +214,7 @@ module _ {X Y : Type 0} (P : Bounds → List Mark → X → List Mark → Type 0
         let middle : k.middle ≡ m = p.agrees limits limits front m m x z.0 k.middle h (same_start_self m) (subst (λ t. P limits t z.0 k.middle) e k.first) in
         q z.1 r (subst (λ t. Q limits t z.1 r) middle k.second)
 
-    pub second_refused : Leaves P → (s m rest : List Mark) (x : X) → P limits s x m → Refuses Q m rest → CanSkip Q → Refuses (Then P Q) s rest
+    pub second_refused : Leaves P → (s m rest : List Mark) (x : X) → P limits s x m → RefusesAt Q m rest → CanSkip Q → RefusesAt (Then P Q) s rest
     second_refused leaves s m rest x h q skip =
         let front = p.split limits s x m h in
         let there : P limits (front.0 ++ m) x m = subst (λ t. P limits t x m) front.1 h in
@@ -254,7 +254,7 @@ module _ {X Y : Type 0} (f : X → Y) (P : Bounds → List Mark → X → List M
   of_nowhere b before [] h = λ x r k. h k.from r k.part
   of_nowhere b before (y ∷ rest) h = λ more x r k. h more k.from r k.part
 
-  pub of_refused : (s rest : List Mark) → Refuses P s rest → Refuses (Of f P) s rest
+  pub of_refused : (s rest : List Mark) → RefusesAt P s rest → RefusesAt (Of f P) s rest
   of_refused s rest h = record { before = h.before; is = h.is; begins = of_begins parts h.before h.begins; nowhere = of_nowhere none h.before rest h.nowhere; placed = h.placed; short = h.short; wrong = λ z r k. h.wrong k.from r k.part }
 
   pub of_passes : (s rest : List Mark) → Passes P s rest → Passes (Of f P) s rest
@@ -283,7 +283,7 @@ module _ {X : Type 0} (test : Mark → Bool) (P Q : Bounds → List Mark → X �
   taken_wrong s m y e is h x r (taken z u e' is' k) = let there : y ∷ m ≡ z ∷ u = sym e ∙ e' in let tail : u ≡ m = cc in h x r (subst (λ v. P limits v x r) tail k)
   taken_wrong s m y e is h x r (other isnt k) = contrary (sym is ∙ ap (is_at test) (sym e) ∙ isnt)
 
-  pub taken_refused : ((y : Mark) → test y ≡ true → NoFormula (y ∷ [])) → (s m rest : List Mark) (y : Mark) → s ≡ y ∷ m → test y ≡ true → Refuses P m rest → Refuses (Choice test P Q) s rest
+  pub taken_refused : ((y : Mark) → test y ≡ true → NoFormula (y ∷ [])) → (s m rest : List Mark) (y : Mark) → s ≡ y ∷ m → test y ≡ true → RefusesAt P m rest → RefusesAt (Choice test P Q) s rest
   taken_refused words s m rest y e is h = record {
     before = y ∷ h.before;
     is = e ∙ ap (λ t. y ∷ t) h.is;
@@ -335,7 +335,7 @@ module _ {X : Type 0} (test : Mark → Bool) (P Q : Bounds → List Mark → X �
   other_wrong s isnt h x r (taken z u e is k) = contrary (sym is ∙ ap (is_at test) (sym e) ∙ isnt)
   other_wrong s isnt h x r (other isnt' k) = h x r k
 
-  pub other_refused : (s rest : List Mark) → is_at test s ≡ false → Begins (Choice test P Q) [] → Refuses Q s rest → Refuses (Choice test P Q) s rest
+  pub other_refused : (s rest : List Mark) → is_at test s ≡ false → Begins (Choice test P Q) [] → RefusesAt Q s rest → RefusesAt (Choice test P Q) s rest
   other_refused s rest isnt start h = record {
     before = h.before;
     is = h.is;
@@ -397,7 +397,7 @@ module _ {X : Type 0} (test : Mark → Bool) (P : Bounds → List Mark → X →
   here_nowhere b s before [] e does h = λ xs r. here_none b before xs r (ap (is_at test) (sym (append-nil before) ∙ sym e) ∙ does) h
   here_nowhere b s before (z ∷ rest) e does h = λ more xs r. here_none b (before ++ z ∷ more) xs r (yes_alike before z rest more (ap (is_at test) (sym e) ∙ does)) (h more)
 
-  pub many_here : (s rest : List Mark) → is_at test s ≡ true → Refuses P s rest → Refuses (Many test P) s rest
+  pub many_here : (s rest : List Mark) → is_at test s ≡ true → RefusesAt P s rest → RefusesAt (Many test P) s rest
   many_here s rest does h = record {
     before = h.before;
     is = h.is;
@@ -448,7 +448,7 @@ module _ {X : Type 0} (test : Mark → Bool) (P : Bounds → List Mark → X →
   front_some : (s m before rest front : List Mark) (x : X) → P limits s x m → s ≡ front ++ m → 0 < length (front ++ before)
   front_some s m before rest front x h e = omega (arith, takes limits s x m h, ap length e, length-append front m, length-append front before)
 
-  pub many_later : Leaves P → (s m rest : List Mark) (x : X) → is_at test s ≡ true → P limits s x m → Refuses (Many test P) m rest → Refuses (Many test P) s rest
+  pub many_later : Leaves P → (s m rest : List Mark) (x : X) → is_at test s ≡ true → P limits s x m → RefusesAt (Many test P) m rest → RefusesAt (Many test P) s rest
   unfolding second_refused
   many_later leaves s m rest x does h q =
       let both = second_refused P (Many test P) p leaves s m rest x h q many_skip in

@@ -3,7 +3,7 @@ use Rattle.std.proofs.Common.{◌≡◌, ◌∙◌, ap, ℕ, zero, suc, ◌+◌,
 use Rattle.std.proofs.lemmas.List.{append_cancel_right}
 use Rattle.math_grammar.specs.Tokens.{Item}
 use Rattle.math_parse.specs.Limits.{passes, open_after, first_large_from, first_large}
-use Rattle.component_text.specs.Marks.{Mark, word, label, plain, run}
+use Rattle.component_text.specs.Marks.{Mark, word, label, plain, token_run}
 use Rattle.component_text.specs.Forms.{Bounds, limits, Run}
 use Rattle.component_text.specs.Grammar.{is_a_label}
 use Rattle.component_text.specs.Faults.{opens_formula, NoneIsLong}
@@ -41,23 +41,23 @@ pub taken_fewer : (k : ℕ) (f : List Item) → first_large (take (k + 1) f) ≡
 taken_fewer k f e = one_fewer 0 0 k f e
 
 -- the tokens of a formula that what stands first has of it
-run_front : (s rest : List Mark) → (g : List Item) × (run (s ++ rest) ≡ run s ++ g)
-run_front [] rest = (run rest, refl)
+run_front : (s rest : List Mark) → (g : List Item) × (token_run (s ++ rest) ≡ token_run s ++ g)
+run_front [] rest = (token_run rest, refl)
 run_front (plain x ∷ s) rest = let more = run_front s rest in (more.0, ap (λ f. x ∷ f) more.1)
 run_front (word w p ∷ s) rest = ([], refl)
 run_front (label l p ∷ s) rest = ([], refl)
 
-run_fewer : (s rest : List Mark) → first_large (run (s ++ rest)) ≡ None → first_large (run s) ≡ None
-run_fewer s rest e = let front = run_front s rest in fewer (run s) front.0 (sym (ap first_large front.1) ∙ e)
+run_fewer : (s rest : List Mark) → first_large (token_run (s ++ rest)) ≡ None → first_large (token_run s) ≡ None
+run_fewer s rest e = let front = run_front s rest in fewer (token_run s) front.0 (sym (ap first_large front.1) ∙ e)
 
 -- the same with less behind
 pub short_less : (f b rest : List Mark) → AreShort f (b ++ rest) → AreShort f b
 short_less [] b rest h = tt
-short_less (x ∷ f) b rest h = (λ o. run_fewer (f ++ b) rest (ap (λ s. first_large (run s)) (append_assoc f b rest) ∙ h.0 o), short_less f b rest h.1)
+short_less (x ∷ f) b rest h = (λ o. run_fewer (f ++ b) rest (ap (λ s. first_large (token_run s)) (append_assoc f b rest) ∙ h.0 o), short_less f b rest h.1)
 
 pub short_append : (f g m : List Mark) → AreShort f (g ++ m) → AreShort g m → AreShort (f ++ g) m
 short_append [] g m h k = k
-short_append (x ∷ f) g m h k = (λ o. ap (λ s. first_large (run s)) (append_assoc f g m) ∙ h.0 o, short_append f g m h.1 k)
+short_append (x ∷ f) g m h k = (λ o. ap (λ s. first_large (token_run s)) (append_assoc f g m) ∙ h.0 o, short_append f g m h.1 k)
 
 -- what stands first, and then what begins a part
 pub short_behind : (f m b rest : List Mark) → m ≡ b ++ rest → AreShort f m → AreShort b [] → AreShort (f ++ b) []
@@ -92,7 +92,7 @@ formula_short y f few = (λ o. ap first_large (run_of f [] nothing_there) ∙ fe
 pub run_short : {X : Type 0} (F : Bounds → List Item → X → Type 0) → ((f : List Item) (x : X) → F limits f x → first_large f ≡ None) →
     (y : Mark) (front t m : List Mark) (x : X) → Run F limits t x m → front ++ m ≡ y ∷ t → AreShort front m
 run_short F fits y front t m x h e =
-    let f = run t in
+    let f = token_run t in
     let there : t ≡ map plain f ++ m = run_split t ∙ ap (λ u. map plain f ++ u) (sym h.behind) in
     let is : front ≡ y ∷ map plain f = append_cancel_right front (y ∷ map plain f) m (e ∙ ap (λ u. y ∷ u) there) in
     let ended : Ended m = subst Ended (sym h.behind) (run_ends t) in
@@ -111,15 +111,15 @@ short_within s h = λ before x later e k.
     let whole : s ≡ k.lead ++ (first ∷ (map plain k.formula ++ x ∷ later)) = e ∙ ap (λ t. t ++ x ∷ later) k.is ∙ append_assoc k.lead (first ∷ map plain k.formula) (x ∷ later) in
     go k.lead first k.formula k.item x later k.opens k.token k.large (subst (λ t. AreShort t []) whole h)
   where
-    at : (f : List Item) (i : Item) (later : List Mark) → run ((map plain f ++ plain i ∷ later) ++ []) ≡ (f ++ i ∷ []) ++ run (later ++ [])
+    at : (f : List Item) (i : Item) (later : List Mark) → token_run ((map plain f ++ plain i ∷ later) ++ []) ≡ (f ++ i ∷ []) ++ token_run (later ++ [])
     at [] i later = refl
     at (z ∷ f) i later = ap (λ g. z ∷ g) (at f i later)
 
     go : (lead : List Mark) (y : Mark) (f : List Item) (i : Item) (x : Mark) (later : List Mark) → opens_formula y ≡ true → x ≡ plain i → first_large (f ++ i ∷ []) ≡ Some (length f) →
         AreShort (lead ++ (y ∷ (map plain f ++ x ∷ later))) [] → ⊥
     go [] y f i x later o is large h =
-        let few : first_large ((f ++ i ∷ []) ++ run (later ++ [])) ≡ None =
-        sym (ap first_large (at f i later)) ∙ ap (λ z. first_large (run ((map plain f ++ z ∷ later) ++ []))) (sym is) ∙ h.0 o in
-        let clash : Some (length f) ≡ None = sym large ∙ fewer (f ++ i ∷ []) (run (later ++ [])) few in
+        let few : first_large ((f ++ i ∷ []) ++ token_run (later ++ [])) ≡ None =
+        sym (ap first_large (at f i later)) ∙ ap (λ z. first_large (token_run ((map plain f ++ z ∷ later) ++ []))) (sym is) ∙ h.0 o in
+        let clash : Some (length f) ≡ None = sym large ∙ fewer (f ++ i ∷ []) (token_run (later ++ [])) few in
         cc
     go (z ∷ lead) y f i x later o is large h = go lead y f i x later o is large h.1

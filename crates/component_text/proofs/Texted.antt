@@ -7,7 +7,7 @@ use Rattle.formula_core.specs.declared.raw.Ref.{Ref}
 use Rattle.math_tokens.specs.declared.cutting.Token.{Token}
 use Rattle.component_tokens.specs.declared.piece.CutFault.{CutFault}
 use Rattle.component_tokens.specs.declared.piece.CutFault.TheVariants as wrong
-use Rattle.component_tokens.specs.Pieces.{Cut}
+use Rattle.component_tokens.specs.Pieces.{CutInto}
 use Rattle.model_core.specs.declared.component.RawComponent.{RawComponent}
 use Rattle.model_core.specs.declared.fault.Fault.{Fault}
 use Rattle.model_core.specs.declared.fault.FaultKind.{FaultKind}
@@ -20,8 +20,8 @@ use Rattle.component_text.specs.Forms.{Bounds, limits, parts, One, Then, Of}
 use Rattle.component_text.specs.Grammar.{reference, context_of, ContextBody, Headed}
 use Rattle.component_text.specs.Machines.{machine_of, MachineBody, IsComponent, a_context, a_machine}
 use Rattle.component_text.specs.Faults.{NoneIsLong, BeginsWithin, IsUnexpectedAt, IsTooLargeAt}
-use Rattle.component_text.specs.Spelled.{Spells, Finds, place_of, text_of, other_name, misnamed_behind, misnamed, IsFirst, bad_sign, number_too_wide, unexpected, unexpected_end, too_large, comment_not_closed, wrong_name, IsReadFault}
-use Rattle.component_text.specs.PrivatePieces.{Tells, fault_kind, fault_place, TellsAtEnd, TellsUnexpected, TellsTooLarge, ReadsPieces}
+use Rattle.component_text.specs.Spelled.{SpellsComponent, FindsComponent, place_of_mark, text_of_mark, other_name, misnamed_behind, misnamed, IsFirst, bad_sign, number_too_wide, unexpected, unexpected_end, too_large, comment_not_closed, wrong_name, IsReadFault}
+use Rattle.component_text.specs.PrivatePieces.{TellsFaultAt, fault_kind, fault_place, TellsAtEnd, TellsUnexpected, TellsTooLarge, ReadsPieces}
 use Rattle.component_text.proofs.Parts.{IsLooser}
 use Rattle.component_text.proofs.Whole.{headed_short}
 use Rattle.component_text.proofs.Components.{good_context_body, leaves_context_body}
@@ -34,29 +34,29 @@ module _ (Whole : Bounds → List Mark → RawComponent → Type 0) (name text :
   abbrev NoComponent : Type 0
   NoComponent = (c : RawComponent) → Whole limits marks c → (heading c).name ≡ name → cut ≡ None → ⊥
 
-  told : (answer : ReadFault) (k : FaultKind) (place : ℕ) (words : List ℕ) → Tells answer name k place words → IsFirst Whole name text marks cut k place words → NoComponent →
+  told : (answer : ReadFault) (k : FaultKind) (place : ℕ) (words : List ℕ) → TellsFaultAt answer name k place words → IsFirst Whole name text marks cut k place words → NoComponent →
       ReadsPieces Whole name text marks cut (Err answer)
   told (fault.Fault f) k place words t first isnt =
       (ap (λ g. g.component) t, subst (λ (g : Fault). IsFirst Whole name text marks cut g.kind g.place g.words) (sym t) first, isnt)
   told fault.OutOfMemory k place words t first isnt = tt
 
-  pub told_wrong_name : (answer : ReadFault) (p : ℕ) → misnamed name marks ≡ Some p → Tells answer name kind.WrongName p [] → NoComponent → ReadsPieces Whole name text marks cut (Err answer)
+  pub told_wrong_name : (answer : ReadFault) (p : ℕ) → misnamed name marks ≡ Some p → TellsFaultAt answer name kind.WrongName p [] → NoComponent → ReadsPieces Whole name text marks cut (Err answer)
   told_wrong_name answer p e t isnt = told answer kind.WrongName p [] t (wrong_name e) isnt
 
   -- what is wrong behind the tokens
-  told_cut : (answer : ReadFault) (f : CutFault) → misnamed name marks ≡ None → BeginsWithin Whole marks → cut ≡ Some f → Tells answer name (fault_kind f) (fault_place f) [] →
+  told_cut : (answer : ReadFault) (f : CutFault) → misnamed name marks ≡ None → BeginsWithin Whole marks → cut ≡ Some f → TellsFaultAt answer name (fault_kind f) (fault_place f) [] →
       ReadsPieces Whole name text marks cut (Err answer)
   told_cut answer (wrong.BadSign p) n h e t = told answer kind.BadSign p [] t (bad_sign n h e) (λ c w i k. let clash : Some (wrong.BadSign p) ≡ None = sym e ∙ k in cc)
   told_cut answer (wrong.NumberTooWide p) n h e t = told answer kind.NumberTooWide p [] t (number_too_wide n h e) (λ c w i k. let clash : Some (wrong.NumberTooWide p) ≡ None = sym e ∙ k in cc)
   told_cut answer (wrong.CommentNotClosed p) n h e t = told answer kind.CommentNotClosed p [] t (comment_not_closed n h e) (λ c w i k. let clash : Some (wrong.CommentNotClosed p) ≡ None = sym e ∙ k in cc)
 
   pub told_behind : (answer : ReadFault) (c : RawComponent) (f : CutFault) → misnamed name marks ≡ None → Whole parts marks c → NoneIsLong marks → cut ≡ Some f →
-      Tells answer name (fault_kind f) (fault_place f) [] → ReadsPieces Whole name text marks cut (Err answer)
+      TellsFaultAt answer name (fault_kind f) (fault_place f) [] → ReadsPieces Whole name text marks cut (Err answer)
   told_behind answer c f n h short e t = told_cut answer f n (record { continues = ([], c, subst (λ s. Whole parts s c) (sym (append-nil marks)) h); short = short }) e t
 
   pub told_unexpected : (answer : ReadFault) (rest : List Mark) → misnamed name marks ≡ None → IsUnexpectedAt Whole marks rest → ((c : RawComponent) → Whole limits marks c → ⊥) →
       TellsUnexpected answer name text rest cut → ReadsPieces Whole name text marks cut (Err answer)
-  told_unexpected answer (x ∷ later) n u isnt t = told answer kind.Unexpected (place_of x) (text_of x) t (unexpected n u) (λ c w i k. isnt c w)
+  told_unexpected answer (x ∷ later) n u isnt t = told answer kind.Unexpected (place_of_mark x) (text_of_mark x) t (unexpected n u) (λ c w i k. isnt c w)
   told_unexpected answer [] n u isnt t = at_end cut refl t
     where
       at_end : (o : Option CutFault) → cut ≡ o → TellsAtEnd answer name text o → ReadsPieces Whole name text marks cut (Err answer)
@@ -66,7 +66,7 @@ module _ (Whole : Bounds → List Mark → RawComponent → Type 0) (name text :
 
   pub told_too_large : (answer : ReadFault) (rest : List Mark) → misnamed name marks ≡ None → IsTooLargeAt Whole marks rest → ((c : RawComponent) → Whole limits marks c → ⊥) →
       TellsTooLarge answer name rest → ReadsPieces Whole name text marks cut (Err answer)
-  told_too_large answer (x ∷ later) n u isnt t = told answer kind.FormulaTooLarge (place_of x) [] t (too_large n u) (λ c w i k. isnt c w)
+  told_too_large answer (x ∷ later) n u isnt t = told answer kind.FormulaTooLarge (place_of_mark x) [] t (too_large n u) (λ c w i k. isnt c w)
   told_too_large answer [] n u isnt t = let e = u.next in cc
 
 -- a component within the limits begins one, and its heading is its own
@@ -133,17 +133,17 @@ component_has_name s c name (a_context h) = has_name (codes "context") (λ n p r
 component_has_name s c name (a_machine h) = has_name (codes "machine") (λ n p r. refl) machine_of (λ x. refl) _ s c name h
 
 -- what was read of the tokens is what the text spells
-module _ (law : OneFormula) (action_law : OneAction) (ways : (text : List ℕ) (ts us : List Token) (o p : Option CutFault) → Cut text 0 ts o → Cut text 0 us p → (ts ≡ us) × (o ≡ p))
-    (name text : List ℕ) (tokens : List Token) (wrong_behind : Option CutFault) (cut : Cut text 0 tokens wrong_behind) where
-  pub found : (c : RawComponent) → ReadsPieces IsComponent name text (marks_of text tokens) wrong_behind (Ok c) → Spells IsComponent name text c
+module _ (law : OneFormula) (action_law : OneAction) (ways : (text : List ℕ) (ts us : List Token) (o p : Option CutFault) → CutInto text 0 ts o → CutInto text 0 us p → (ts ≡ us) × (o ≡ p))
+    (name text : List ℕ) (tokens : List Token) (wrong_behind : Option CutFault) (cut : CutInto text 0 tokens wrong_behind) where
+  pub found : (c : RawComponent) → ReadsPieces IsComponent name text (marks_of text tokens) wrong_behind (Ok c) → SpellsComponent IsComponent name text c
   found c h = record {
     tokens = tokens;
-    cut = subst (Cut text 0 tokens) h.2 cut;
+    cut = subst (CutInto text 0 tokens) h.2 cut;
     sentence = h.0;
     named = component_has_name (marks_of text tokens) c name h.0 h.1;
   }
 
-  pub only : (r : Result RawComponent ReadFault) → ReadsPieces IsComponent name text (marks_of text tokens) wrong_behind r → (c : RawComponent) → Spells IsComponent name text c → Finds r c
+  pub only : (r : Result RawComponent ReadFault) → ReadsPieces IsComponent name text (marks_of text tokens) wrong_behind r → (c : RawComponent) → SpellsComponent IsComponent name text c → FindsComponent r c
   only (Ok d) h c k =
       let same = ways text k.tokens tokens None wrong_behind k.cut cut in
       component_unique law action_law limits (marks_of text tokens) d c h.0 (subst (λ ts. IsComponent limits (marks_of text ts) c) same.0 k.sentence)
@@ -156,6 +156,6 @@ module _ (law : OneFormula) (action_law : OneAction) (ways : (text : List ℕ) (
   at_fault (fault.Fault f) h = (tokens, wrong_behind, cut, h.0, h.1)
   at_fault fault.OutOfMemory h = tt
 
-  pub found_in : (r : Result RawComponent ReadFault) → ReadsPieces IsComponent name text (marks_of text tokens) wrong_behind r → IfOk r (λ c. Spells IsComponent name text c)
+  pub found_in : (r : Result RawComponent ReadFault) → ReadsPieces IsComponent name text (marks_of text tokens) wrong_behind r → IfOk r (λ c. SpellsComponent IsComponent name text c)
   found_in (Ok c) h = found c h
   found_in (Err e) h = tt

@@ -8,7 +8,7 @@ use Rattle.math_grammar.specs.Tokens.{Item}
 use Rattle.math_grammar.specs.Grammar.{Spells}
 use Rattle.math_parse.specs.Limits.{most_parts}
 use Rattle.model_core.specs.declared.component.RawComponent.{RawComponent}
-use Rattle.component_text.specs.Marks.{Mark, word, is_word, is_at}
+use Rattle.component_text.specs.Marks.{Mark, word, is_word_mark, is_at}
 use Rattle.component_text.specs.Forms.{Bounds, limits, parts, none, One, Run, Nothing, Then, Choice, taken, other, Many, no_more, one_more, Of}
 use Rattle.component_text.specs.Grammar.{Within, IsFormula, IsPlaced, reference, is_reference, label_at, Names, SomeNames, labelled, Labelled, Line, begins_line, Lines, NamesBehind, SomeNamesBehind, LinesBehind, context_of, ContextBody, IsContext}
 use Rattle.component_text.proofs.Parts.{Good, same_start_self, good_one}
@@ -91,7 +91,7 @@ module _ (law : OneFormula) where
       (then_unique (One label_at) (Run (IsPlaced hole.Predicate)) (good_one label_at) (one_unique label_at) predicate_unique)
 
   line_unique : Unique Line
-  line_unique = choice_unique (is_word (codes "theorem")) (Labelled true) (Labelled false) (labelled_unique true) (labelled_unique false)
+  line_unique = choice_unique (is_word_mark (codes "theorem")) (Labelled true) (Labelled false) (labelled_unique true) (labelled_unique false)
 
   pub lines_unique : Unique Lines
   lines_unique = many_unique begins_line Line good_line line_unique
@@ -109,10 +109,10 @@ module _ (law : OneFormula) where
   context_body_unique =
       of_unique context_of _
       (then_unique (One reference) _ (good_one reference) (one_unique reference)
-      (then_unique (SomeNamesBehind (codes "extends")) _ good_extends (section_unique (is_word (codes "extends")) SomeNames some_names_unique)
-      (then_unique (NamesBehind (codes "sets")) _ good_sets (section_unique (is_word (codes "sets")) Names names_unique)
-      (then_unique (NamesBehind (codes "constants")) (LinesBehind (codes "axioms")) good_constants (section_unique (is_word (codes "constants")) Names names_unique)
-      (section_unique (is_word (codes "axioms")) Lines lines_unique)))))
+      (then_unique (SomeNamesBehind (codes "extends")) _ good_extends (section_unique (is_word_mark (codes "extends")) SomeNames some_names_unique)
+      (then_unique (NamesBehind (codes "sets")) _ good_sets (section_unique (is_word_mark (codes "sets")) Names names_unique)
+      (then_unique (NamesBehind (codes "constants")) (LinesBehind (codes "axioms")) good_constants (section_unique (is_word_mark (codes "constants")) Names names_unique)
+      (section_unique (is_word_mark (codes "axioms")) Lines lines_unique)))))
 
   pub context_unique : (b : Bounds) (s : List Mark) (c d : RawComponent) → IsContext b s c → IsContext b s d → c ≡ d
   context_unique b s c d h k =

@@ -13,17 +13,17 @@ use Rattle.formula_core.specs.Texts.{is_in_label}
 use Rattle.math_tokens.specs.declared.lexemes.Lexeme.{Lexeme}
 use Rattle.math_tokens.specs.declared.cutting.Token.{Token}
 use Rattle.math_tokens.specs.SignForms.{sign_forms}
-use Rattle.math_tokens.specs.Lexemes.{Forms, sign_in, is_digit, is_word, is_digits, IsLexeme, a_sign, a_word, a_primed, a_number}
+use Rattle.math_tokens.specs.Lexemes.{Forms, sign_in, is_digit, is_token_word, is_digits, IsLexeme, a_sign, a_word, a_primed, a_number}
 use Rattle.math_grammar.specs.Tokens.{bytes_of}
 use Rattle.component_tokens.specs.declared.piece.CutFault.{CutFault}
 use Rattle.component_tokens.specs.declared.piece.Piece.TheVariants as piece
-use Rattle.component_tokens.specs.Pieces.{at_sign, label_run, label_length, IsPieceAt, Cut, at_end, over_gap, past_token, at_fault}
+use Rattle.component_tokens.specs.Pieces.{at_sign, label_run, label_length, IsPieceAt, CutInto, at_end, over_gap, past_token, at_fault}
 use Rattle.std.specs.Prelude.{slice_get}
 use Rattle.std.specs.List.{AllByRecursion}
 use Rattle.formula_core.specs.Texts.{begins_with}
 use Rattle.math_grammar.specs.Tokens.{item_of}
-use Rattle.component_text.specs.Marks.{Mark, mark_of, marks_of, is_structural}
-use Rattle.component_text.specs.Spelled.{place_of, text_of}
+use Rattle.component_text.specs.Marks.{Mark, token_mark, marks_of, is_structural}
+use Rattle.component_text.specs.Spelled.{place_of_mark, text_of_mark}
 use Rattle.component_text.specs.PrivatePieces.{HasText}
 use Rattle.component_text.proofs.Marks.{by_word, by_label, by_plain}
 use Rattle.component_text.proofs.Texts.{both, all_low, in_word_low, in_label_low, start_in_word}
@@ -43,7 +43,7 @@ ascii_append (x ∷ xs) ys a b = ascii_cons x (xs ++ ys) (a zero) (ascii_append 
 digit_low : (c : ℕ) → is_digit c ≡ true → c < 128
 digit_low c h = grind (arith, nat_tests)
 
-word_ascii : (w : List ℕ) → is_word w ≡ true → IsAscii w
+word_ascii : (w : List ℕ) → is_token_word w ≡ true → IsAscii w
 word_ascii [] h = ascii_nil
 word_ascii (c ∷ cs) h =
     let two = both (starts_word c) (list_all is_in_word cs) h in
@@ -118,23 +118,23 @@ module _ (text : List ℕ) where
   begins_cons [] e = cc
   begins_cons (c ∷ cs) e = ap (λ d. d ∷ cs) (sym (eqb-true c at_sign e))
 
-  pub mark_text : (t : Token) → text_of (mark_of text t) ≡ bytes_of text t
+  pub mark_text : (t : Token) → text_of_mark (token_mark text t) ≡ bytes_of text t
   mark_text t = go (begins_with at_sign (bytes_of text t)) refl (is_structural (bytes_of text t)) refl
     where
-      go : (a : Bool) → begins_with at_sign (bytes_of text t) ≡ a → (b : Bool) → is_structural (bytes_of text t) ≡ b → text_of (mark_of text t) ≡ bytes_of text t
-      go true e b f = ap text_of (by_label (bytes_of text t) t.from (item_of text t) e) ∙ begins_cons (bytes_of text t) e
-      go false e true f = ap text_of (by_word (bytes_of text t) t.from (item_of text t) e f)
-      go false e false f = ap text_of (by_plain (bytes_of text t) t.from (item_of text t) e f)
+      go : (a : Bool) → begins_with at_sign (bytes_of text t) ≡ a → (b : Bool) → is_structural (bytes_of text t) ≡ b → text_of_mark (token_mark text t) ≡ bytes_of text t
+      go true e b f = ap text_of_mark (by_label (bytes_of text t) t.from (item_of text t) e) ∙ begins_cons (bytes_of text t) e
+      go false e true f = ap text_of_mark (by_word (bytes_of text t) t.from (item_of text t) e f)
+      go false e false f = ap text_of_mark (by_plain (bytes_of text t) t.from (item_of text t) e f)
 
-  pub mark_place : (t : Token) → place_of (mark_of text t) ≡ t.from
+  pub mark_place : (t : Token) → place_of_mark (token_mark text t) ≡ t.from
   mark_place t = go (begins_with at_sign (bytes_of text t)) refl (is_structural (bytes_of text t)) refl
     where
-      go : (a : Bool) → begins_with at_sign (bytes_of text t) ≡ a → (b : Bool) → is_structural (bytes_of text t) ≡ b → place_of (mark_of text t) ≡ t.from
-      go true e b f = ap place_of (by_label (bytes_of text t) t.from (item_of text t) e)
-      go false e true f = ap place_of (by_word (bytes_of text t) t.from (item_of text t) e f)
-      go false e false f = ap place_of (by_plain (bytes_of text t) t.from (item_of text t) e f)
+      go : (a : Bool) → begins_with at_sign (bytes_of text t) ≡ a → (b : Bool) → is_structural (bytes_of text t) ≡ b → place_of_mark (token_mark text t) ≡ t.from
+      go true e b f = ap place_of_mark (by_label (bytes_of text t) t.from (item_of text t) e)
+      go false e true f = ap place_of_mark (by_word (bytes_of text t) t.from (item_of text t) e f)
+      go false e false f = ap place_of_mark (by_plain (bytes_of text t) t.from (item_of text t) e f)
 
-  pub marks_are_text : (at : ℕ) (ts : List Token) (o : Option CutFault) → Cut text at ts o → AllByRecursion HasText (marks_of text ts)
+  pub marks_are_text : (at : ℕ) (ts : List Token) (o : Option CutFault) → CutInto text at ts o → AllByRecursion HasText (marks_of text ts)
   marks_are_text at ts o (at_end e) = tt
   marks_are_text at ts o (over_gap {n = n} i h c) = marks_are_text (at + n) ts o c
   marks_are_text at ts o (past_token {ts = us} t i h c) = (subst IsUtf8 (sym (mark_text t)) (piece_text at t h), marks_are_text t.to us o c)
@@ -145,8 +145,8 @@ all_behind [] rest h = h
 all_behind (x ∷ front) rest h = all_behind front rest h.1
 
 pub first_is : (text : List ℕ) (tokens : List Token) (t : Token) → Some t ≡ slice_get tokens 0 →
-    (x : Mark) × (later : List Mark) × (marks_of text tokens ≡ x ∷ later) × (t.from ≡ place_of x) × (bytes_of text t ≡ text_of x)
+    (x : Mark) × (later : List Mark) × (marks_of text tokens ≡ x ∷ later) × (t.from ≡ place_of_mark x) × (bytes_of text t ≡ text_of_mark x)
 first_is text [] t e = cc
 first_is text (u ∷ tokens) t e =
     let same : u ≡ t = cc in
-    (mark_of text t, marks_of text tokens, ap (λ v. mark_of text v ∷ marks_of text tokens) same, sym (mark_place text t), sym (mark_text text t))
+    (token_mark text t, marks_of text tokens, ap (λ v. token_mark text v ∷ marks_of text tokens) same, sym (mark_place text t), sym (mark_text text t))

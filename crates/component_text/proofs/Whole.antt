@@ -3,18 +3,18 @@ use Rattle.std.proofs.Common.{◌≡◌, ◌∙◌, ap, ℕ, List, [], ◌∷◌
 use Rattle.std.specs.Prelude.{codes}
 use Rattle.std.proofs.lemmas.Slice.Eq.{bytes_eq-Decides}
 use Rattle.model_core.specs.declared.component.RawComponent.{RawComponent}
-use Rattle.component_text.specs.Marks.{Mark, word, label, plain, is_word, is_at}
+use Rattle.component_text.specs.Marks.{Mark, word, label, plain, is_word_mark, is_at}
 use Rattle.component_text.specs.Forms.{Bounds, limits, parts, none}
 use Rattle.component_text.specs.Grammar.{Headed}
 use Rattle.component_text.specs.Faults.{NoneIsLong, Continues, BeginsWithin, NoneGoesOn, IsLargeAt, long, wide, IsUnexpectedAt, IsTooLargeAt}
-use Rattle.component_text.specs.PrivateReading.{end_mark, BeginsIn, Begins, NoneHasIn, NoneHas, IsLargeIn, is_long, is_wide, AreShort, Refuses, Passes, behind_word, Placed, no_formula}
+use Rattle.component_text.specs.PrivateReading.{end_mark, BeginsIn, Begins, NoneHasIn, NoneHas, IsLargeIn, is_long, is_wide, AreShort, RefusesAt, Passes, behind_word, Placed, no_formula}
 use Rattle.component_text.proofs.Placed.{placed_small, placed_behind, placed_after, word_free, none_free, both_free, Leaves}
 use Rattle.component_text.proofs.Shorts.{short_less, short_append, word_short, short_within}
 use Rattle.component_text.proofs.Parts.{both_end, same_first, same, closing, Good, same_start_self}
 use Rattle.component_text.proofs.Refusing.{longer}
 
 -- a mark that is the word
-pub word_is : (w : List ℕ) (x : Mark) → is_word w x ≡ true → (p : ℕ) × (x ≡ word w p)
+pub word_is : (w : List ℕ) (x : Mark) → is_word_mark w x ≡ true → (p : ℕ) × (x ≡ word w p)
 word_is w (word v p) e = (p, ap (λ u. word u p) ((bytes_eq-Decides v w).0 e))
 word_is w (label l p) e = cc
 word_is w (plain x) e = cc
@@ -57,7 +57,7 @@ module _ (w : List ℕ) (no_variant : bytes_eq w (codes "variant") ≡ false) (B
   body_within : (p : ℕ) (before : List Mark) → Begins Body before → AreShort before [] → BeginsWithin Whole (word w p ∷ before)
   body_within p before h short = record { continues = begun parts p before h; short = short_within (word w p ∷ before) (word_short w p before [] no_variant short) }
 
-  pub body_unexpected : (s m rest : List Mark) (p : ℕ) → s ≡ word w p ∷ m → Refuses Body m rest → IsUnexpectedAt Whole s rest
+  pub body_unexpected : (s m rest : List Mark) (p : ℕ) → s ≡ word w p ∷ m → RefusesAt Body m rest → IsUnexpectedAt Whole s rest
   body_unexpected s m rest p e h = record {
     before = word w p ∷ h.before;
     is = e ∙ ap (λ t. word w p ∷ t) h.is;
@@ -78,14 +78,14 @@ module _ (w : List ℕ) (no_variant : bytes_eq w (codes "variant") ≡ false) (B
   }
 
   -- the word doesn't stand first
-  no_head : (s : List Mark) → is_at (is_word w) s ≡ false → NoneGoesOn Whole [] s
+  no_head : (s : List Mark) → is_at (is_word_mark w) s ≡ false → NoneGoesOn Whole [] s
   no_head [] e = λ c h. let d = h.head in cc
   no_head (y ∷ rest) e = λ more c h.
       let is : y ≡ word w h.place = (let d = h.head in cc) in
-      let does : is_word w y ≡ true = ap (is_word w) is ∙ same_word w in
+      let does : is_word_mark w y ≡ true = ap (is_word_mark w) is ∙ same_word w in
       cc
 
-  pub head_unexpected : (s : List Mark) → is_at (is_word w) s ≡ false → Begins Body [] → IsUnexpectedAt Whole s s
+  pub head_unexpected : (s : List Mark) → is_at (is_word_mark w) s ≡ false → Begins Body [] → IsUnexpectedAt Whole s s
   head_unexpected s e h = record {
     before = [];
     is = refl;
@@ -98,8 +98,8 @@ module _ (w : List ℕ) (no_variant : bytes_eq w (codes "variant") ≡ false) (B
   }
 
   -- what is refused is no component
-  pub head_wrong : (s : List Mark) → is_at (is_word w) s ≡ false → (c : RawComponent) → Whole limits s c → ⊥
-  head_wrong s e c h = let does : is_at (is_word w) s ≡ true = ap (is_at (is_word w)) h.head ∙ same_word w in cc
+  pub head_wrong : (s : List Mark) → is_at (is_word_mark w) s ≡ false → (c : RawComponent) → Whole limits s c → ⊥
+  head_wrong s e c h = let does : is_at (is_word_mark w) s ≡ true = ap (is_at (is_word_mark w)) h.head ∙ same_word w in cc
 
   pub body_wrong : (s m : List Mark) (p : ℕ) → s ≡ word w p ∷ m → ((c : RawComponent) (r : List Mark) → Body limits m c r → ⊥) → (c : RawComponent) → Whole limits s c → ⊥
   body_wrong s m p e h c k =
@@ -118,7 +118,7 @@ module _ (w : List ℕ) (no_variant : bytes_eq w (codes "variant") ≡ false) (B
         isnt g.end_place (sym r_is ∙ g.end)
 
     -- `end` doesn't stand behind the body
-    no_end : (front k : List Mark) (p : ℕ) (c : RawComponent) → Body limits (front ++ k) c k → is_at (is_word (codes "end")) k ≡ false → NoneGoesOn Whole (word w p ∷ front) k
+    no_end : (front k : List Mark) (p : ℕ) (c : RawComponent) → Body limits (front ++ k) c k → is_at (is_word_mark (codes "end")) k ≡ false → NoneGoesOn Whole (word w p ∷ front) k
     no_end front [] p c h e = λ d g. in_body_end front [] p d g (λ r b f.
         let r_is : r ≡ [] = good.agrees limits none front [] [] c d r h both_end (subst (λ t. Body none t d r) (sym (append-nil front)) b) in cc)
       where
@@ -129,10 +129,10 @@ module _ (w : List ℕ) (no_variant : bytes_eq w (codes "variant") ≡ false) (B
         let tail : g.behind ≡ n = (let e = g.head in cc) in
         let r_is : g.rest ≡ y ∷ more = good.agrees limits none front (y ∷ k) (y ∷ more) c d g.rest h same_first (subst (λ t. Body none t d g.rest) tail g.body) in
         let y_is : y ≡ word (codes "end") g.end_place = (let f = g.end in cc) in
-        let does : is_word (codes "end") y ≡ true = ap (is_word (codes "end")) y_is in
+        let does : is_word_mark (codes "end") y ≡ true = ap (is_word_mark (codes "end")) y_is in
         cc
 
-    pub after_body : Leaves Body → (s m k : List Mark) (p : ℕ) (c : RawComponent) → s ≡ word w p ∷ m → Body limits m c k → is_at (is_word (codes "end")) k ≡ false → IsUnexpectedAt Whole s k
+    pub after_body : Leaves Body → (s m k : List Mark) (p : ℕ) (c : RawComponent) → s ≡ word w p ∷ m → Body limits m c k → is_at (is_word_mark (codes "end")) k ≡ false → IsUnexpectedAt Whole s k
     after_body leaves s m k p c e h isnt =
         let front = good.split limits m c k h in
         let there : Body limits (front.0 ++ k) c k = subst (λ t. Body limits t c k) front.1 h in

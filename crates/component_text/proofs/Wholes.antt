@@ -4,12 +4,12 @@ use Rattle.std.specs.Prelude.{Result, codes, ◌⊎◌}
 use Rattle.model_core.specs.declared.component.RawComponent.{RawComponent}
 use Rattle.component_text.specs.declared.stop.Stop.{Stop}
 use Rattle.component_text.specs.declared.stop.Stop.TheVariants as stop
-use Rattle.component_text.specs.Marks.{Mark, word, is_word, is_at}
+use Rattle.component_text.specs.Marks.{Mark, word, is_word_mark, is_at}
 use Rattle.component_text.specs.Forms.{Bounds, limits, parts, none}
 use Rattle.component_text.specs.Grammar.{Headed, IsContext}
 use Rattle.component_text.specs.Machines.{IsMachine, MachineBody, IsComponent, a_context, a_machine}
 use Rattle.component_text.specs.Faults.{Continues, BeginsWithin, NoneGoesOn, IsLargeAt, long, wide}
-use Rattle.component_text.specs.PrivateReading.{Begins, Reads, Ends, ReadsWhole}
+use Rattle.component_text.specs.PrivateReading.{Begins, ReadsOrStops, TakesEnd, ReadsWhole}
 use Rattle.component_text.proofs.Parts.{Good}
 use Rattle.component_text.proofs.Placed.{Leaves}
 use Rattle.component_text.proofs.Whole.{whole, body_unexpected, body_too_large, head_unexpected, head_wrong, body_wrong, after_body, after_end, end_wrong}
@@ -20,20 +20,20 @@ module _ (w : List ℕ) (no_variant : bytes_eq w (codes "variant") ≡ false) (B
   abbrev IsWhole : Bounds → List Mark → RawComponent → Type 0
   IsWhole = Headed w Body
 
-  body_stops : (s m rest : List Mark) (p : ℕ) (e : Stop) → s ≡ word w p ∷ m → Reads Body m (Err e) rest → ReadsWhole IsWhole s (Err e) rest
+  body_stops : (s m rest : List Mark) (p : ℕ) (e : Stop) → s ≡ word w p ∷ m → ReadsOrStops Body m (Err e) rest → ReadsWhole IsWhole s (Err e) rest
   body_stops s m rest p stop.Unexpected e h = (body_unexpected w no_variant Body s m rest p e h, body_wrong w no_variant Body s m p e h.wrong)
   body_stops s m rest p stop.TooLarge e h = (body_too_large w no_variant Body s m rest p e h, body_wrong w no_variant Body s m p e h.wrong)
   body_stops s m rest p stop.OutOfMemory e h = tt
 
-  head_missing : (s m : List Mark) → (m ≡ s) × (is_at (is_word w) s ≡ false) → ReadsWhole IsWhole s (Err stop.Unexpected) m
+  head_missing : (s m : List Mark) → (m ≡ s) × (is_at (is_word_mark w) s ≡ false) → ReadsWhole IsWhole s (Err stop.Unexpected) m
   head_missing s m h = subst (λ t. ReadsWhole IsWhole s (Err stop.Unexpected) t) (sym h.0) (head_unexpected w no_variant Body s h.1 start, head_wrong w no_variant Body s h.1)
 
-  whole_unended : (s m k rest : List Mark) (p : ℕ) (c : RawComponent) → s ≡ word w p ∷ m → Body limits m c k → Ends k false rest → ReadsWhole IsWhole s (Err stop.Unexpected) rest
+  whole_unended : (s m k rest : List Mark) (p : ℕ) (c : RawComponent) → s ≡ word w p ∷ m → Body limits m c k → TakesEnd k false rest → ReadsWhole IsWhole s (Err stop.Unexpected) rest
   whole_unended s m k rest p c e h (inl f) =
       subst (λ t. ReadsWhole IsWhole s (Err stop.Unexpected) t) (sym f.0) (
         after_body w no_variant Body good leaves s m k p c e h f.1,
         end_wrong w no_variant Body good s m k p c e h
-            (λ q is. let does : is_at (is_word (codes "end")) k ≡ true = ap (is_at (is_word (codes "end"))) is in let contra : true ≡ false = sym does ∙ f.1 in cc),
+            (λ q is. let does : is_at (is_word_mark (codes "end")) k ≡ true = ap (is_at (is_word_mark (codes "end"))) is in let contra : true ≡ false = sym does ∙ f.1 in cc),
       )
   whole_unended s m k rest p c e h (inr f) =
       let is : k ≡ word (codes "end") f.0 ∷ (f.1 ∷ f.2) = f.3 ∙ ap (λ t. word (codes "end") f.0 ∷ t) f.4 in
@@ -42,21 +42,21 @@ module _ (w : List ℕ) (no_variant : bytes_eq w (codes "variant") ≡ false) (B
         end_wrong w no_variant Body good s m k p c e h (λ q other. let clash : word (codes "end") q ∷ [] ≡ word (codes "end") f.0 ∷ (f.1 ∷ f.2) = sym other ∙ is in cc),
       )
 
-pub machine_stops : (s m rest : List Mark) (p : ℕ) (e : Stop) → s ≡ word (codes "machine") p ∷ m → Reads MachineBody m (Err e) rest → ReadsWhole IsMachine s (Err e) rest
+pub machine_stops : (s m rest : List Mark) (p : ℕ) (e : Stop) → s ≡ word (codes "machine") p ∷ m → ReadsOrStops MachineBody m (Err e) rest → ReadsWhole IsMachine s (Err e) rest
 machine_stops = body_stops (codes "machine") refl MachineBody good_machine_body leaves_machine_body machine_body_begins
 
-pub no_machine : (s m : List Mark) → (m ≡ s) × (is_at (is_word (codes "machine")) s ≡ false) → ReadsWhole IsMachine s (Err stop.Unexpected) m
+pub no_machine : (s m : List Mark) → (m ≡ s) × (is_at (is_word_mark (codes "machine")) s ≡ false) → ReadsWhole IsMachine s (Err stop.Unexpected) m
 no_machine = head_missing (codes "machine") refl MachineBody good_machine_body leaves_machine_body machine_body_begins
 
-pub machine_read : (s m k rest : List Mark) (p : ℕ) (c : RawComponent) → s ≡ word (codes "machine") p ∷ m → MachineBody limits m c k → Ends k true rest → IsMachine limits s c
+pub machine_read : (s m k rest : List Mark) (p : ℕ) (c : RawComponent) → s ≡ word (codes "machine") p ∷ m → MachineBody limits m c k → TakesEnd k true rest → IsMachine limits s c
 machine_read s m k rest p c e h f = whole (codes "machine") refl MachineBody s m k p f.0 c e h f.1
 
-pub machine_unended : (s m k rest : List Mark) (p : ℕ) (c : RawComponent) → s ≡ word (codes "machine") p ∷ m → MachineBody limits m c k → Ends k false rest → ReadsWhole IsMachine s (Err stop.Unexpected) rest
+pub machine_unended : (s m k rest : List Mark) (p : ℕ) (c : RawComponent) → s ≡ word (codes "machine") p ∷ m → MachineBody limits m c k → TakesEnd k false rest → ReadsWhole IsMachine s (Err stop.Unexpected) rest
 machine_unended = whole_unended (codes "machine") refl MachineBody good_machine_body leaves_machine_body machine_body_begins
 
 -- whether `machine` stands first
 abbrev begins_machine : List Mark → Bool
-begins_machine s = is_at (is_word (codes "machine")) s
+begins_machine s = is_at (is_word_mark (codes "machine")) s
 
 same_before : (before : List Mark) (x : Mark) (rest more : List Mark) → begins_machine (before ++ x ∷ rest) ≡ begins_machine (before ++ x ∷ more)
 same_before [] x rest more = refl

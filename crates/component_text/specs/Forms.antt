@@ -1,7 +1,7 @@
 -- How a grammar is put together of parts. A part relates what stands there to what its beginning says, and to what stands behind that.
 use Rattle.std.specs.Prelude.{◌≡◌, Bool, true, false, List, [], ◌∷◌, Option, Some}
 use Rattle.math_grammar.specs.Tokens.{Item}
-use Rattle.component_text.specs.Marks.{Mark, run, behind_run, is_at}
+use Rattle.component_text.specs.Marks.{Mark, token_run, behind_run, is_at}
 
 -- What bounds formulas: all their limits, that of partitions alone, or none.
 pub data Bounds : Type 0 where
@@ -17,7 +17,7 @@ pub record One {X : Type 0} (value : Mark → Option X) (b : Bounds) (s : List M
 
 -- a formula: all tokens before the next structural word or label
 pub record Run {X : Type 0} (F : Bounds → List Item → X → Type 0) (b : Bounds) (s : List Mark) (x : X) (rest : List Mark) : Type 0 where
-  pub spelled : F b (run s) x
+  pub spelled : F b (token_run s) x
   pub behind : rest ≡ behind_run s
 
 -- nothing

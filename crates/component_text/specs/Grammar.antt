@@ -12,7 +12,7 @@ use Rattle.math_parse.specs.Limits.{most_parts, SpellsWithin}
 use Rattle.model_core.specs.declared.component.RawLabelled.{RawLabelled}
 use Rattle.model_core.specs.declared.component.RawComponent.{RawComponent}
 use Rattle.model_core.specs.declared.component.RawComponent.TheVariants.{Context}
-use Rattle.component_text.specs.Marks.{Mark, word, label, plain, is_word}
+use Rattle.component_text.specs.Marks.{Mark, word, label, plain, is_word_mark}
 use Rattle.component_text.specs.Forms.{Bounds, limits, parts, none, One, Run, Nothing, Then, Choice, Many, Of}
 
 -- what is spelled within the bounds
@@ -71,10 +71,10 @@ Labelled theorem = Of (labelled theorem) (Then (One label_at) (Run (IsPlaced hol
 
 -- ["theorem"] label pred
 abbrev pub Line : Bounds → List Mark → RawLabelled → List Mark → Type 0
-Line = Choice (is_word (codes "theorem")) (Labelled true) (Labelled false)
+Line = Choice (is_word_mark (codes "theorem")) (Labelled true) (Labelled false)
 
 abbrev pub begins_line : Mark → Bool
-begins_line x = is_a_label x || is_word (codes "theorem") x
+begins_line x = is_a_label x || is_word_mark (codes "theorem") x
 
 -- {line}
 abbrev pub Lines : Bounds → List Mark → List RawLabelled → List Mark → Type 0
@@ -82,15 +82,15 @@ Lines = Many begins_line Line
 
 -- [word {name}]
 abbrev pub NamesBehind : List ℕ → Bounds → List Mark → List Ref → List Mark → Type 0
-NamesBehind w = Choice (is_word w) Names (Nothing [])
+NamesBehind w = Choice (is_word_mark w) Names (Nothing [])
 
 -- [word name {name}]
 abbrev pub SomeNamesBehind : List ℕ → Bounds → List Mark → List Ref → List Mark → Type 0
-SomeNamesBehind w = Choice (is_word w) SomeNames (Nothing [])
+SomeNamesBehind w = Choice (is_word_mark w) SomeNames (Nothing [])
 
 -- [word {line}]
 abbrev pub LinesBehind : List ℕ → Bounds → List Mark → List RawLabelled → List Mark → Type 0
-LinesBehind w = Choice (is_word w) Lines (Nothing [])
+LinesBehind w = Choice (is_word_mark w) Lines (Nothing [])
 
 -- name ["extends" name {name}] ["sets" {name}] ["constants" {name}] ["axioms" {line}]
 abbrev pub context_of : (Ref × (List Ref × (List Ref × (List Ref × List RawLabelled)))) → RawComponent

@@ -15,12 +15,12 @@ use Rattle.model_core.specs.declared.component.RawEvent.{RawEvent}
 use Rattle.model_core.specs.declared.component.RawComponent.{RawComponent}
 use Rattle.model_core.specs.declared.component.RawComponent.TheVariants.{Machine}
 use Rattle.component_text.specs.declared.machine.Abstracts.{Abstracts}
-use Rattle.component_text.specs.Marks.{Mark, word, label, plain, is_word}
+use Rattle.component_text.specs.Marks.{Mark, word, label, plain, is_word_mark}
 use Rattle.component_text.specs.Forms.{Bounds, One, Run, Nothing, Then, Choice, Many, Of}
 use Rattle.component_text.specs.Grammar.{Within, IsPlaced, reference, label_at, is_a_label, Labelled, Lines, NamesBehind, SomeNamesBehind, LinesBehind, Headed, IsContext}
 
-abbrev pub IsAct : Bounds → List Item → RawAction → Type 0
-IsAct = Within SpellsAction
+abbrev pub IsActionWithin : Bounds → List Item → RawAction → Type 0
+IsActionWithin = Within SpellsAction
 
 -- the word, by its place
 abbrev pub word_at : List ℕ → Mark → Option ℕ
@@ -30,7 +30,7 @@ word_at w (plain x) = None
 
 -- ["refines" name]
 abbrev pub Refines : Bounds → List Mark → Option Ref → List Mark → Type 0
-Refines = Choice (is_word (codes "refines")) (Of Some (One reference)) (Nothing None)
+Refines = Choice (is_word_mark (codes "refines")) (Of Some (One reference)) (Nothing None)
 
 -- ["variant" [label] expr]
 abbrev pub Expression : Bounds → List Mark → (Raw × ℕ) → List Mark → Type 0
@@ -43,21 +43,21 @@ abbrev pub variant_of : (Raw × ℕ) → Option RawVariant
 variant_of p = Some (record { formula = p.0; first = p.1 })
 
 abbrev pub Variant : Bounds → List Mark → Option RawVariant → List Mark → Type 0
-Variant = Choice (is_word (codes "variant")) (Of variant_of VariantExpression) (Nothing None)
+Variant = Choice (is_word_mark (codes "variant")) (Of variant_of VariantExpression) (Nothing None)
 
 -- {label pred}
 abbrev pub Witnesses : Bounds → List Mark → List RawLabelled → List Mark → Type 0
 Witnesses = Many is_a_label (Labelled false)
 
 -- {label action}
-abbrev pub step : ((List ℕ × ℕ) × RawAction) → RawStep
-step p = record { label = p.0.0; action = p.1; place = p.0.1 }
+abbrev pub labelled_step : ((List ℕ × ℕ) × RawAction) → RawStep
+labelled_step p = record { label = p.0.0; action = p.1; place = p.0.1 }
 
 abbrev pub Step : Bounds → List Mark → RawStep → List Mark → Type 0
-Step = Of step (Then (One label_at) (Run IsAct))
+Step = Of labelled_step (Then (One label_at) (Run IsActionWithin))
 
-abbrev pub Steps : Bounds → List Mark → List RawStep → List Mark → Type 0
-Steps = Many is_a_label Step
+abbrev pub ManySteps : Bounds → List Mark → List RawStep → List Mark → Type 0
+ManySteps = Many is_a_label Step
 
 -- ["extends" name | "refines" name {name}]
 abbrev pub extending : Ref → Abstracts
@@ -67,26 +67,26 @@ abbrev pub refining : List Ref → Abstracts
 refining ns = record { extended = false; names = ns }
 
 abbrev pub References : Bounds → List Mark → Abstracts → List Mark → Type 0
-References = Choice (is_word (codes "extends")) (Of extending (One reference)) (Of refining (SomeNamesBehind (codes "refines")))
+References = Choice (is_word_mark (codes "extends")) (Of extending (One reference)) (Of refining (SomeNamesBehind (codes "refines")))
 
 -- [("where"|"when") {line}] ["with" {label pred}] [("then"|"begin") {label action}] "end"
 abbrev pub either : List ℕ → List ℕ → Mark → Bool
-either v w x = is_word v x || is_word w x
+either v w x = is_word_mark v x || is_word_mark w x
 
 abbrev pub Guards : Bounds → List Mark → List RawLabelled → List Mark → Type 0
 Guards = Choice (either (codes "where") (codes "when")) Lines (Nothing [])
 
 abbrev pub With : Bounds → List Mark → List RawLabelled → List Mark → Type 0
-With = Choice (is_word (codes "with")) Witnesses (Nothing [])
+With = Choice (is_word_mark (codes "with")) Witnesses (Nothing [])
 
 abbrev pub Actions : Bounds → List Mark → List RawStep → List Mark → Type 0
-Actions = Choice (either (codes "then") (codes "begin")) Steps (Nothing [])
+Actions = Choice (either (codes "then") (codes "begin")) ManySteps (Nothing [])
 
 -- "event" name .. "end"
-abbrev pub EventParts : Type 0
-EventParts = ℕ × (Ref × (Abstracts × (List Ref × (List RawLabelled × (List RawLabelled × (List RawStep × ℕ))))))
+abbrev pub EventClauses : Type 0
+EventClauses = ℕ × (Ref × (Abstracts × (List Ref × (List RawLabelled × (List RawLabelled × (List RawStep × ℕ))))))
 
-abbrev pub event_of : Convergence → EventParts → RawEvent
+abbrev pub event_of : Convergence → EventClauses → RawEvent
 event_of c p = record {
   name = p.1.0;
   convergence = c;
@@ -106,19 +106,19 @@ EventBody c =
 -- ["ordinary"|"convergent"|"anticipated"] "event" ..
 abbrev pub Event : Bounds → List Mark → RawEvent → List Mark → Type 0
 Event =
-    Choice (is_word (codes "ordinary")) (EventBody Ordinary)
-    (Choice (is_word (codes "convergent")) (EventBody Convergent)
-    (Choice (is_word (codes "anticipated")) (EventBody Anticipated) (EventBody Ordinary)))
+    Choice (is_word_mark (codes "ordinary")) (EventBody Ordinary)
+    (Choice (is_word_mark (codes "convergent")) (EventBody Convergent)
+    (Choice (is_word_mark (codes "anticipated")) (EventBody Anticipated) (EventBody Ordinary)))
 
 abbrev pub begins_event : Mark → Bool
-begins_event x = is_word (codes "event") x || (is_word (codes "ordinary") x || (is_word (codes "convergent") x || is_word (codes "anticipated") x))
+begins_event x = is_word_mark (codes "event") x || (is_word_mark (codes "ordinary") x || (is_word_mark (codes "convergent") x || is_word_mark (codes "anticipated") x))
 
 -- ["events" {event}]
 abbrev pub EventList : Bounds → List Mark → List RawEvent → List Mark → Type 0
 EventList = Many begins_event Event
 
 abbrev pub Events : Bounds → List Mark → List RawEvent → List Mark → Type 0
-Events = Choice (is_word (codes "events")) EventList (Nothing [])
+Events = Choice (is_word_mark (codes "events")) EventList (Nothing [])
 
 -- name ["refines" name] ["sees" name {name}] ["variables" {name}] ["invariants" {line}] ["variant" [label] expr] ["events" {event}]
 abbrev pub machine_of : (Ref × (Option Ref × (List Ref × (List Ref × (List RawLabelled × (Option RawVariant × List RawEvent)))))) → RawComponent

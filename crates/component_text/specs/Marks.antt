@@ -19,18 +19,18 @@ pub data Mark : Type 0 where
 abbrev pub mark_by : List ℕ → ℕ → Item → Mark
 mark_by text from item = if begins_with at_sign text then label (drop 1 text) from else (if is_structural text then word text from else plain item)
 
-abbrev pub mark_of : List ℕ → Token → Mark
-mark_of text token = mark_by (bytes_of text token) token.from (item_of text token)
+abbrev pub token_mark : List ℕ → Token → Mark
+token_mark text token = mark_by (bytes_of text token) token.from (item_of text token)
 
 abbrev pub marks_of : List ℕ → List Token → List Mark
-marks_of text tokens = map (mark_of text) tokens
+marks_of text tokens = map (token_mark text) tokens
 
 -- the tokens of a formula: all before the next structural word or label
-abbrev pub run : List Mark → List Item
-run [] = []
-run (plain x ∷ s) = x ∷ run s
-run (word w p ∷ s) = []
-run (label l p ∷ s) = []
+abbrev pub token_run : List Mark → List Item
+token_run [] = []
+token_run (plain x ∷ s) = x ∷ token_run s
+token_run (word w p ∷ s) = []
+token_run (label l p ∷ s) = []
 
 abbrev pub behind_run : List Mark → List Mark
 behind_run [] = []
@@ -39,10 +39,10 @@ behind_run (word w p ∷ s) = word w p ∷ s
 behind_run (label l p ∷ s) = label l p ∷ s
 
 -- tests on the next one
-abbrev pub is_word : List ℕ → Mark → Bool
-is_word w (word v p) = bytes_eq v w
-is_word w (label l p) = false
-is_word w (plain x) = false
+abbrev pub is_word_mark : List ℕ → Mark → Bool
+is_word_mark w (word v p) = bytes_eq v w
+is_word_mark w (label l p) = false
+is_word_mark w (plain x) = false
 
 abbrev pub is_at : (Mark → Bool) → List Mark → Bool
 is_at test [] = false

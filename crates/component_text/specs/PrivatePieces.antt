@@ -13,15 +13,15 @@ use Rattle.component_text.specs.declared.pieces.ReadFault.{ReadFault}
 use Rattle.component_text.specs.declared.pieces.ReadFault.TheVariants as fault
 use Rattle.component_text.specs.Marks.{Mark}
 use Rattle.component_text.specs.Forms.{Bounds, limits}
-use Rattle.component_text.specs.Spelled.{place_of, text_of, misnamed, IsFirst}
+use Rattle.component_text.specs.Spelled.{place_of_mark, text_of_mark, misnamed, IsFirst}
 
 -- the bytes of a token are text
 abbrev pub HasText : Mark → Type 0
-HasText x = IsUtf8 (text_of x)
+HasText x = IsUtf8 (text_of_mark x)
 
-abbrev pub Tells : ReadFault → List ℕ → FaultKind → ℕ → List ℕ → Type 0
-Tells (fault.Fault f) name k place words = f ≡ fault_at name k place words
-Tells fault.OutOfMemory name k place words = Unit {0}
+abbrev pub TellsFaultAt : ReadFault → List ℕ → FaultKind → ℕ → List ℕ → Type 0
+TellsFaultAt (fault.Fault f) name k place words = f ≡ fault_at name k place words
+TellsFaultAt fault.OutOfMemory name k place words = Unit {0}
 
 abbrev pub fault_kind : CutFault → FaultKind
 fault_kind (wrong.BadSign p) = kind.BadSign
@@ -35,21 +35,23 @@ fault_place (wrong.CommentNotClosed p) = p
 
 -- what is told where nothing goes on with the first of these
 abbrev pub TellsAtEnd : ReadFault → List ℕ → List ℕ → Option CutFault → Type 0
-TellsAtEnd answer name text None = Tells answer name kind.Unexpected (length text) []
-TellsAtEnd answer name text (Some f) = Tells answer name (fault_kind f) (fault_place f) []
+TellsAtEnd answer name text None = TellsFaultAt answer name kind.Unexpected (length text) []
+TellsAtEnd answer name text (Some f) = TellsFaultAt answer name (fault_kind f) (fault_place f) []
 
 abbrev pub TellsUnexpected : ReadFault → List ℕ → List ℕ → List Mark → Option CutFault → Type 0
 TellsUnexpected answer name text [] cut = TellsAtEnd answer name text cut
-TellsUnexpected answer name text (x ∷ later) cut = Tells answer name kind.Unexpected (place_of x) (text_of x)
+TellsUnexpected answer name text (x ∷ later) cut =
+    TellsFaultAt answer name kind.Unexpected (place_of_mark x) (text_of_mark x)
 
 abbrev pub TellsTooLarge : ReadFault → List ℕ → List Mark → Type 0
 TellsTooLarge answer name [] = Unit {0}
-TellsTooLarge answer name (x ∷ later) = Tells answer name kind.FormulaTooLarge (place_of x) []
+TellsTooLarge answer name (x ∷ later) = TellsFaultAt answer name kind.FormulaTooLarge (place_of_mark x) []
 
 -- the first token, if there is one
 abbrev pub IsFirstMark : Option (ℕ × Bor (List ℕ)) → List Mark → Type 0
 IsFirstMark None s = s ≡ []
-IsFirstMark (Some f) s = (x : Mark) × (later : List Mark) × (s ≡ x ∷ later) × (f.0 ≡ place_of x) × (f.1.now ≡ text_of x)
+IsFirstMark (Some f) s =
+    (x : Mark) × (later : List Mark) × (s ≡ x ∷ later) × (f.0 ≡ place_of_mark x) × (f.1.now ≡ text_of_mark x)
 
 -- what is read of the tokens, with what is wrong behind them
 abbrev pub ReadsPieces : (Bounds → List Mark → RawComponent → Type 0) → List ℕ → List ℕ → List Mark → Option CutFault → Result RawComponent ReadFault → Type 0

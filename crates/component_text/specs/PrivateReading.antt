@@ -7,7 +7,7 @@ use Rattle.math_parse.specs.declared.fault.ParseFault.{ParseFault}
 use Rattle.math_parse.specs.declared.fault.ParseFault.TheVariants as fault
 use Rattle.component_text.specs.declared.stop.Stop.{Stop}
 use Rattle.component_text.specs.declared.stop.Stop.TheVariants as stop
-use Rattle.component_text.specs.Marks.{Mark, word, label, plain, run, behind_run, is_word, is_at}
+use Rattle.component_text.specs.Marks.{Mark, word, label, plain, token_run, behind_run, is_word_mark, is_at}
 use Rattle.component_text.specs.Forms.{Bounds, limits, parts, none, One, Run}
 use Rattle.component_text.specs.Grammar.{Names}
 use Rattle.component_text.specs.Faults.{opens_formula, IsLong, IsUnexpectedAt, IsTooLargeAt}
@@ -52,9 +52,9 @@ pub data Placed (before rest : List Mark) : Type 0 where
 -- behind each of these that opens a formula its tokens, on into m, are within their limits
 abbrev pub AreShort : List Mark → List Mark → Type 0
 AreShort [] m = Unit {0}
-AreShort (x ∷ s) m = (opens_formula x ≡ true → first_large (run (s ++ m)) ≡ None) × AreShort s m
+AreShort (x ∷ s) m = (opens_formula x ≡ true → first_large (token_run (s ++ m)) ≡ None) × AreShort s m
 
-pub record Refuses {X : Type 0} (P : Bounds → List Mark → X → List Mark → Type 0) (old rest : List Mark) : Type 0 where
+pub record RefusesAt {X : Type 0} (P : Bounds → List Mark → X → List Mark → Type 0) (old rest : List Mark) : Type 0 where
   pub before : List Mark
   pub is : old ≡ before ++ rest
   pub begins : Begins P before
@@ -80,11 +80,11 @@ pub record Passes {X : Type 0} (P : Bounds → List Mark → X → List Mark →
   pub wrong : (x : X) (r : List Mark) → P limits old x r → ⊥
 
 -- the part was read, or what stands next is refused or passes a limit, or memory ran out
-abbrev pub Reads : {X : Type 0} → (Bounds → List Mark → X → List Mark → Type 0) → List Mark → Result X Stop → List Mark → Type 0
-Reads P old (Ok x) new = P limits old x new
-Reads P old (Err stop.Unexpected) new = Refuses P old new
-Reads P old (Err stop.TooLarge) new = Passes P old new
-Reads P old (Err stop.OutOfMemory) new = Unit {0}
+abbrev pub ReadsOrStops : {X : Type 0} → (Bounds → List Mark → X → List Mark → Type 0) → List Mark → Result X Stop → List Mark → Type 0
+ReadsOrStops P old (Ok x) new = P limits old x new
+ReadsOrStops P old (Err stop.Unexpected) new = RefusesAt P old new
+ReadsOrStops P old (Err stop.TooLarge) new = Passes P old new
+ReadsOrStops P old (Err stop.OutOfMemory) new = Unit {0}
 
 -- a token that passes the test was passed, or none stands there
 abbrev pub Takes : (Mark → Bool) → List Mark → Bool → List Mark → Type 0
@@ -102,7 +102,7 @@ ReadsOne value old None new = (new ≡ old) × Lacks value old
 
 -- what stands from the token at i of the formula on
 abbrev pub from_token : ℕ → List Mark → List Mark
-from_token i s = map plain (drop i (run s)) ++ behind_run s
+from_token i s = map plain (drop i (token_run s)) ++ behind_run s
 
 -- a formula with at most so many parts of a partition as the limit says, if there is one
 abbrev pub bounded : {X : Type 0} → (Bounds → List Item → X → Type 0) → Option ℕ → List Item → X → Type 0
@@ -117,8 +117,9 @@ pub record FailsBy {X : Type 0} (F : Bounds → List Item → X → Type 0) (s :
 -- a formula was read, or it is refused at a token
 abbrev pub ReadsFormula : {X : Type 0} → (Bounds → List Item → X → Type 0) → List Mark → Result X Stop → List Mark → Type 0
 ReadsFormula F old (Ok t) new = Run F limits old t new
-ReadsFormula F old (Err stop.Unexpected) new = (i : ℕ) × (new ≡ from_token i old) × FailsBy F (run old) (fault.Unexpected i)
-ReadsFormula F old (Err stop.TooLarge) new = (i : ℕ) × (new ≡ from_token i old) × FailsBy F (run old) (fault.TooLarge i)
+ReadsFormula F old (Err stop.Unexpected) new = (i : ℕ) × (new ≡ from_token i old) × FailsBy F (token_run old) (fault.Unexpected i)
+ReadsFormula F old (Err stop.TooLarge) new =
+    (i : ℕ) × (new ≡ from_token i old) × FailsBy F (token_run old) (fault.TooLarge i)
 ReadsFormula F old (Err stop.OutOfMemory) new = Unit {0}
 
 -- all names that stand next were added
@@ -126,10 +127,10 @@ abbrev pub AddsNames : List Ref → List Ref → List Mark → List Mark → Typ
 AddsNames old new s rest = (added : List Ref) × (new ≡ old ++ added) × Names limits s added rest
 
 -- `end` stood last, or what stands next is another token, or one more behind `end`
-abbrev pub Ends : List Mark → Bool → List Mark → Type 0
-Ends old true new = (p : ℕ) × (old ≡ word (codes "end") p ∷ [])
-Ends old false new =
-    ((new ≡ old) × (is_at (is_word (codes "end")) old ≡ false))
+abbrev pub TakesEnd : List Mark → Bool → List Mark → Type 0
+TakesEnd old true new = (p : ℕ) × (old ≡ word (codes "end") p ∷ [])
+TakesEnd old false new =
+    ((new ≡ old) × (is_at (is_word_mark (codes "end")) old ≡ false))
     ⊎ ((p : ℕ) × (x : Mark) × (later : List Mark) × (old ≡ word (codes "end") p ∷ new) × (new ≡ x ∷ later))
 
 -- a component was read, or it stops before what stands next

@@ -3,9 +3,9 @@
 ghost use Rattle.std.specs.Prelude.{◌≡◌, ◌≤◌, List, ℕ, length, IfOk, ◌==◌};
 ghost use Rattle.math_grammar.specs.declared.holes.Hole.TheVariants as hole;
 ghost use Rattle.math_grammar.specs.Tokens.{bytes_of, items_of};
-ghost use Rattle.component_text.specs.Marks.{is_word, is_at, marks_of};
+ghost use Rattle.component_text.specs.Marks.{is_word_mark, is_at, marks_of};
 ghost use Rattle.component_text.specs.Grammar.{first_place, IsPlaced, reference, label_at, is_a_label, begins_line};
-ghost use Rattle.component_text.specs.Machines.{IsAct, either, begins_event};
+ghost use Rattle.component_text.specs.Machines.{IsActionWithin, either, begins_event};
 ghost use Rattle.component_text.specs.PrivateReading.{Takes, ReadsOne, ReadsFormula};
 ghost use Rattle.component_text.specs.PrivateTexts.{IsNameOf, IsLabelOf, is_plain_text, plain_length, IsKindOf, is_word_text};
 ghost use Rattle.component_text.specs.PrivatePieces.{IsFirstMark};
@@ -178,7 +178,7 @@ impl<'t, 'a> Cursor<'t, 'a> {
 
     #[tactic(auto, using(crate::proofs::Marks::word_test))]
     pub fn is_at_word(&self, word: &str) -> bool
-        ensures { result ≡ is_at (is_word word.now) self.now }
+        ensures { result ≡ is_at (is_word_mark word.now) self.now }
     {
         match self.rest.first() {
             Some(token) => is_word(bytes_of(self.text, token), word.as_bytes()),
@@ -204,7 +204,7 @@ impl<'t, 'a> Cursor<'t, 'a> {
 
     /// Goes past the word where it stands next.
     pub fn take_word(&mut self, word: &str) -> bool
-        ensures { Takes (is_word word.now) self.old result self.new }
+        ensures { Takes (is_word_mark word.now) self.old result self.new }
     {
         if self.is_at_word(word) {
             self.rest = &self.rest[1..];
@@ -326,7 +326,7 @@ impl<'t, 'a> Cursor<'t, 'a> {
 
     /// Reads the action before the next structural word or label.
     pub fn action(&mut self, alloc: Global) -> Result<RawAction, Stop>
-        ensures { ReadsFormula IsAct self.old result self.new }
+        ensures { ReadsFormula IsActionWithin self.old result self.new }
     {
         let length = plain_length(self.text, self.rest);
         match action(alloc, self.text, &self.rest[..length]) {

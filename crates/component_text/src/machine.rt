@@ -1,8 +1,8 @@
 //! The grammar of machines, read from left to right.
 
 ghost use Rattle.component_text.specs.Grammar.{Labelled};
-ghost use Rattle.component_text.specs.Machines.{Refines, Variant, References, Guards, Witnesses, With, Step, Steps, Actions, EventBody, Event, EventList, Events, MachineBody, IsMachine, IsComponent};
-ghost use Rattle.component_text.specs.PrivateReading.{Reads, ReadsWhole};
+ghost use Rattle.component_text.specs.Machines.{Refines, Variant, References, Guards, Witnesses, With, Step, ManySteps, Actions, EventBody, Event, EventList, Events, MachineBody, IsMachine, IsComponent};
+ghost use Rattle.component_text.specs.PrivateReading.{ReadsOrStops, ReadsWhole};
 
 use crate::cursor::Cursor;
 use crate::parse::{context, ends, labelled, lines, lines_behind, names_behind, some_names_behind};
@@ -19,7 +19,7 @@ pub struct Abstracts {
 }
 
 fn refines(alloc: Global, cursor: &mut Cursor<'_, '_>) -> Result<Option<Ref>, Stop>
-    ensures { Reads Refines cursor.old result cursor.new }
+    ensures { ReadsOrStops Refines cursor.old result cursor.new }
 {
     if !cursor.take_word("refines") {
         return Ok(None);
@@ -32,7 +32,7 @@ fn refines(alloc: Global, cursor: &mut Cursor<'_, '_>) -> Result<Option<Ref>, St
 
 /// The variant, whose label isn't kept.
 fn variant(alloc: Global, cursor: &mut Cursor<'_, '_>) -> Result<Option<RawVariant>, Stop>
-    ensures { Reads Variant cursor.old result cursor.new }
+    ensures { ReadsOrStops Variant cursor.old result cursor.new }
 {
     if !cursor.take_word("variant") {
         return Ok(None);
@@ -43,7 +43,7 @@ fn variant(alloc: Global, cursor: &mut Cursor<'_, '_>) -> Result<Option<RawVaria
 }
 
 fn references(alloc: Global, cursor: &mut Cursor<'_, '_>) -> Result<Abstracts, Stop>
-    ensures { Reads References cursor.old result cursor.new }
+    ensures { ReadsOrStops References cursor.old result cursor.new }
 {
     if cursor.take_word("extends") {
         let Some(name) = cursor.name(alloc)? else {
@@ -64,7 +64,7 @@ fn references(alloc: Global, cursor: &mut Cursor<'_, '_>) -> Result<Abstracts, S
 }
 
 fn guards(alloc: Global, cursor: &mut Cursor<'_, '_>) -> Result<List<RawLabelled>, Stop>
-    ensures { Reads Guards cursor.old result cursor.new }
+    ensures { ReadsOrStops Guards cursor.old result cursor.new }
 {
     if cursor.take_either("where", "when") {
         lines(alloc, cursor)
@@ -74,7 +74,7 @@ fn guards(alloc: Global, cursor: &mut Cursor<'_, '_>) -> Result<List<RawLabelled
 }
 
 fn witnesses(alloc: Global, cursor: &mut Cursor<'_, '_>) -> Result<List<RawLabelled>, Stop>
-    ensures { Reads Witnesses cursor.old result cursor.new }
+    ensures { ReadsOrStops Witnesses cursor.old result cursor.new }
 {
     let mut witnesses = Vec::new(alloc);
     while cursor.is_at_label() {
@@ -85,7 +85,7 @@ fn witnesses(alloc: Global, cursor: &mut Cursor<'_, '_>) -> Result<List<RawLabel
 }
 
 fn with(alloc: Global, cursor: &mut Cursor<'_, '_>) -> Result<List<RawLabelled>, Stop>
-    ensures { Reads With cursor.old result cursor.new }
+    ensures { ReadsOrStops With cursor.old result cursor.new }
 {
     if cursor.take_word("with") {
         witnesses(alloc, cursor)
@@ -95,7 +95,7 @@ fn with(alloc: Global, cursor: &mut Cursor<'_, '_>) -> Result<List<RawLabelled>,
 }
 
 fn step(alloc: Global, cursor: &mut Cursor<'_, '_>) -> Result<RawStep, Stop>
-    ensures { Reads Step cursor.old result cursor.new }
+    ensures { ReadsOrStops Step cursor.old result cursor.new }
 {
     let Some((label, place)) = cursor.label(alloc)? else {
         return Err(Stop::Unexpected);
@@ -109,7 +109,7 @@ fn step(alloc: Global, cursor: &mut Cursor<'_, '_>) -> Result<RawStep, Stop>
 }
 
 fn steps(alloc: Global, cursor: &mut Cursor<'_, '_>) -> Result<List<RawStep>, Stop>
-    ensures { Reads Steps cursor.old result cursor.new }
+    ensures { ReadsOrStops ManySteps cursor.old result cursor.new }
 {
     let mut steps = Vec::new(alloc);
     while cursor.is_at_label() {
@@ -120,7 +120,7 @@ fn steps(alloc: Global, cursor: &mut Cursor<'_, '_>) -> Result<List<RawStep>, St
 }
 
 fn actions(alloc: Global, cursor: &mut Cursor<'_, '_>) -> Result<List<RawStep>, Stop>
-    ensures { Reads Actions cursor.old result cursor.new }
+    ensures { ReadsOrStops Actions cursor.old result cursor.new }
 {
     if cursor.take_either("then", "begin") {
         steps(alloc, cursor)
@@ -135,7 +135,7 @@ fn event_body(
     cursor: &mut Cursor<'_, '_>,
     convergence: Convergence,
 ) -> Result<RawEvent, Stop>
-    ensures { Reads (EventBody convergence) cursor.old result cursor.new }
+    ensures { ReadsOrStops (EventBody convergence) cursor.old result cursor.new }
 {
     if !cursor.take_word("event") {
         return Err(Stop::Unexpected);
@@ -165,7 +165,7 @@ fn event_body(
 }
 
 fn event(alloc: Global, cursor: &mut Cursor<'_, '_>) -> Result<RawEvent, Stop>
-    ensures { Reads Event cursor.old result cursor.new }
+    ensures { ReadsOrStops Event cursor.old result cursor.new }
 {
     if cursor.take_word("ordinary") {
         event_body(alloc, cursor, Convergence::Ordinary)
@@ -179,7 +179,7 @@ fn event(alloc: Global, cursor: &mut Cursor<'_, '_>) -> Result<RawEvent, Stop>
 }
 
 fn event_list(alloc: Global, cursor: &mut Cursor<'_, '_>) -> Result<List<RawEvent>, Stop>
-    ensures { Reads EventList cursor.old result cursor.new }
+    ensures { ReadsOrStops EventList cursor.old result cursor.new }
 {
     let mut events = Vec::new(alloc);
     while cursor.is_at_event() {
@@ -190,7 +190,7 @@ fn event_list(alloc: Global, cursor: &mut Cursor<'_, '_>) -> Result<List<RawEven
 }
 
 fn events(alloc: Global, cursor: &mut Cursor<'_, '_>) -> Result<List<RawEvent>, Stop>
-    ensures { Reads Events cursor.old result cursor.new }
+    ensures { ReadsOrStops Events cursor.old result cursor.new }
 {
     if cursor.take_word("events") {
         event_list(alloc, cursor)
@@ -201,7 +201,7 @@ fn events(alloc: Global, cursor: &mut Cursor<'_, '_>) -> Result<List<RawEvent>, 
 
 /// What stands between `machine` and `end`.
 fn machine_body(alloc: Global, cursor: &mut Cursor<'_, '_>) -> Result<RawComponent, Stop>
-    ensures { Reads MachineBody cursor.old result cursor.new }
+    ensures { ReadsOrStops MachineBody cursor.old result cursor.new }
 {
     let Some(name) = cursor.name(alloc)? else {
         return Err(Stop::Unexpected);

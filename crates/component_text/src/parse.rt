@@ -2,7 +2,7 @@
 
 ghost use Rattle.std.specs.Prelude.{IfOk, ◌≡◌, false, bytes_eq, codes};
 ghost use Rattle.component_text.specs.Grammar.{Names, SomeNames, NamesBehind, SomeNamesBehind, Labelled, Line, Lines, LinesBehind, ContextBody, IsContext};
-ghost use Rattle.component_text.specs.PrivateReading.{Reads, AddsNames, Ends, ReadsWhole};
+ghost use Rattle.component_text.specs.PrivateReading.{ReadsOrStops, AddsNames, TakesEnd, ReadsWhole};
 
 use crate::cursor::Cursor;
 use crate::stop::Stop;
@@ -25,7 +25,7 @@ fn add_names(
 }
 
 fn names(alloc: Global, cursor: &mut Cursor<'_, '_>) -> Result<List<Ref>, Stop>
-    ensures { Reads Names cursor.old result cursor.new }
+    ensures { ReadsOrStops Names cursor.old result cursor.new }
 {
     let mut names = Vec::new(alloc);
     add_names(alloc, &mut names, cursor)?;
@@ -33,7 +33,7 @@ fn names(alloc: Global, cursor: &mut Cursor<'_, '_>) -> Result<List<Ref>, Stop>
 }
 
 fn some_names(alloc: Global, cursor: &mut Cursor<'_, '_>) -> Result<List<Ref>, Stop>
-    ensures { Reads SomeNames cursor.old result cursor.new }
+    ensures { ReadsOrStops SomeNames cursor.old result cursor.new }
 {
     let Some(first) = cursor.name(alloc)? else {
         return Err(Stop::Unexpected);
@@ -51,7 +51,7 @@ pub fn names_behind(
     word: &str,
 ) -> Result<List<Ref>, Stop>
     requires no_variant { bytes_eq word.now (codes "variant") ≡ false }
-    ensures { Reads (NamesBehind word.now) cursor.old result cursor.new }
+    ensures { ReadsOrStops (NamesBehind word.now) cursor.old result cursor.new }
 {
     if cursor.take_word(word) {
         names(alloc, cursor)
@@ -67,7 +67,7 @@ pub fn some_names_behind(
     word: &str,
 ) -> Result<List<Ref>, Stop>
     requires no_variant { bytes_eq word.now (codes "variant") ≡ false }
-    ensures { Reads (SomeNamesBehind word.now) cursor.old result cursor.new }
+    ensures { ReadsOrStops (SomeNamesBehind word.now) cursor.old result cursor.new }
 {
     if cursor.take_word(word) {
         some_names(alloc, cursor)
@@ -82,7 +82,7 @@ pub fn labelled(
     cursor: &mut Cursor<'_, '_>,
     theorem: bool,
 ) -> Result<RawLabelled, Stop>
-    ensures { Reads (Labelled theorem) cursor.old result cursor.new }
+    ensures { ReadsOrStops (Labelled theorem) cursor.old result cursor.new }
 {
     let Some((label, place)) = cursor.label(alloc)? else {
         return Err(Stop::Unexpected);
@@ -98,14 +98,14 @@ pub fn labelled(
 }
 
 fn line(alloc: Global, cursor: &mut Cursor<'_, '_>) -> Result<RawLabelled, Stop>
-    ensures { Reads Line cursor.old result cursor.new }
+    ensures { ReadsOrStops Line cursor.old result cursor.new }
 {
     let theorem = cursor.take_word("theorem");
     labelled(alloc, cursor, theorem)
 }
 
 pub fn lines(alloc: Global, cursor: &mut Cursor<'_, '_>) -> Result<List<RawLabelled>, Stop>
-    ensures { Reads Lines cursor.old result cursor.new }
+    ensures { ReadsOrStops Lines cursor.old result cursor.new }
 {
     let mut lines = Vec::new(alloc);
     while cursor.is_at_line() {
@@ -122,7 +122,7 @@ pub fn lines_behind(
     word: &str,
 ) -> Result<List<RawLabelled>, Stop>
     requires no_variant { bytes_eq word.now (codes "variant") ≡ false }
-    ensures { Reads (LinesBehind word.now) cursor.old result cursor.new }
+    ensures { ReadsOrStops (LinesBehind word.now) cursor.old result cursor.new }
 {
     if cursor.take_word(word) {
         lines(alloc, cursor)
@@ -133,7 +133,7 @@ pub fn lines_behind(
 
 /// What stands between `context` and `end`.
 fn context_body(alloc: Global, cursor: &mut Cursor<'_, '_>) -> Result<RawComponent, Stop>
-    ensures { Reads ContextBody cursor.old result cursor.new }
+    ensures { ReadsOrStops ContextBody cursor.old result cursor.new }
 {
     let Some(name) = cursor.name(alloc)? else {
         return Err(Stop::Unexpected);
@@ -153,7 +153,7 @@ fn context_body(alloc: Global, cursor: &mut Cursor<'_, '_>) -> Result<RawCompone
 
 /// Goes past `end`, and looks whether nothing stands behind it.
 pub fn ends(cursor: &mut Cursor<'_, '_>) -> bool
-    ensures { Ends cursor.old result cursor.new }
+    ensures { TakesEnd cursor.old result cursor.new }
 {
     cursor.take_word("end") && cursor.is_at_end()
 }

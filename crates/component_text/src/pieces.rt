@@ -4,7 +4,7 @@ ghost use Rattle.std.specs.Prelude.{◌≡◌, ◌^◌, ◌<◌, [], None, IfOk,
 ghost use Rattle.std.specs.List.{AllByRecursion};
 ghost use Rattle.component_text.specs.Marks.{marks_of};
 ghost use Rattle.component_text.specs.Spelled.{misnamed};
-ghost use Rattle.component_text.specs.PrivatePieces.{HasText, Tells, fault_kind, fault_place, TellsUnexpected, TellsTooLarge, ReadsPieces};
+ghost use Rattle.component_text.specs.PrivatePieces.{HasText, TellsFaultAt, fault_kind, fault_place, TellsUnexpected, TellsTooLarge, ReadsPieces};
 ghost use Rattle.component_text.specs.Machines.{IsComponent};
 
 use crate::cursor::Cursor;
@@ -36,7 +36,7 @@ impl From<OutOfMemory> for ReadFault {
 
 /// The fault, unless memory runs out.
 fn fault(alloc: Global, name: &Name, kind: FaultKind, place: u32, words: &str) -> ReadFault
-    ensures { Tells result name.now kind place words.now }
+    ensures { TellsFaultAt result name.now kind place words.now }
 {
     match fault_at(alloc, name, kind, place, words) {
         Ok(fault) => ReadFault::Fault(fault),
@@ -45,7 +45,7 @@ fn fault(alloc: Global, name: &Name, kind: FaultKind, place: u32, words: &str) -
 }
 
 fn cut_fault(alloc: Global, name: &Name, wrong: CutFault) -> ReadFault
-    ensures { Tells result name.now (fault_kind wrong) (fault_place wrong) [] }
+    ensures { TellsFaultAt result name.now (fault_kind wrong) (fault_place wrong) [] }
 {
     match wrong {
         CutFault::BadSign(place) => fault(alloc, name, FaultKind::BadSign, place, ""),

@@ -3,7 +3,7 @@
 ghost use Rattle.std.specs.Prelude.{◌^◌, ◌<◌, IfOk, IfErr, length};
 ghost use Rattle.model_core.specs.declared.component.RawComponent.{RawComponent as Said};
 ghost use Rattle.component_text.specs.Machines.{IsComponent};
-ghost use Rattle.component_text.specs.Spelled.{Spells, Finds, IsReadFault};
+ghost use Rattle.component_text.specs.Spelled.{SpellsComponent, FindsComponent, IsReadFault};
 
 use crate::pieces::{ReadFault, read_pieces};
 use component_tokens::{cut, pieces_one_way};
@@ -17,9 +17,9 @@ use std::alloc::Global;
 pub fn read(alloc: Global, name: &Name, text: &str) -> Result<RawComponent, ReadFault>
     requires { length text.now < 2 ^ 32 }
     // What is read is spelled so, within the limits.
-    ensures found { IfOk result (λ c. Spells IsComponent name.now text.now c) }
+    ensures found { IfOk result (λ c. SpellsComponent IsComponent name.now text.now c) }
     // What is spelled so is read, unless memory runs out.
-    ensures only { (c : Said) → Spells IsComponent name.now text.now c → Finds result c }
+    ensures only { (c : Said) → SpellsComponent IsComponent name.now text.now c → FindsComponent result c }
     // Else the fault is the first one.
     ensures fault { IfErr result (λ fault. IsReadFault IsComponent name.now text.now fault) }
 {

@@ -7,7 +7,7 @@ use Rattle.std.proofs.lemmas.Bool.Decides.{nat_tests}
 use Rattle.math_tokens.specs.Texts.{blank_length, second_length}
 use Rattle.component_tokens.specs.declared.gap.Gap.{Gap}
 use Rattle.component_tokens.specs.declared.gap.Gap.TheVariants as gap
-use Rattle.component_tokens.specs.Gaps.{closes, closing, closed, behind_slash, comment_in, gap_in, line_length, slash, star}
+use Rattle.component_tokens.specs.Gaps.{closes, closing, comment_closed, behind_slash, comment_in, gap_in, line_length, slash, star}
 
 -- an end so many bytes further on
 abbrev pub further : ℕ → Option ℕ → Option ℕ
@@ -77,7 +77,7 @@ slash_within : (xs : List ℕ) → GapWithin (behind_slash xs) (1 + length xs)
 slash_within [] = tt
 slash_within (c ∷ cs) = go (c == slash) (c == star) (closing cs) (closing_within cs)
   where
-    go : (a b : Bool) (o : Option ℕ) → EndsWithin o (length cs) → GapWithin (cond a (gap.Bytes (2 + line_length cs)) (cond b (closed o) gap.Nothing)) (1 + length (c ∷ cs))
+    go : (a b : Bool) (o : Option ℕ) → EndsWithin o (length cs) → GapWithin (cond a (gap.Bytes (2 + line_length cs)) (cond b (comment_closed o) gap.Nothing)) (1 + length (c ∷ cs))
     go true b o h = (omega arith, omega (arith, prefix_within (λ c. not (c == 10)) cs))
     go false true None h = tt
     go false true (Some m) h = (omega arith, omega (arith, h))

@@ -9,7 +9,7 @@ use Rattle.math_tokens.proofs.OneWay.{one_token}
 use Rattle.component_tokens.specs.declared.piece.CutFault.{CutFault}
 use Rattle.component_tokens.specs.declared.piece.Piece.{Piece}
 use Rattle.component_tokens.specs.declared.piece.Piece.TheVariants as piece
-use Rattle.component_tokens.specs.Pieces.{label_length, IsLabelOrToken, IsPieceAt, Cut, at_end, over_gap, past_token, at_fault}
+use Rattle.component_tokens.specs.Pieces.{label_length, IsLabelOrToken, IsPieceAt, CutInto, at_end, over_gap, past_token, at_fault}
 
 module _ (text : List ℕ) (at : ℕ) where
   one_of_two : (t u : Token) → IsLabelOrToken text at t → IsLabelOrToken text at u → t ≡ u
@@ -40,7 +40,7 @@ module _ (text : List ℕ) (at : ℕ) where
     ]
   ]
 
-pub one_cut : (text : List ℕ) (at : ℕ) (ts us : List Token) (o p : Option CutFault) → Cut text at ts o → Cut text at us p → (ts ≡ us) × (o ≡ p)
+pub one_cut : (text : List ℕ) (at : ℕ) (ts us : List Token) (o p : Option CutFault) → CutInto text at ts o → CutInto text at us p → (ts ≡ us) × (o ≡ p)
 one_cut text at ts us o p (at_end e) (at_end f) = (refl, refl)
 one_cut text at ts us o p (at_end e) (over_gap i b d) = absurd (omega (arith, e, i))
 one_cut text at ts us o p (at_end e) (past_token u i b d) = absurd (omega (arith, e, i))

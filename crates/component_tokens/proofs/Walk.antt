@@ -15,7 +15,7 @@ use Rattle.component_tokens.specs.declared.piece.CutFault.{CutFault}
 use Rattle.component_tokens.specs.declared.piece.Piece.TheVariants as piece
 use Rattle.component_tokens.specs.declared.gap.Gap.TheVariants as gap
 use Rattle.component_tokens.specs.Gaps.{gap_in}
-use Rattle.component_tokens.specs.Pieces.{at_sign, label_run, label_length, IsPieceAt, Cut, past_token, at_fault}
+use Rattle.component_tokens.specs.Pieces.{at_sign, label_run, label_length, IsPieceAt, CutInto, past_token, at_fault}
 use Rattle.formula_core.specs.Texts.{is_in_label}
 use Rattle.component_tokens.proofs.Gaps.{gap_span, no_blank, prefix_within}
 
@@ -61,10 +61,10 @@ needs_no_memory text at h = elim h.2 [
 ]
 
 pub one_more : (text : List ℕ) (ts : List Token) (t : Token) (at : ℕ) → at < length text → IsPieceAt text at (piece.Token t) →
-    ((us : List Token) (o : Option CutFault) → Cut text at us o → Cut text 0 (ts ++ us) o) →
-    (us : List Token) (o : Option CutFault) → Cut text t.to us o → Cut text 0 ((ts ++ t ∷ []) ++ us) o
-one_more text ts t at inside h so_far us o c = subst (λ vs. Cut text 0 vs o) (sym (append_assoc ts (t ∷ []) us)) (so_far (t ∷ us) o (past_token t inside h c))
+    ((us : List Token) (o : Option CutFault) → CutInto text at us o → CutInto text 0 (ts ++ us) o) →
+    (us : List Token) (o : Option CutFault) → CutInto text t.to us o → CutInto text 0 ((ts ++ t ∷ []) ++ us) o
+one_more text ts t at inside h so_far us o c = subst (λ vs. CutInto text 0 vs o) (sym (append_assoc ts (t ∷ []) us)) (so_far (t ∷ us) o (past_token t inside h c))
 
 pub stops : (text : List ℕ) (ts : List Token) (f : CutFault) (at : ℕ) → at < length text → IsPieceAt text at (piece.Fault f) →
-    ((us : List Token) (o : Option CutFault) → Cut text at us o → Cut text 0 (ts ++ us) o) → Cut text 0 ts (Some f)
-stops text ts f at inside h so_far = subst (λ vs. Cut text 0 vs (Some f)) (append-nil ts) (so_far [] (Some f) (at_fault f inside h))
+    ((us : List Token) (o : Option CutFault) → CutInto text at us o → CutInto text 0 (ts ++ us) o) → CutInto text 0 ts (Some f)
+stops text ts f at inside h so_far = subst (λ vs. CutInto text 0 vs (Some f)) (append-nil ts) (so_far [] (Some f) (at_fault f inside h))

@@ -31,14 +31,14 @@ abbrev pub closing : List ℕ → Option ℕ
 closing [] = None
 closing (c ∷ cs) = if closes (c ∷ cs) then Some 2 else option_map (λ n. 1 + n) (closing cs)
 
-abbrev pub closed : Option ℕ → Gap
-closed None = gap.OpenComment
-closed (Some n) = gap.Bytes (2 + n)
+abbrev pub comment_closed : Option ℕ → Gap
+comment_closed None = gap.OpenComment
+comment_closed (Some n) = gap.Bytes (2 + n)
 
 -- `//` begins a comment to the end of the line, and `/*` one up to `*/`
 abbrev pub behind_slash : List ℕ → Gap
 behind_slash [] = gap.Nothing
-behind_slash (c ∷ cs) = if c == slash then gap.Bytes (2 + line_length cs) else (if c == star then closed (closing cs) else gap.Nothing)
+behind_slash (c ∷ cs) = if c == slash then gap.Bytes (2 + line_length cs) else (if c == star then comment_closed (closing cs) else gap.Nothing)
 
 abbrev pub comment_in : List ℕ → Gap
 comment_in [] = gap.Nothing

@@ -54,10 +54,10 @@ IsPieceAt text at (piece.Fault f) =
     × (wrong : TokenFault) × IsTokenAt sign_forms text at (Err wrong) × (cut_fault wrong ≡ Some f))
 
 -- The tokens of a text from a byte on, up to its end or to the first fault.
-pub data Cut (text : List ℕ) : ℕ → List Token → Option CutFault → Type 0 where
-  at_end : {at : ℕ} → at ≡ length text → Cut text at [] None
+pub data CutInto (text : List ℕ) : ℕ → List Token → Option CutFault → Type 0 where
+  at_end : {at : ℕ} → at ≡ length text → CutInto text at [] None
   over_gap : {at n : ℕ} {ts : List Token} {o : Option CutFault} →
-      at < length text → IsPieceAt text at (piece.Gap n) → Cut text (at + n) ts o → Cut text at ts o
+      at < length text → IsPieceAt text at (piece.Gap n) → CutInto text (at + n) ts o → CutInto text at ts o
   past_token : {at : ℕ} {ts : List Token} {o : Option CutFault} (t : Token) →
-      at < length text → IsPieceAt text at (piece.Token t) → Cut text t.to ts o → Cut text at (t ∷ ts) o
-  at_fault : {at : ℕ} (f : CutFault) → at < length text → IsPieceAt text at (piece.Fault f) → Cut text at [] (Some f)
+      at < length text → IsPieceAt text at (piece.Token t) → CutInto text t.to ts o → CutInto text at (t ∷ ts) o
+  at_fault : {at : ℕ} (f : CutFault) → at < length text → IsPieceAt text at (piece.Fault f) → CutInto text at [] (Some f)

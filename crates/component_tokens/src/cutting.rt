@@ -1,7 +1,7 @@
 //! Cutting a component's text into tokens.
 
 ghost use Rattle.std.specs.Prelude.{◌≡◌, ◌<◌, ◌^◌, IfOk, length};
-ghost use Rattle.component_tokens.specs.Pieces.{Cut};
+ghost use Rattle.component_tokens.specs.Pieces.{CutInto};
 
 use crate::piece::{CutFault, Piece, piece_at};
 use formula_core::OutOfMemory;
@@ -18,7 +18,7 @@ pub struct Pieces {
 /// Cuts a text. Each byte is looked at once, but for those of a sign's longest match.
 pub fn cut(alloc: Global, text: &str) -> Result<Pieces, OutOfMemory>
     requires { length text.now < 2 ^ 32 }
-    ensures { IfOk result (λ pieces. Cut text.now 0 pieces.tokens.items pieces.fault) }
+    ensures { IfOk result (λ pieces. CutInto text.now 0 pieces.tokens.items pieces.fault) }
 {
     let mut tokens = Vec::new(alloc);
     let mut at = 0;

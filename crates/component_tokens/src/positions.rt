@@ -1,7 +1,7 @@
 //! Lines and columns.
 
 ghost use Rattle.std.specs.Prelude.{◌≡◌, ◌<◌, ◌≤◌, ◌+◌, ◌^◌, length, take};
-ghost use Rattle.component_tokens.specs.Positions.{goes_on, behind_byte, position_of};
+ghost use Rattle.component_tokens.specs.Positions.{continues_character, behind_byte, position_in_text};
 
 /// A line and a column, each from 1. A column is one character.
 #[derive(Clone, Copy, Debug, PartialEq, Eq)]
@@ -12,7 +12,7 @@ pub struct Position {
 
 /// Whether the byte goes on with a character that an earlier one begins.
 fn goes_on(byte: u8) -> bool
-    ensures { result ≡ goes_on byte }
+    ensures { result ≡ continues_character byte }
 {
     128 <= byte && byte < 192
 }
@@ -40,7 +40,7 @@ fn behind_byte(before: Position, byte: u8) -> Position
 /// The line and the column of a byte place in a text.
 pub fn position_of(text: &str, at: usize) -> Position
     requires { at ≤ length text.now }
-    ensures { result ≡ position_of text.now at }
+    ensures { result ≡ position_in_text text.now at }
 {
     let mut position = Position { line: 1, column: 1 };
     for byte in &text.as_bytes()[..at] {

@@ -29,7 +29,7 @@ use Rattle.condition_size.specs.declared.size.Size.{Size}
 use Rattle.well_defined.specs.Predicates.{finite, unequal, not_empty, zero, at_most, less, bounded, bound_x, member, applicable, domain, partial_functions, predicate, top, conjunction, implication, disjunction, quantified}
 use Rattle.well_defined.specs.Connectives.{is_top_at, is_top, conjoined, implied, alternative, for_every}
 use Rattle.well_defined.specs.Conditions.{second_guarded, wd_of, unary_condition, binary_condition, own_condition, operands_condition, quantified_condition, binder_condition}
-use Rattle.condition_size.specs.Sizes.{counted, size_of}
+use Rattle.condition_size.specs.Sizes.{clamped, size_of}
 use Rattle.condition_size.specs.Private.{plain_size, top_size, leaf_size, above_size, joined_size, conjoined_size, implied_size, alternative_size, for_every_size, second_guarded_size, not_empty_size, bounded_size, unary_size, applied_size, binary_size, quantified_size, guarded_size}
 
 -- formulas without parts
@@ -59,48 +59,48 @@ record-of : (n m h k : ℕ) (b c : Bool) → n ≡ m → h ≡ k → b ≡ c →
 record-of n m h k b c e f g = λ i. made (e i) (f i) (g i)
 
 pub size-Int : (n : ℤ) → size_of (Int n) ≡ leaf_size
-size-Int n = record-of _ _ _ _ _ _ (ap counted (nodes-Int n)) (ap counted (height-Int n)) (ap is_top_at (outs-Int n))
+size-Int n = record-of _ _ _ _ _ _ (ap clamped (nodes-Int n)) (ap clamped (height-Int n)) (ap is_top_at (outs-Int n))
 
 pub size-Free : (x : List ℕ) (t : Ty) → size_of (Free x t) ≡ leaf_size
-size-Free x t = record-of _ _ _ _ _ _ (ap counted (nodes-Free x t)) (ap counted (height-Free x t)) (ap is_top_at (outs-Free x t))
+size-Free x t = record-of _ _ _ _ _ _ (ap clamped (nodes-Free x t)) (ap clamped (height-Free x t)) (ap is_top_at (outs-Free x t))
 
 pub size-Bound : (i : ℕ) (t : Ty) → size_of (Bound i t) ≡ leaf_size
-size-Bound i t = record-of _ _ _ _ _ _ (ap counted (nodes-Bound i t)) (ap counted (height-Bound i t)) (ap is_top_at (outs-Bound i t))
+size-Bound i t = record-of _ _ _ _ _ _ (ap clamped (nodes-Bound i t)) (ap clamped (height-Bound i t)) (ap is_top_at (outs-Bound i t))
 
 pub size-top : size_of top ≡ top_size
-size-top = record-of _ _ _ _ _ _ (ap counted (formula_nodes-Node op.Top [] Truth)) (ap counted (formula_height-Node op.Top [] Truth)) (ap is_top_at (outs-Node op.Top [] Truth))
+size-top = record-of _ _ _ _ _ _ (ap clamped (formula_nodes-Node op.Top [] Truth)) (ap clamped (formula_height-Node op.Top [] Truth)) (ap is_top_at (outs-Node op.Top [] Truth))
 
 -- an operator other than ⊤, and a binder
 
 size-none : (o : Op) (t : Ty) → is_top_at (NodeF o [] t) ≡ false → size_of (Node o [] t) ≡ leaf_size
-size-none o t h = record-of _ _ _ _ _ _ (ap counted (formula_nodes-Node o [] t)) (ap counted (formula_height-Node o [] t)) (ap is_top_at (outs-Node o [] t) ∙ h)
+size-none o t h = record-of _ _ _ _ _ _ (ap clamped (formula_nodes-Node o [] t)) (ap clamped (formula_height-Node o [] t)) (ap is_top_at (outs-Node o [] t) ∙ h)
 
-nodes_above : (m : ℕ) → counted (0 + m + 1) ≡ counted (counted m + 1)
+nodes_above : (m : ℕ) → clamped (0 + m + 1) ≡ clamped (clamped m + 1)
 nodes_above m = omega arith
 
-height_above : (h : ℕ) → counted (max h 0 + 1) ≡ counted (counted h + 1)
+height_above : (h : ℕ) → clamped (max h 0 + 1) ≡ clamped (clamped h + 1)
 height_above h = omega arith
 
 size-one : (o : Op) (f : Formula) (t : Ty) → is_top_at (NodeF o (f ∷ []) t) ≡ false → size_of (Node o (f ∷ []) t) ≡ above_size (size_of f)
 size-one o f t h = record-of _ _ _ _ _ _
-    (ap counted (formula_nodes-Node o (f ∷ []) t) ∙ nodes_above (formula_nodes f))
-    (ap counted (formula_height-Node o (f ∷ []) t) ∙ height_above (formula_height f)) (ap is_top_at (outs-Node o (f ∷ []) t) ∙ h)
+    (ap clamped (formula_nodes-Node o (f ∷ []) t) ∙ nodes_above (formula_nodes f))
+    (ap clamped (formula_height-Node o (f ∷ []) t) ∙ height_above (formula_height f)) (ap is_top_at (outs-Node o (f ∷ []) t) ∙ h)
 
 size-under : (b : Binder) (ts : List Ty) (f : Formula) (t : Ty) → size_of (Bind b ts (f ∷ []) t) ≡ above_size (size_of f)
 size-under b ts f t = record-of _ _ _ _ _ _
-    (ap counted (formula_nodes-Bind b ts (f ∷ []) t) ∙ nodes_above (formula_nodes f))
-    (ap counted (formula_height-Bind b ts (f ∷ []) t) ∙ height_above (formula_height f)) (ap is_top_at (outs-Bind b ts (f ∷ []) t))
+    (ap clamped (formula_nodes-Bind b ts (f ∷ []) t) ∙ nodes_above (formula_nodes f))
+    (ap clamped (formula_height-Bind b ts (f ∷ []) t) ∙ height_above (formula_height f)) (ap is_top_at (outs-Bind b ts (f ∷ []) t))
 
-nodes_joined : (m n : ℕ) → counted (0 + m + n + 1) ≡ counted (counted m + counted n + 1)
+nodes_joined : (m n : ℕ) → clamped (0 + m + n + 1) ≡ clamped (clamped m + clamped n + 1)
 nodes_joined m n = omega arith
 
-height_joined : (h k : ℕ) → counted (max h (max k 0) + 1) ≡ counted (max (counted h) (counted k) + 1)
+height_joined : (h k : ℕ) → clamped (max h (max k 0) + 1) ≡ clamped (max (clamped h) (clamped k) + 1)
 height_joined h k = omega arith
 
 size-two : (o : Op) (f g : Formula) (t : Ty) → is_top_at (NodeF o (f ∷ g ∷ []) t) ≡ false → size_of (Node o (f ∷ g ∷ []) t) ≡ joined_size (size_of f) (size_of g)
 size-two o f g t h = record-of _ _ _ _ _ _
-    (ap counted (formula_nodes-Node o (f ∷ g ∷ []) t) ∙ nodes_joined (formula_nodes f) (formula_nodes g))
-    (ap counted (formula_height-Node o (f ∷ g ∷ []) t) ∙ height_joined (formula_height f) (formula_height g)) (ap is_top_at (outs-Node o (f ∷ g ∷ []) t) ∙ h)
+    (ap clamped (formula_nodes-Node o (f ∷ g ∷ []) t) ∙ nodes_joined (formula_nodes f) (formula_nodes g))
+    (ap clamped (formula_height-Node o (f ∷ g ∷ []) t) ∙ height_joined (formula_height f) (formula_height g)) (ap is_top_at (outs-Node o (f ∷ g ∷ []) t) ∙ h)
 
 -- connectives
 
@@ -151,16 +151,16 @@ whole_at : (x : Ty-F Ty) (t : Ty) → roll-Ty x ≡ t → whole_set t ≡ whole_
 whole_at x t e = ap whole_set (sym e) ∙ para-roll-Ty Formula whole_set_step x
 
 plain-none : (o : Op) (t : Ty) → plain_size (Node o [] t) ≡ leaf_size
-plain-none o t = record-of _ _ _ _ _ _ (ap counted (formula_nodes-Node o [] t)) (ap counted (formula_height-Node o [] t)) refl
+plain-none o t = record-of _ _ _ _ _ _ (ap clamped (formula_nodes-Node o [] t)) (ap clamped (formula_height-Node o [] t)) refl
 
 plain-one : (o : Op) (f : Formula) (t : Ty) → plain_size (Node o (f ∷ []) t) ≡ above_size (plain_size f)
 plain-one o f t = record-of _ _ _ _ _ _
-    (ap counted (formula_nodes-Node o (f ∷ []) t) ∙ nodes_above (formula_nodes f)) (ap counted (formula_height-Node o (f ∷ []) t) ∙ height_above (formula_height f)) refl
+    (ap clamped (formula_nodes-Node o (f ∷ []) t) ∙ nodes_above (formula_nodes f)) (ap clamped (formula_height-Node o (f ∷ []) t) ∙ height_above (formula_height f)) refl
 
 plain-two : (o : Op) (f g : Formula) (t : Ty) → plain_size (Node o (f ∷ g ∷ []) t) ≡ joined_size (plain_size f) (plain_size g)
 plain-two o f g t = record-of _ _ _ _ _ _
-    (ap counted (formula_nodes-Node o (f ∷ g ∷ []) t) ∙ nodes_joined (formula_nodes f) (formula_nodes g))
-    (ap counted (formula_height-Node o (f ∷ g ∷ []) t) ∙ height_joined (formula_height f) (formula_height g)) refl
+    (ap clamped (formula_nodes-Node o (f ∷ g ∷ []) t) ∙ nodes_joined (formula_nodes f) (formula_nodes g))
+    (ap clamped (formula_height-Node o (f ∷ g ∷ []) t) ∙ height_joined (formula_height f) (formula_height g)) refl
 
 pub whole-Int : plain_size (whole_set ty.Int) ≡ leaf_size
 whole-Int = ap plain_size (whole_at IntT ty.Int rolls-IntT) ∙ plain-none op.Integers _
@@ -170,7 +170,7 @@ whole-Bool = ap plain_size (whole_at BoolT ty.Bool rolls-Bool) ∙ plain-none op
 
 pub whole-Given : (x : List ℕ) → plain_size (whole_set (ty.Given x)) ≡ leaf_size
 whole-Given x = ap plain_size (whole_at (GivenT x) (ty.Given x) (rolls-Given x))
-    ∙ record-of _ _ _ _ _ _ (ap counted (nodes-Free x _)) (ap counted (height-Free x _)) refl
+    ∙ record-of _ _ _ _ _ _ (ap clamped (nodes-Free x _)) (ap clamped (height-Free x _)) refl
 
 pub whole-Truth : plain_size (whole_set ty.Truth) ≡ leaf_size
 whole-Truth = ap plain_size (whole_at TruthT ty.Truth rolls-Truth) ∙ plain-none op.EmptySet _
@@ -255,7 +255,7 @@ size-bounded s p =
     ∙ ap (λ z. above_size (above_size z)) (size-two op.Implies inner p Truth refl)
     ∙ ap (λ z. above_size (above_size (joined_size z (size_of p)))) (size-two op.Member bound_x (shifted 2 0 s) Truth refl)
     ∙ (λ i. above_size (above_size (joined_size (joined_size (size-Bound 0 ty.Int i) (size_of (shifted 2 0 s))) (size_of p))))
-    ∙ (λ i. above_size (above_size (joined_size (joined_size leaf_size (made (counted (shifted_nodes 2 s 0 i)) (counted (shifted_height 2 s 0 i)) false)) (size_of p))))
+    ∙ (λ i. above_size (above_size (joined_size (joined_size leaf_size (made (clamped (shifted_nodes 2 s 0 i)) (clamped (shifted_height 2 s 0 i)) false)) (size_of p))))
 
 size-order : (i j : ℕ) → size_of (at_most (Bound i ty.Int) (Bound j ty.Int)) ≡ joined_size leaf_size leaf_size
 size-order i j = size-at_most (Bound i ty.Int) (Bound j ty.Int) ∙ (λ k. joined_size (size-Bound i ty.Int k) (size-Bound j ty.Int k))
@@ -372,17 +372,17 @@ two_items (a ∷ []) x y h k e f = absurd (omega arith)
 two_items (a ∷ b ∷ []) x y h k e f = λ i. sym e i ∷ sym f i ∷ []
 two_items (a ∷ b ∷ d ∷ xs) x y h k e f = absurd (omega arith)
 
-nodes_beside : (a b : ℕ) → counted (counted a + counted b) ≡ counted (0 + a + b)
+nodes_beside : (a b : ℕ) → clamped (clamped a + clamped b) ≡ clamped (0 + a + b)
 nodes_beside a b = omega arith
 
-height_beside : (a b : ℕ) → max (counted a) (counted b) ≡ counted (max a (max b 0))
+height_beside : (a b : ℕ) → max (clamped a) (clamped b) ≡ clamped (max a (max b 0))
 height_beside a b = omega arith
 
-pub both_nodes : (ps : List Formula) (p q : Formula) (a b : Size) → ps ≡ p ∷ q ∷ [] → a ≡ size_of p → b ≡ size_of q → counted (a.nodes + b.nodes) ≡ counted (sum (map formula_nodes ps))
-both_nodes ps p q a b e f g = (λ i. counted ((f i).nodes + (g i).nodes)) ∙ nodes_beside (formula_nodes p) (formula_nodes q) ∙ ap (λ ps. counted (sum (map formula_nodes ps))) (sym e)
+pub both_nodes : (ps : List Formula) (p q : Formula) (a b : Size) → ps ≡ p ∷ q ∷ [] → a ≡ size_of p → b ≡ size_of q → clamped (a.nodes + b.nodes) ≡ clamped (sum (map formula_nodes ps))
+both_nodes ps p q a b e f g = (λ i. clamped ((f i).nodes + (g i).nodes)) ∙ nodes_beside (formula_nodes p) (formula_nodes q) ∙ ap (λ ps. clamped (sum (map formula_nodes ps))) (sym e)
 
-pub both_heights : (ps : List Formula) (p q : Formula) (a b : Size) → ps ≡ p ∷ q ∷ [] → a ≡ size_of p → b ≡ size_of q → max a.height b.height ≡ counted (greatest (map formula_height ps))
-both_heights ps p q a b e f g = (λ i. max (f i).height (g i).height) ∙ height_beside (formula_height p) (formula_height q) ∙ ap (λ ps. counted (greatest (map formula_height ps))) (sym e)
+pub both_heights : (ps : List Formula) (p q : Formula) (a b : Size) → ps ≡ p ∷ q ∷ [] → a ≡ size_of p → b ≡ size_of q → max a.height b.height ≡ clamped (greatest (map formula_height ps))
+both_heights ps p q a b e f g = (λ i. max (f i).height (g i).height) ∙ height_beside (formula_height p) (formula_height q) ∙ ap (λ ps. clamped (greatest (map formula_height ps))) (sym e)
 
 pub ruleset whole_sets = (whole-Int, whole-Bool, whole-Given, whole-Truth, whole-Pow, whole-Pair)
 

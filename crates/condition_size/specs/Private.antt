@@ -12,11 +12,11 @@ use Rattle.formula_core.specs.Types.{relation}
 use Rattle.formula_core.specs.Wellness.{type_of}
 use Rattle.formula_core.specs.WholeSets.{whole_set}
 use Rattle.condition_size.specs.declared.size.Size.{Size}
-use Rattle.condition_size.specs.Sizes.{counted}
+use Rattle.condition_size.specs.Sizes.{clamped}
 
 -- so many nodes and levels, and not ⊤
 abbrev pub sized : ℕ → ℕ → Size
-sized n h = record { nodes = counted n; height = counted h; top = false }
+sized n h = record { nodes = clamped n; height = clamped h; top = false }
 
 abbrev pub top_size : Size
 top_size = record { nodes = 1; height = 1; top = true }

@@ -6,9 +6,9 @@ use Rattle.condition_size.specs.declared.size.Size.{Size}
 use Rattle.well_defined.specs.Connectives.{is_top}
 
 -- a number up to the greatest `u64`
-abbrev pub counted : ℕ → ℕ
-counted n = min n (2 ^ 64 - 1)
+abbrev pub clamped : ℕ → ℕ
+clamped n = min n (2 ^ 64 - 1)
 
 -- the nodes and the height of a formula, and whether it is ⊤
 abbrev pub size_of : Formula → Size
-size_of f = record { nodes = counted (formula_nodes f); height = counted (formula_height f); top = is_top f }
+size_of f = record { nodes = clamped (formula_nodes f); height = clamped (formula_height f); top = is_top f }

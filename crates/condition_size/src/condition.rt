@@ -6,7 +6,7 @@ ghost use Rattle.well_defined.specs.Predicates.{top};
 ghost use Rattle.well_defined.specs.Connectives.{is_top, conjoined};
 ghost use Rattle.well_defined.specs.Conditions.{wd_of, own_condition, operands_condition, binder_condition};
 ghost use Rattle.condition_size.specs.Private.{applied_size, binary_size, guarded_size, quantified_size};
-ghost use Rattle.condition_size.specs.Sizes.{counted, size_of};
+ghost use Rattle.condition_size.specs.Sizes.{clamped, size_of};
 
 use crate::size::{
     Size, above, conjoined, for_every, implied, joined, leaf, second_guarded, top_size, unary,
@@ -54,8 +54,8 @@ fn is_top(formula: &Formula) -> bool
 
 /// The size of a formula whose parts have so many nodes and levels.
 fn size_above(formula: &Formula, nodes: u64, height: u64) -> Size
-    requires nodes { counted (formula_nodes formula.now) ≡ counted (nodes + 1) }
-    requires height { counted (formula_height formula.now) ≡ counted (height + 1) }
+    requires nodes { clamped (formula_nodes formula.now) ≡ clamped (nodes + 1) }
+    requires height { clamped (formula_height formula.now) ≡ clamped (height + 1) }
     ensures { result ≡ size_of formula.now }
 {
     Size {
@@ -95,8 +95,8 @@ fn sizes(formula: &Formula) -> Both
 
 #[cycle(sizes)]
 fn sizes_of_parts(op: Op, parts: &[Formula]) -> Parts
-    ensures nodes { result.nodes ≡ counted (sum (map formula_nodes parts.now)) }
-    ensures height { result.height ≡ counted (greatest (map formula_height parts.now)) }
+    ensures nodes { result.nodes ≡ clamped (sum (map formula_nodes parts.now)) }
+    ensures height { result.height ≡ clamped (greatest (map formula_height parts.now)) }
     ensures condition { result.condition
         ≡ size_of (conjoined (operands_condition op parts.now (map wd_of parts.now)) (own_condition op parts.now)) }
 {
@@ -133,8 +133,8 @@ fn sizes_of_parts(op: Op, parts: &[Formula]) -> Parts
 #[cycle(sizes)]
 #[tactic(auto, using(crate::proofs::ConditionSizes::connectives))]
 fn sizes_of_all(parts: &[Formula]) -> Parts
-    ensures nodes { result.nodes ≡ counted (sum (map formula_nodes parts.now)) }
-    ensures height { result.height ≡ counted (greatest (map formula_height parts.now)) }
+    ensures nodes { result.nodes ≡ clamped (sum (map formula_nodes parts.now)) }
+    ensures height { result.height ≡ clamped (greatest (map formula_height parts.now)) }
     ensures condition { result.condition ≡ size_of (fold conjoined top (map wd_of parts.now)) }
 {
     let mut nodes: u64 = 0;
@@ -156,8 +156,8 @@ fn sizes_of_all(parts: &[Formula]) -> Parts
 /// The sizes below a binder.
 #[cycle(sizes)]
 fn sizes_below(binder: Binder, parts: &[Formula]) -> Parts
-    ensures nodes { result.nodes ≡ counted (sum (map formula_nodes parts.now)) }
-    ensures height { result.height ≡ counted (greatest (map formula_height parts.now)) }
+    ensures nodes { result.nodes ≡ clamped (sum (map formula_nodes parts.now)) }
+    ensures height { result.height ≡ clamped (greatest (map formula_height parts.now)) }
     ensures condition { (types : List Ty)
         → result.condition ≡ size_of (binder_condition binder types parts.now (map wd_of parts.now)) }
 {

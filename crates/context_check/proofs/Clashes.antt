@@ -20,7 +20,7 @@ use Rattle.model_core.specs.Faults.{comes_before, earlier, first_by_place, fault
 use Rattle.model_core.proofs.Firsts.{first_more, taken_more}
 use Rattle.model_core.proofs.Lists.{at_index}
 use Rattle.check_rules.specs.Declarations.{brings_clash, brings_clash_row}
-use Rattle.check_rules.specs.Visible.{Identifiers, Visible, identifiers, seen_from, with_context, of_context, clashing}
+use Rattle.check_rules.specs.Visible.{Identifiers, Visible, all_visible, seen_from, with_context, of_context, clashing}
 use Rattle.context_check.specs.declared.visible.Origin.{Origin}
 use Rattle.context_check.specs.Views.{differs, clashes, clashes_with, placed}
 use Rattle.context_check.specs.Private.{first_clashing}
@@ -81,12 +81,12 @@ seen_more v w n (d ∷ cs) c e f = seen_more (with_context v d) w n cs c e f
 pub clash_more : (component : List ℕ) (v w : Visible) (refs : List Ref) (cs : List CheckedContext) (i : ℕ) (r : Ref) (c : CheckedContext) (first here : Option Fault) →
     length refs ≡ length cs → i < length cs → r ≡ get_or refs i r → c ≡ get_or cs i c → w ≡ seen_from v (take i cs) →
     first ≡ first_by_place (brings_clash component v (take i (zip refs cs))) →
-    here ≡ first_by_place (map (λ n. told component r.place n.0.0) (clashing (identifiers w) (of_context c))) →
+    here ≡ first_by_place (map (λ n. told component r.place n.0.0) (clashing (all_visible w) (of_context c))) →
     earlier first here ≡ first_by_place (brings_clash component v (take (i + 1) (zip refs cs)))
 clash_more component v w refs cs i r c first here same lt is at seen e f =
     first_more (brings_clash_row component v) (zip refs cs) i (r, c) first here (omega (arith, lt, same, length-zip refs cs))
     (sym (get_or-zip refs cs i (r, c) (omega (arith, lt, same)) lt ∙ (λ j. (sym is j, sym at j)))) e
-    (f ∙ ap (λ u. first_by_place (map (λ n. told component r.place n.0.0) (clashing (identifiers u) (of_context c)))) (seen ∙ ap (seen_from v) (sym (second_of_zip refs cs i same))))
+    (f ∙ ap (λ u. first_by_place (map (λ n. told component r.place n.0.0) (clashing (all_visible u) (of_context c)))) (seen ∙ ap (seen_from v) (sym (second_of_zip refs cs i same))))
 
 abbrev pub now : List (Bor CheckedContext) → List CheckedContext
 now contexts = map (λ c. c.now) contexts
@@ -94,7 +94,7 @@ now contexts = map (λ c. c.now) contexts
 pub borrowed_clash_more : (component : List ℕ) (v w : Visible) (refs : List Ref) (contexts : List (Bor CheckedContext)) (i : ℕ) (r : Ref) (c : Bor CheckedContext) (first here : Option Fault) →
     length refs ≡ length contexts → i < length contexts → r ≡ get_or refs i r → c ≡ get_or contexts i c → w ≡ seen_from v (now (take i contexts)) →
     first ≡ first_by_place (brings_clash component v (take i (zip refs (now contexts)))) →
-    here ≡ first_by_place (map (λ n. told component r.place n.0.0) (clashing (identifiers w) (of_context c.now))) →
+    here ≡ first_by_place (map (λ n. told component r.place n.0.0) (clashing (all_visible w) (of_context c.now))) →
     earlier first here ≡ first_by_place (brings_clash component v (take (i + 1) (zip refs (now contexts))))
 borrowed_clash_more component v w refs contexts i r c first here same lt is at seen e f =
     clash_more component v w refs (now contexts) i r c.now first here (same ∙ sym (length-map contexts (λ d. d.now))) (omega (arith, lt, length-map contexts (λ d. d.now))) is

@@ -18,7 +18,7 @@ use Rattle.model_core.proofs.Firsts.{first_append}
 use Rattle.check_rules.specs.Visible.{Visible, nothing, seen_from, entries, names}
 use Rattle.check_rules.specs.Declarations.{brings_clash, declared_twice, labelled_twice}
 use Rattle.check_rules.specs.Typed.{Entries, AreTyped, never_typed, in_order}
-use Rattle.check_rules.specs.Contexts.{Outcome, ChecksAxioms, ChecksContext, context_env, context_of, names_of, labels_of}
+use Rattle.check_rules.specs.Contexts.{Outcome, ChecksAxioms, ChecksContext, context_env, checked_context_of, names_of, labels_of}
 use Rattle.check_rules.specs.Components.{AreContextsOf, ChecksBeside, context_in, contexts_in, context_references}
 use Rattle.context_check.specs.declared.fault.CheckFault.{CheckFault}
 use Rattle.context_check.specs.declared.fault.CheckFault.TheVariants as why
@@ -45,13 +45,13 @@ three a b c x y z e f g =
 pub concluded : (name : List ℕ) (sets constants : List Ref) (axioms : List RawLabelled) (v : Visible) (start last : Entries) (wanted : List (List ℕ)) (typed : List Labelled)
     (first untyped found : Option Fault) (outcome : Outcome) → start ≡ context_env sets v → wanted ≡ names_of constants → AreTypedSoFar name start wanted axioms typed first last →
     untyped ≡ first_by_place (never_typed name last constants) → found ≡ earlier first untyped →
-    MatchOption found (outcome ≡ Ok (Context (context_of name (sets ++ constants) v typed last))) (λ fault. outcome ≡ Err fault) → ChecksAxioms name sets constants axioms v outcome
+    MatchOption found (outcome ≡ Ok (Context (checked_context_of name (sets ++ constants) v typed last))) (λ fault. outcome ≡ Err fault) → ChecksAxioms name sets constants axioms v outcome
 concluded name sets constants axioms v start last wanted typed first untyped found outcome s w so u e h = (
   typed,
   so.0,
   last,
   subst (λ env. AreTyped name env (names_of constants) axioms typed so.0 last) s (subst (λ ns. AreTyped name start ns axioms typed so.0 last) w so.1),
-  subst (λ o. MatchOption o (outcome ≡ Ok (Context (context_of name (sets ++ constants) v typed last))) (λ fault. outcome ≡ Err fault))
+  subst (λ o. MatchOption o (outcome ≡ Ok (Context (checked_context_of name (sets ++ constants) v typed last))) (λ fault. outcome ≡ Err fault))
       (e ∙ (λ i. earlier (so.2 i) (u i)) ∙ sym (first_append so.0 (never_typed name last constants))) h,
 )
 

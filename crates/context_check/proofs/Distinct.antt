@@ -17,8 +17,8 @@ use Rattle.model_core.proofs.Lists.{any_append}
 use Rattle.check_rules.specs.Contexts.{carrier_set, names_of}
 use Rattle.check_rules.specs.Declarations.{declared_twice, declared_twice_row}
 use Rattle.check_rules.specs.Typed.{Entries, in_order}
-use Rattle.check_rules.specs.Visible.{Identifiers, Visible, clashing, entries, identifiers, names, nothing, of_context, origins, with_context}
-use Rattle.context_check.specs.Private.{AreDistinct}
+use Rattle.check_rules.specs.Visible.{Identifiers, Visible, clashing, entries, all_visible, names, nothing, of_context, origins, with_context}
+use Rattle.context_check.specs.Private.{AreDeclaredOnce}
 use Rattle.context_check.proofs.Clashes.{told}
 use Rattle.context_check.proofs.Copied.{map_map}
 use Rattle.context_check.proofs.Views.{append_none}
@@ -147,13 +147,13 @@ fresh_apart old variables (x ∷ more) a = by (is_among (origins old) x.1) refl 
         (one_apart old x (or_first (list_any (elsewhere x) old) (list_any (elsewhere x) variables) (sym (any_append (elsewhere x) old variables) ∙ a.0)) is, rest)
 
 with_context_distinct : (v : Visible) (c : CheckedContext) → HasDistinctNames c.env → HasDistinctNames (entries v.constants) →
-    clashing (identifiers v) (of_context c) ≡ [] → HasDistinctNames (entries (with_context v c).constants)
+    clashing (all_visible v) (of_context c) ≡ [] → HasDistinctNames (entries (with_context v c).constants)
 with_context_distinct v c d old none =
     subst (IsDistinct bytes_eq) (sym (map-append (λ x. x.0.0) v.constants fresh) ∙ map_map (λ e. e.0) (λ x. x.0) (v.constants ++ fresh))
     (both_distinct (map (λ x. x.0.0) v.constants) (map (λ x. x.0.0) fresh)
     (subst (IsDistinct bytes_eq) (sym (map_map (λ e. e.0) (λ x. x.0) v.constants)) old)
     (kept_distinct (λ x. x.0.0) (λ x. not (is_among (origins v.constants) x.1)) (of_context c) (zipped_distinct c.env c.env_of d))
-    (fresh_apart v.constants v.variables (of_context c) (none_passes (λ x. list_any (elsewhere x) (identifiers v)) (of_context c) none)))
+    (fresh_apart v.constants v.variables (of_context c) (none_passes (λ x. list_any (elsewhere x) (all_visible v)) (of_context c) none)))
   where
     fresh : Identifiers
     fresh = filter (λ x. not (is_among (origins v.constants) x.1)) (of_context c)
@@ -183,13 +183,13 @@ none_mapped f (x ∷ xs) e = absurd (not_empty e)
     not_empty g = cc
 
 pub distinct_more : (component : List ℕ) (place : ℕ) (v n : Visible) (c : CheckedContext) (first here : Option Fault) →
-    here ≡ first_by_place (map (λ x. told component place x.0.0) (clashing (identifiers v) (of_context c))) → n ≡ with_context v c → HasDistinctNames c.env →
+    here ≡ first_by_place (map (λ x. told component place x.0.0) (clashing (all_visible v) (of_context c))) → n ≡ with_context v c → HasDistinctNames c.env →
     (first ≡ None → HasDistinctNames (entries v.constants)) → earlier first here ≡ None → HasDistinctNames (entries n.constants)
 distinct_more component place v n c first here h e d so none =
     let both = none_of_two first here none in
     subst (λ u. HasDistinctNames (entries u.constants)) (sym e)
     (with_context_distinct v c d (so both.0)
-    (none_mapped (λ x. told component place x.0.0) (clashing (identifiers v) (of_context c)) (no_first (map (λ x. told component place x.0.0) (clashing (identifiers v) (of_context c))) (sym h ∙ both.1))))
+    (none_mapped (λ x. told component place x.0.0) (clashing (all_visible v) (of_context c)) (no_first (map (λ x. told component place x.0.0) (clashing (all_visible v) (of_context c))) (sym h ∙ both.1))))
 
 none_there : (xs ys : List Fault) → xs ++ ys ≡ [] → (xs ≡ []) × (ys ≡ [])
 none_there [] ys e = (refl, e)
@@ -223,7 +223,7 @@ unfolding IsDistinct
 nothing_distinct v e = subst (λ u. HasDistinctNames (entries u.constants)) (sym e) tt
 
 pub all_distinct : (component : List ℕ) (v : Visible) (declared : List Ref) (clash twice label : Option Fault) → (clash ≡ None → HasDistinctNames (entries v.constants)) →
-    twice ≡ first_by_place (declared_twice component (names (entries v.constants)) declared) → earlier (earlier clash twice) label ≡ None → AreDistinct v declared
+    twice ≡ first_by_place (declared_twice component (names (entries v.constants)) declared) → earlier (earlier clash twice) label ≡ None → AreDeclaredOnce v declared
 all_distinct component v declared clash twice label seen t none =
     let known = names (entries v.constants) in
     let both = none_of_two clash twice (none_of_two (earlier clash twice) label none).0 in

@@ -24,7 +24,7 @@ use Rattle.model_core.proofs.Firsts.{taken_more, first_append}
 use Rattle.check_rules.specs.Contexts.{names_of}
 use Rattle.check_rules.specs.Typed.{Entries, LabelledAction, HasTyping, IsMistyped, IsMistypedPredicate, IsMistypedAction, IsMistypedVariant, IsTypedVariant, AreTyped, AreTypedActions, labelled_of, in_order}
 use Rattle.context_check.specs.Typings.{AreTypedSoFar, AreTypedStepsSoFar}
-use Rattle.context_check.specs.Private.{IsToldBy, IsTypedFormula, IsTypedStep, IsKept}
+use Rattle.context_check.specs.Private.{IsToldBy, IsTypedFormula, IsTypedStep, IsCollected}
 
 pub mistyped : (component : List ℕ) (first : ℕ) (unknown : Option (List ℕ × ℕ)) (Clashes IsOpen : Type 0) (w : TypeFault) (fault : Fault) →
     ((name : List ℕ) (place : ℕ) → w ≡ why.Unknown name place → unknown ≡ Some (name, place)) →
@@ -60,7 +60,7 @@ module _ (component : List ℕ) (wanted : List (List ℕ)) where
   ]
 
   one_more : (env : Entries) (xs : List RawLabelled) (x : RawLabelled) (one : Result Labelled Fault) (old new : List Labelled) (first later : Option Fault) (last next : Entries) →
-      IsTypedFormula component last wanted x one next → IsKept old first one new later → AreTypedSoFar component env wanted xs old first last →
+      IsTypedFormula component last wanted x one next → IsCollected old first one new later → AreTypedSoFar component env wanted xs old first last →
       AreTypedSoFar component env wanted (xs ++ x ∷ []) new later next
   one_more env xs x (Ok typed) old new first later last next t k so =
       (so.0, subst (λ ts. AreTyped component env wanted (xs ++ x ∷ []) ts so.0 next) (sym (k.0 ∙ ap (λ y. old ++ y ∷ []) t.2)) (typed_more env xs x old so.0 last t.0 next so.1 t.1), k.1 ∙ so.2)
@@ -72,7 +72,7 @@ module _ (component : List ℕ) (wanted : List (List ℕ)) where
 
   pub typed_so_far : (env : Entries) (labelled : List RawLabelled) (i : ℕ) (x : RawLabelled) → i < length labelled → x ≡ get_or labelled i x →
       (one : Result Labelled Fault) (old new : List Labelled) (first later : Option Fault) (last next : Entries) →
-      IsTypedFormula component last wanted x one next → IsKept old first one new later → AreTypedSoFar component env wanted (take i labelled) old first last →
+      IsTypedFormula component last wanted x one next → IsCollected old first one new later → AreTypedSoFar component env wanted (take i labelled) old first last →
       AreTypedSoFar component env wanted (take (i + 1) labelled) new later next
   typed_so_far env labelled i x lt is one old new first later last next t k so =
       subst (λ xs. AreTypedSoFar component env wanted xs new later next) (sym (taken_more labelled i x lt is)) (one_more env (take i labelled) x one old new first later last next t k so)
@@ -96,7 +96,7 @@ module _ (component : List ℕ) (env : Entries) where
   ]
 
   one_step_more : (xs : List RawStep) (x : RawStep) (one : Result LabelledAction Fault) (old new : List LabelledAction) (first later : Option Fault) →
-      IsTypedStep component env x one → IsKept old first one new later → AreTypedStepsSoFar component env xs old first → AreTypedStepsSoFar component env (xs ++ x ∷ []) new later
+      IsTypedStep component env x one → IsCollected old first one new later → AreTypedStepsSoFar component env xs old first → AreTypedStepsSoFar component env (xs ++ x ∷ []) new later
   one_step_more xs x (Ok typed) old new first later t k so =
       (so.0, subst (λ ts. AreTypedActions component env (xs ++ x ∷ []) ts so.0) (sym (k.0 ∙ ap (λ y. old ++ y ∷ []) t.3)) (step_more xs x old so.0 t.0 so.1 t.1 t.2), k.1 ∙ so.2)
   one_step_more xs x (Err fault) old new first later t k so =
@@ -104,7 +104,7 @@ module _ (component : List ℕ) (env : Entries) where
 
   pub steps_so_far : (steps : List RawStep) (i : ℕ) (x : RawStep) → i < length steps → x ≡ get_or steps i x →
       (one : Result LabelledAction Fault) (old new : List LabelledAction) (first later : Option Fault) →
-      IsTypedStep component env x one → IsKept old first one new later → AreTypedStepsSoFar component env (take i steps) old first →
+      IsTypedStep component env x one → IsCollected old first one new later → AreTypedStepsSoFar component env (take i steps) old first →
       AreTypedStepsSoFar component env (take (i + 1) steps) new later
   steps_so_far steps i x lt is one old new first later t k so =
       subst (λ xs. AreTypedStepsSoFar component env xs new later) (sym (taken_more steps i x lt is)) (one_step_more (take i steps) x one old new first later t k so)

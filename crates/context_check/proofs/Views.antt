@@ -18,7 +18,7 @@ use Rattle.model_core.specs.declared.checked.CheckedContext.{CheckedContext}
 use Rattle.model_core.specs.Each.{is_among}
 use Rattle.model_core.proofs.Firsts.{taken_more}
 use Rattle.model_core.proofs.Lists.{any_append, any_map, filter_append}
-use Rattle.check_rules.specs.Visible.{Placed, Identifiers, Visible, origins, with_new, with_context}
+use Rattle.check_rules.specs.Visible.{WithOrigin, Identifiers, Visible, origins, with_new, with_context}
 use Rattle.context_check.specs.declared.visible.Origin.{Origin}
 use Rattle.context_check.specs.declared.visible.View.{View}
 use Rattle.context_check.specs.Views.{differs, clashes, clashes_with, visible}
@@ -112,10 +112,10 @@ pub known_with : (old fresh new : List (List ℕ)) (before after : List ℕ → 
 known_with old fresh new before after h e step x =
     step x ∙ ap (λ b. b || is_among fresh x) (h x) ∙ sym (any_append (bytes_eq x) old fresh) ∙ ap (λ ns. is_among ns x) (sym e)
 
-pub origins_with : {X : Type 0} (old fresh new : List (Placed X)) → new ≡ old ++ fresh → origins new ≡ origins old ++ origins fresh
+pub origins_with : {X : Type 0} (old fresh new : List (WithOrigin X)) → new ≡ old ++ fresh → origins new ≡ origins old ++ origins fresh
 origins_with old fresh new e = ap origins e ∙ map-append (λ x. x.1) old fresh
 
-pub new_with : {X : Type 0} (old more pairs fresh new : List (Placed X)) (known : List ℕ → Bool) → ((x : List ℕ) → known x ≡ is_among (origins old) x) →
+pub new_with : {X : Type 0} (old more pairs fresh new : List (WithOrigin X)) (known : List ℕ → Bool) → ((x : List ℕ) → known x ≡ is_among (origins old) x) →
     pairs ≡ more → fresh ≡ filter (λ x. not (known x.1)) pairs → new ≡ old ++ fresh → new ≡ with_new old more
 new_with old more pairs fresh new known h e f g =
     g ∙ ap (λ xs. old ++ xs) (f ∙ ap (filter (λ x. not (known x.1))) e ∙ (λ i. filter (λ x. not (h x.1 i)) more))

@@ -23,8 +23,8 @@ use Rattle.check_rules.specs.Typed.{Entries, LabelledAction, HasTyping, labelled
 use Rattle.context_check.specs.Views.{placed}
 
 -- the names of entries that are seen
-abbrev pub names_in : List (Bor (List ℕ × Ty) × Bor (List ℕ)) → List (List ℕ)
-names_in parts = names (entries (map placed parts))
+abbrev pub placed_names : List (Bor (List ℕ × Ty) × Bor (List ℕ)) → List (List ℕ)
+placed_names parts = names (entries (map placed parts))
 
 -- the first name that clashes
 abbrev pub first_clashing : (List ℕ → List ℕ → Bool) → Identifiers → Option (List ℕ)
@@ -32,8 +32,8 @@ first_clashing clash [] = None
 first_clashing clash (x ∷ xs) = if clash x.0.0 x.1 then Some x.0.0 else first_clashing clash xs
 
 -- of the constants and the declared names no two are equal
-abbrev pub AreDistinct : Visible → List Ref → Type 0
-AreDistinct v declared = IsDistinct bytes_eq (names (entries v.constants) ++ names_of declared)
+abbrev pub AreDeclaredOnce : Visible → List Ref → Type 0
+AreDeclaredOnce v declared = IsDistinct bytes_eq (names (entries v.constants) ++ names_of declared)
 
 -- the fault that tells why a formula with this first token isn't typed
 abbrev pub IsToldBy : List ℕ → ℕ → TypeFault → Fault → Type 0
@@ -55,6 +55,6 @@ IsTypedStep component env s (Ok typed) =
 IsTypedStep component env s (Err fault) = IsMistypedAction component env s.action fault
 
 -- a typed part is kept, or its fault is if it is earlier
-abbrev pub IsKept : {X : Type 0} → List X → Option Fault → Result X Fault → List X → Option Fault → Type 0
-IsKept old first (Ok x) new last = (new ≡ old ++ x ∷ []) × (last ≡ first)
-IsKept old first (Err fault) new last = (new ≡ old) × (last ≡ earlier first (Some fault))
+abbrev pub IsCollected : {X : Type 0} → List X → Option Fault → Result X Fault → List X → Option Fault → Type 0
+IsCollected old first (Ok x) new last = (new ≡ old ++ x ∷ []) × (last ≡ first)
+IsCollected old first (Err fault) new last = (new ≡ old) × (last ≡ earlier first (Some fault))

@@ -8,13 +8,13 @@ use Rattle.std.specs.List.{list_any}
 use Rattle.std.specs.Cmp.Lexicographic.{slice_cmp}
 use Rattle.std.specs.Ordering.{nat_cmp}
 use Rattle.model_core.specs.Each.{is_among}
-use Rattle.check_rules.specs.Visible.{Placed, Identifiers, Visible, identifiers, names, origins}
+use Rattle.check_rules.specs.Visible.{WithOrigin, Identifiers, Visible, all_visible, names, origins}
 use Rattle.context_check.specs.declared.visible.Origin.{Origin}
 use Rattle.context_check.specs.declared.visible.Origin.TheVariants.{One, Several}
 use Rattle.context_check.specs.declared.visible.View.{View}
 use Rattle.context_check.specs.Texts.{has, texts}
 
-abbrev pub placed : {X : Type 0} → Bor X × Bor (List ℕ) → Placed X
+abbrev pub placed : {X : Type 0} → Bor X × Bor (List ℕ) → WithOrigin X
 placed p = (p.0.now, p.1.now)
 
 abbrev pub visible : View → Visible
@@ -43,4 +43,4 @@ pub record IsIndexed (v : View) : Type 0 where
   pub contexts : (x : List ℕ) → has v.known_contexts x ≡ is_among (visible v).contexts x
   pub constants : (x : List ℕ) → has v.known_constants x ≡ is_among (origins (visible v).constants) x
   pub axioms : (x : List ℕ) → has v.known_axioms x ≡ is_among (origins (visible v).axioms) x
-  pub names : (x origin : List ℕ) → clashes v.names x origin ≡ clashes_with (identifiers (visible v)) x origin
+  pub names : (x origin : List ℕ) → clashes v.names x origin ≡ clashes_with (all_visible (visible v)) x origin

@@ -9,11 +9,11 @@ ghost use Rattle.model_core.specs.Faults.{first_by_place};
 ghost use Rattle.check_rules.specs.Visible.{entries, origins};
 ghost use Rattle.check_rules.specs.Declarations.{declared_twice, labelled_twice};
 ghost use Rattle.check_rules.specs.Typed.{in_order};
-ghost use Rattle.check_rules.specs.Contexts.{ChecksAxioms, ChecksContext, carrier_set, context_of, labels_of, names_of};
+ghost use Rattle.check_rules.specs.Contexts.{ChecksAxioms, ChecksContext, carrier_set, checked_context_of, labels_of, names_of};
 ghost use Rattle.check_rules.specs.Components.{AreContextsOf, ChecksBeside, contexts_in, is_context};
 ghost use Rattle.context_check.specs.Texts.{has};
 ghost use Rattle.context_check.specs.Views.{placed, visible};
-ghost use Rattle.context_check.specs.Private.{AreDistinct, names_in};
+ghost use Rattle.context_check.specs.Private.{AreDeclaredOnce, placed_names};
 
 use crate::copies::{
     add_carrier_sets, add_for_each, copy_entries, copy_formulas, copy_names, copy_origins, count,
@@ -34,7 +34,7 @@ fn known_names<'a>(
     alloc: Global,
     constants: &[Placed<'a, (Name, Ty)>],
 ) -> Result<Texts<'a>, OutOfMemory>
-    ensures { IfOk result (λ known. (x : Listed ℕ) → has known x ≡ is_among (names_in constants.now) x) }
+    ensures { IfOk result (λ known. (x : Listed ℕ) → has known x ≡ is_among (placed_names constants.now) x) }
 {
     let mut known = BTreeSet::new(alloc);
     for constant in constants {
@@ -52,7 +52,7 @@ fn first_declared_twice(
     declared: &[Ref],
 ) -> Result<Option<Fault>, OutOfMemory>
     ensures { IfOk result (λ first.
-        first ≡ first_by_place (declared_twice name.now (names_in constants.now) (sets.now ++ declared.now))) }
+        first ≡ first_by_place (declared_twice name.now (placed_names constants.now) (sets.now ++ declared.now))) }
 {
     let known = known_names(alloc, constants)?;
     let mut marks = Vec::new(alloc);
@@ -97,7 +97,7 @@ fn context_env(
     sets: &[Ref],
     constants: &[Placed<'_, (Name, Ty)>],
 ) -> Result<Env, OutOfMemory>
-    requires { IsDistinct bytes_eq (names_in constants.now ++ names_of sets.now) }
+    requires { IsDistinct bytes_eq (placed_names constants.now ++ names_of sets.now) }
     ensures { IfOk result (λ env. env ≡ entries (map placed constants.now) ++ map carrier_set sets.now) }
 {
     let mut entries = copy_entries(alloc, constants)?;
@@ -113,7 +113,7 @@ fn checked_env(
     sets: &[Ref],
     declared: &[Ref],
 ) -> Result<Env, OutOfMemory>
-    requires { IsDistinct bytes_eq (names_in constants.now ++ names_of (sets.now ++ declared.now)) }
+    requires { IsDistinct bytes_eq (placed_names constants.now ++ names_of (sets.now ++ declared.now)) }
     ensures { IfOk result (λ all.
         all ≡ entries (map placed constants.now) ++ in_order env.now (names_of (sets.now ++ declared.now))) }
 {
@@ -214,9 +214,9 @@ fn context_of(
     own: Vec<Labelled>,
     env: &Env,
 ) -> Result<CheckedContext, OutOfMemory>
-    requires { AreDistinct (visible view.now) (sets.now ++ constants.now) }
+    requires { AreDeclaredOnce (visible view.now) (sets.now ++ constants.now) }
     ensures { IfOk result (λ context.
-        context ≡ context_of name.now (sets.now ++ constants.now) (visible view.now) own.items env.now) }
+        context ≡ checked_context_of name.now (sets.now ++ constants.now) (visible view.now) own.items env.now) }
 {
     let axioms_of = checked_axioms_of(alloc, &view.axioms, name, &own)?;
     let ancestors = copy_names(alloc, &view.contexts)?;
@@ -245,7 +245,7 @@ fn check_axioms(
     axioms: &[RawLabelled],
     view: &View<'_>,
 ) -> Result<Result<Checked, Fault>, OutOfMemory>
-    requires { AreDistinct (visible view.now) (sets.now ++ constants.now) }
+    requires { AreDeclaredOnce (visible view.now) (sets.now ++ constants.now) }
     ensures { IfOk result (λ outcome.
         ChecksAxioms name.now sets.now constants.now axioms.now (visible view.now) outcome) }
 {

@@ -9,7 +9,7 @@ ghost use Rattle.check_rules.specs.Contexts.{names_of};
 ghost use Rattle.check_rules.specs.Typed.{IsTypedVariant, place_of_first, first_token_of_action, labelled_of};
 ghost use Rattle.check_rules.specs.Typed.{never_typed, never_typed_row, in_order};
 ghost use Rattle.context_check.specs.Typings.{AreTypedSoFar, AreTypedStepsSoFar};
-ghost use Rattle.context_check.specs.Private.{IsKept, IsToldBy, IsTypedFormula, IsTypedStep};
+ghost use Rattle.context_check.specs.Private.{IsCollected, IsToldBy, IsTypedFormula, IsTypedStep};
 
 use formula_core::{Action, Env, Formula, Label, Name, OutOfMemory, RawAction, Ref, Ty};
 use model_core::{Fault, FaultKind, Labelled, RawLabelled, RawStep, RawVariant, earlier, fault_at};
@@ -77,7 +77,7 @@ fn keep<T: Drop>(
     first: Option<Fault>,
     one: Result<T, Fault>,
 ) -> Result<Option<Fault>, OutOfMemory>
-    ensures { IfOk result (λ last. IsKept typed.old.items first one typed.new.items last) }
+    ensures { IfOk result (λ last. IsCollected typed.old.items first one typed.new.items last) }
 {
     match one {
         Ok(part) => {

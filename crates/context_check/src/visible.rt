@@ -8,7 +8,7 @@ ghost use Rattle.formula_core.specs.Env.{HasDistinctNames};
 ghost use Rattle.model_core.specs.Each.{is_among};
 ghost use Rattle.model_core.specs.Faults.{fault_at, first_by_place};
 ghost use Rattle.check_rules.specs.Declarations.{brings_clash};
-ghost use Rattle.check_rules.specs.Visible.{clashing, entries, identifiers, nothing, of_context, origins};
+ghost use Rattle.check_rules.specs.Visible.{clashing, entries, all_visible, nothing, of_context, origins};
 ghost use Rattle.check_rules.specs.Visible.{seen_from, with_context, with_new};
 ghost use Rattle.context_check.specs.Texts.{has, texts};
 ghost use Rattle.context_check.specs.Views.{placed, differs, clashes, clashes_with, visible, IsIndexed};
@@ -381,7 +381,7 @@ pub fn clash_at(
     requires { IsIndexed view.now }
     ensures { IfOk result (λ here. here ≡ first_by_place
         (map (λ n. fault_at component.now FaultKind.DeclaredTwice place n.0.0)
-        (clashing (identifiers (visible view.now)) (of_context context.now)))) }
+        (clashing (all_visible (visible view.now)) (of_context context.now)))) }
 {
     let pairs = pairs(alloc, context.env.entries(), context.env_of.items())?;
     let found = first_clash(&view.names, &pairs);

@@ -2,7 +2,7 @@
 use Rattle.std.specs.Prelude.{ℕ, List}
 use Rattle.std.specs.FinMap.{entries}
 use Rattle.build_core.specs.declared.FaultLine.{FaultLine}
-use Rattle.build_core.specs.Tables.{AreFaults as AreFaultsOf, AreWarnings as AreWarningsOf}
+use Rattle.build_core.specs.Tables.{AreFaultsOf, AreWarningsOf}
 use Rattle.core_steps.specs.Durable.{ProjectMap}
 
 -- the first fault of each component that has one, with its line and column, in byte order of the components' names

@@ -5,7 +5,7 @@ use Rattle.std.specs.FinMap.{entries}
 use Rattle.sequent_core.specs.declared.Sequent.{Sequent}
 use Rattle.sequent_core.specs.declared.Obligation.{Obligation}
 use Rattle.po_rules.specs.Gathering.{table_nodes, table_limit}
-use Rattle.build_core.specs.Tables.{IsTable as IsTableOf, IsTooLarge as IsTooLargeOf}
+use Rattle.build_core.specs.Tables.{IsTableOf, IsTooLargeOf}
 use Rattle.core_steps.specs.Durable.{ProjectMap}
 
 -- the table of a project: the obligations of its components, in byte order of the components' names

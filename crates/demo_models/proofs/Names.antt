@@ -4,7 +4,7 @@ use Rattle.std.specs.Fmt.{digits}
 use Rattle.formula_core.specs.Names.{is_name}
 use Rattle.demo_models.specs.declared.making.Kind.{Kind}
 use Rattle.demo_models.specs.declared.making.Kind.TheVariants.{Context, Machine}
-use Rattle.demo_models.specs.Private.{name_of}
+use Rattle.demo_models.specs.Private.{name_of_kind}
 
 -- the test holds of so many numbers, from this one on
 abbrev holds_from : ℕ → ℕ → (ℕ → Bool) → Bool
@@ -25,10 +25,10 @@ held_below : (count j : ℕ) (test : ℕ → Bool) → j < count → holds_from 
 held_below count j test less all = subst (λ k. test k ≡ true) (omega arith) (held count 0 j test less all)
 
 abbrev is_context_name : ℕ → Bool
-is_context_name i = is_name (name_of Context i)
+is_context_name i = is_name (name_of_kind Context i)
 
 abbrev is_machine_name : ℕ → Bool
-is_machine_name i = is_name (name_of Machine i)
+is_machine_name i = is_name (name_of_kind Machine i)
 
 all_context_names : holds_from 129 0 is_context_name ≡ true
 unfolding digits
@@ -39,6 +39,6 @@ unfolding digits
 all_machine_names = refl
 
 -- the letter and three digits are a name
-pub is_name_of : (kind : Kind) (i : ℕ) → i ≤ 128 → is_name (name_of kind i) ≡ true
+pub is_name_of : (kind : Kind) (i : ℕ) → i ≤ 128 → is_name (name_of_kind kind i) ≡ true
 is_name_of Context i most = held_below 129 i is_context_name (omega (arith, most)) all_context_names
 is_name_of Machine i most = held_below 129 i is_machine_name (omega (arith, most)) all_machine_names

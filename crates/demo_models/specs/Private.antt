@@ -12,5 +12,5 @@ abbrev pub letter : Kind → List ℕ
 letter Context = codes "c"
 letter Machine = codes "m"
 
-abbrev pub name_of : Kind → ℕ → List ℕ
-name_of kind i = letter kind ++ three_digits i
+abbrev pub name_of_kind : Kind → ℕ → List ℕ
+name_of_kind kind i = letter kind ++ three_digits i

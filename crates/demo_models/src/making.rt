@@ -1,7 +1,7 @@
 // The components of the models.
 ghost use Rattle.std.specs.Prelude.{◌≡◌, ◌≤◌, ◌<◌, ◌+◌, ◌*◌, ◌%◌, IfOk, string_bytes};
 ghost use Rattle.demo_models.specs.Models.{three_digits, extends_line, context_with, machine_with, context_name, machine_name, models, edited_machine};
-ghost use Rattle.demo_models.specs.Private.{third_line, letter, name_of};
+ghost use Rattle.demo_models.specs.Private.{third_line, letter, name_of_kind};
 
 use crate::texts::{context_text, machine_text, three_digits};
 use formula_core::{Name, NameFault, OutOfMemory, Text};
@@ -35,7 +35,7 @@ fn letter(kind: Kind) -> &'static str
 
 // The letter of the kind, and three digits.
 fn name_text(alloc: Global, kind: Kind, i: u64) -> Result<String, OutOfMemory>
-    ensures { IfOk result (λ text. string_bytes text ≡ name_of kind i) }
+    ensures { IfOk result (λ text. string_bytes text ≡ name_of_kind kind i) }
 {
     let mut text = String::from_str(alloc, letter(kind))?;
     let digits = three_digits(alloc, i)?;
@@ -45,7 +45,7 @@ fn name_text(alloc: Global, kind: Kind, i: u64) -> Result<String, OutOfMemory>
 
 fn name_of(alloc: Global, kind: Kind, i: u64) -> Result<Name, OutOfMemory>
     requires { i ≤ 128 }
-    ensures { IfOk result (λ name. name ≡ name_of kind i) }
+    ensures { IfOk result (λ name. name ≡ name_of_kind kind i) }
 {
     let text = name_text(alloc, kind, i)?;
     match Name::read(alloc, &text) {

@@ -9,7 +9,7 @@ use Rattle.std.proofs.lemmas.Map.Keys.{IsDistinct-push}
 use Rattle.std.proofs.lemmas.Map.Views.{list_any-from_Contains, Contains-from_any}
 use Rattle.formula_core.specs.declared.ty.Ty.{Ty}
 use Rattle.formula_core.specs.declared.formula.Formula.{Formula}
-use Rattle.formula_core.specs.Formulas.{same_identifier, with_new, occurrences, free_of}
+use Rattle.formula_core.specs.Formulas.{same_identifier, with_identifier, occurrences, free_of}
 use Rattle.formula_core.proofs.Types.{same_type_exact}
 use Rattle.formula_core.proofs.Weakening.{first_true, second_true, both_true}
 use Rattle.formula_core.proofs.WholeSets.{same_type_refl}
@@ -50,9 +50,9 @@ distinct_step : (b : Bool) (xs : List Identifier) (x : Identifier) → list_any 
 distinct_step true xs x e d = d
 distinct_step false xs x e d = IsDistinct-push alike xs x d (sym (any_turned x xs) ∙ e)
 
-stay_distinct : (xs found : List Identifier) → IsDistinct same_identifier xs → IsDistinct same_identifier (fold with_new xs found)
+stay_distinct : (xs found : List Identifier) → IsDistinct same_identifier xs → IsDistinct same_identifier (fold with_identifier xs found)
 stay_distinct xs [] d = d
-stay_distinct xs (x ∷ found) d = stay_distinct (with_new xs x) found (distinct_step (list_any (λ y. same_identifier y x) xs) xs x refl d)
+stay_distinct xs (x ∷ found) d = stay_distinct (with_identifier xs x) found (distinct_step (list_any (λ y. same_identifier y x) xs) xs x refl d)
 
 or_assoc : (a b c : Bool) → ((a || b) || c) ≡ (a || (b || c))
 or_assoc true b c = refl
@@ -76,10 +76,10 @@ found_step : (b : Bool) (q : Identifier) (xs : List Identifier) (x : Identifier)
 found_step true q xs x e = or_second (list_any (same_identifier q) xs) (same_identifier q x) (λ h. (λ i. list_any (same_identifier (exact q x h i)) xs) ∙ sym (any_turned x xs) ∙ e)
 found_step false q xs x e = any_with_last (same_identifier q) xs x
 
-found_in : (q : Identifier) (xs found : List Identifier) → list_any (same_identifier q) (fold with_new xs found) ≡ (list_any (same_identifier q) xs || list_any (same_identifier q) found)
+found_in : (q : Identifier) (xs found : List Identifier) → list_any (same_identifier q) (fold with_identifier xs found) ≡ (list_any (same_identifier q) xs || list_any (same_identifier q) found)
 found_in q xs [] = sym (or_false (list_any (same_identifier q) xs))
 found_in q xs (x ∷ found) =
-    found_in q (with_new xs x) found
+    found_in q (with_identifier xs x) found
     ∙ ap (λ b. b || list_any (same_identifier q) found) (found_step (list_any (λ y. same_identifier y x) xs) q xs x refl)
     ∙ or_assoc (list_any (same_identifier q) xs) (same_identifier q x) (list_any (same_identifier q) found)
 

@@ -16,7 +16,7 @@ use Rattle.formula_core.specs.declared.formula.Formula.TheViews.{out-Formula, ro
 use Rattle.formula_core.specs.declared.formula.Formula.TheFolds.{fold-roll-Formula}
 use Rattle.formula_core.specs.Types.{same_type}
 use Rattle.formula_core.specs.Rows.{row_of}
-use Rattle.formula_core.specs.TypeTable.{fits, binder_fits}
+use Rattle.formula_core.specs.TypeTable.{row_fits, binder_fits}
 use Rattle.formula_core.specs.declared.op.Binder.TheVariants.{ForAll, Exists, Comprehension, QuantifiedUnion, QuantifiedIntersection}
 use Rattle.formula_core.specs.Formulas.{instantiated_step, instantiated, body_at, body}
 use Rattle.formula_core.specs.Substitution.{AreWell, bound_types_at, bound_types}
@@ -134,12 +134,12 @@ module _ (terms : List Formula) (well : AllByRecursion (λ f. IsTrue (is_well f)
   kept_node op parts t each inner bound h =
       let scope : List Ty = inner ++ (reverse types ++ bound) in
       let new : List Formula = map (instantiated terms (length inner)) parts in
-      let k : (list_all (λ f. is_well_in f scope) parts && fits (row_of op) (map type_of parts) t) ≡ true = sym (well-Node op parts t scope) ∙ h in
+      let k : (list_all (λ f. is_well_in f scope) parts && row_fits (row_of op) (map type_of parts) t) ≡ true = sym (well-Node op parts t scope) ∙ h in
       let kept = kept_parts inner bound parts each (first_true _ _ k) in
       let is = instantiated-Node terms (length inner) op parts t in (
         ap type_of is ∙ ap type_of_step (outs-Node op new t) ∙ sym (ap type_of_step (outs-Node op parts t)),
         ap (λ f. is_well_in f (inner ++ bound)) is ∙ well-Node op new t (inner ++ bound)
-            ∙ both_true _ _ kept.1 (ap (λ ts. fits (row_of op) ts t) kept.0 ∙ second_true (list_all (λ f. is_well_in f scope) parts) _ k),
+            ∙ both_true _ _ kept.1 (ap (λ ts. row_fits (row_of op) ts t) kept.0 ∙ second_true (list_all (λ f. is_well_in f scope) parts) _ k),
       )
 
   kept_binder : (binder : Binder) (own : List Ty) (parts : List Formula) (t : Ty) → AllByRecursion Keeps parts → Keeps (Bind binder own parts t)

@@ -15,8 +15,8 @@ use Rattle.formula_core.specs.declared.formula.Formula.TheVariants.{Int, Free, B
 use Rattle.formula_core.specs.declared.formula.Formula.TheViews.{roll-Formula, rolls-Free, rolls-Bound, rolls-Int, outs-Free, outs-Bound, outs-Node, outs-Bind}
 use Rattle.formula_core.specs.Types.{same_type, is_value_type}
 use Rattle.formula_core.specs.Rows.{row_of}
-use Rattle.formula_core.specs.TypeTable.{fits, binder_fits}
-use Rattle.formula_core.specs.Shifting.{raised, shifted, place_from_last, abstracted, scope_of}
+use Rattle.formula_core.specs.TypeTable.{row_fits, binder_fits}
+use Rattle.formula_core.specs.Shifting.{raised, shifted, place_from_last, abstracted, scope_types}
 use Rattle.formula_core.specs.Wellness.{type_of_step, type_of, may_be_bound, is_well_in, is_well}
 use Rattle.formula_core.proofs.BindingLaw.{found_at, reverse-map}
 use Rattle.formula_core.proofs.Depths.{shifted-Int, shifted-Free, shifted-Bound, shifted-Node, shifted-Bind, abstracted-Int, abstracted-Free, abstracted-Bound, abstracted-Node, abstracted-Bind}
@@ -74,12 +74,12 @@ module _ (new : List Ty) (go : ℕ → Formula → Formula)
   kept_node : (op : Op) (parts : List Formula) (t : Ty) → AllByRecursion Keeps parts → Keeps (Node op parts t)
   kept_node op parts t each inner bound h =
       let now : List Formula = map (go (length inner)) parts in
-      let k : (list_all (λ f. is_well_in f (inner ++ bound)) parts && fits (row_of op) (map type_of parts) t) ≡ true = sym (well-Node op parts t (inner ++ bound)) ∙ h in
+      let k : (list_all (λ f. is_well_in f (inner ++ bound)) parts && row_fits (row_of op) (map type_of parts) t) ≡ true = sym (well-Node op parts t (inner ++ bound)) ∙ h in
       let kept = kept_parts inner bound parts each (first_true _ _ k) in
       let is = node_is (length inner) op parts t in (
         ap type_of is ∙ ap type_of_step (outs-Node op now t) ∙ sym (ap type_of_step (outs-Node op parts t)),
         ap (λ f. is_well_in f (inner ++ (new ++ bound))) is ∙ well-Node op now t (inner ++ (new ++ bound))
-            ∙ both_true _ _ kept.1 (ap (λ ts. fits (row_of op) ts t) kept.0 ∙ second_true (list_all (λ f. is_well_in f (inner ++ bound)) parts) _ k),
+            ∙ both_true _ _ kept.1 (ap (λ ts. row_fits (row_of op) ts t) kept.0 ∙ second_true (list_all (λ f. is_well_in f (inner ++ bound)) parts) _ k),
       )
 
   kept_binder : (binder : Binder) (own : List Ty) (parts : List Formula) (t : Ty) → AllByRecursion Keeps parts → Keeps (Bind binder own parts t)
@@ -134,37 +134,37 @@ shifted_is_well new = kept new (shifted (length new))
     (λ d binder types parts t. shifted-Bind (length new) d binder types parts t)
     (λ name t inner bound v. free_shifted (length new) name t (length inner) (inner ++ (new ++ bound)) v)
 
-scope_length : (ids : List (List ℕ × Ty)) → length (scope_of ids) ≡ length ids
+scope_length : (ids : List (List ℕ × Ty)) → length (scope_types ids) ≡ length ids
 scope_length ids = length-reverse (map (λ x. x.1) ids) ∙ length-map ids (λ x. x.1)
 
 bound_well : (ids : List (List ℕ × Ty)) (name : List ℕ) (t : Ty) (inner bound : List Ty) (o : Option ℕ) → place_from_last ids (name, t) ≡ o → is_value_type t ≡ true
-    → IsWellOf t (inner ++ (scope_of ids ++ bound)) (option_map_or (λ i. roll-Formula (BoundF (length inner + i) t)) o (roll-Formula (FreeF name t)))
+    → IsWellOf t (inner ++ (scope_types ids ++ bound)) (option_map_or (λ i. roll-Formula (BoundF (length inner + i) t)) o (roll-Formula (FreeF name t)))
 bound_well ids name t inner bound None e v = (
   ap type_of (rolls-Free name t) ∙ ap type_of_step (outs-Free name t),
-  ap (λ f. is_well_in f (inner ++ (scope_of ids ++ bound))) (rolls-Free name t) ∙ well-Free name t (inner ++ (scope_of ids ++ bound)) ∙ v,
+  ap (λ f. is_well_in f (inner ++ (scope_types ids ++ bound))) (rolls-Free name t) ∙ well-Free name t (inner ++ (scope_types ids ++ bound)) ∙ v,
 )
 bound_well ids name t inner bound (Some i) e v =
-    let scope : List Ty = inner ++ (scope_of ids ++ bound) in
+    let scope : List Ty = inner ++ (scope_types ids ++ bound) in
     let found = found_at ids (name, t) i e in
-    let within : i < length (scope_of ids) = omega (arith, found.0, scope_length ids) in
+    let within : i < length (scope_types ids) = omega (arith, found.0, scope_length ids) in
     let here : slice_get scope (length inner + i) ≡ Some t =
-    slice_get-append_right inner (scope_of ids ++ bound) (length inner + i) (omega arith)
-    ∙ ap (slice_get (scope_of ids ++ bound)) (let same : length inner + i - length inner ≡ i = omega arith in same)
-    ∙ slice_get-append_left (scope_of ids) bound i within
+    slice_get-append_right inner (scope_types ids ++ bound) (length inner + i) (omega arith)
+    ∙ ap (slice_get (scope_types ids ++ bound)) (let same : length inner + i - length inner ≡ i = omega arith in same)
+    ∙ slice_get-append_left (scope_types ids) bound i within
     ∙ ap (λ ts. slice_get ts i) (reverse-map (λ x. x.1) ids) ∙ slice_get-map (λ x. x.1) (reverse ids) i ∙ ap (option_map (λ x. x.1)) found.1 in (
       ap type_of (rolls-Bound (length inner + i) t) ∙ ap type_of_step (outs-Bound (length inner + i) t),
       ap (λ f. is_well_in f scope) (rolls-Bound (length inner + i) t) ∙ well-Bound (length inner + i) t scope
           ∙ ap (λ o. option_map_or (λ u. same_type u t) o false) here ∙ same_type_refl t,
     )
 
-free_bound : (ids : List (List ℕ × Ty)) (name : List ℕ) (t : Ty) (inner bound : List Ty) → is_value_type t ≡ true → IsWellOf t (inner ++ (scope_of ids ++ bound)) (abstracted ids (length inner) (Free name t))
+free_bound : (ids : List (List ℕ × Ty)) (name : List ℕ) (t : Ty) (inner bound : List Ty) → is_value_type t ≡ true → IsWellOf t (inner ++ (scope_types ids ++ bound)) (abstracted ids (length inner) (Free name t))
 free_bound ids name t inner bound v =
     let is = abstracted-Free ids (length inner) name t in
     let k = bound_well ids name t inner bound (place_from_last ids (name, t)) refl v in
-    (ap type_of is ∙ k.0, ap (λ f. is_well_in f (inner ++ (scope_of ids ++ bound))) is ∙ k.1)
+    (ap type_of is ∙ k.0, ap (λ f. is_well_in f (inner ++ (scope_types ids ++ bound))) is ∙ k.1)
 
-abstracted_in : (ids : List (List ℕ × Ty)) (f : Formula) (inner bound : List Ty) → is_well_in f (inner ++ bound) ≡ true → IsWellOf (type_of f) (inner ++ (scope_of ids ++ bound)) (abstracted ids (length inner) f)
-abstracted_in ids = kept (scope_of ids) (abstracted ids)
+abstracted_in : (ids : List (List ℕ × Ty)) (f : Formula) (inner bound : List Ty) → is_well_in f (inner ++ bound) ≡ true → IsWellOf (type_of f) (inner ++ (scope_types ids ++ bound)) (abstracted ids (length inner) f)
+abstracted_in ids = kept (scope_types ids) (abstracted ids)
     (λ d n. abstracted-Int ids d n ∙ rolls-Int n)
     (λ d i t. abstracted-Bound ids d i t ∙ rolls-Bound (raised (length ids) d i) t ∙ ap (λ n. Bound (raised n d i) t) (sym (scope_length ids)))
     (λ d op parts t. abstracted-Node ids d op parts t)
@@ -172,8 +172,8 @@ abstracted_in ids = kept (scope_of ids) (abstracted ids)
     (free_bound ids)
 
 -- a well formula as the body of a binder of identifiers
-pub abstracted_is_well : (ids : List (List ℕ × Ty)) (f : Formula) → IsTrue (is_well f) → IsTrue (is_well_in (abstracted ids 0 f) (scope_of ids))
-abstracted_is_well ids f h = ap (is_well_in (abstracted ids 0 f)) (sym (append-nil (scope_of ids))) ∙ (abstracted_in ids f [] [] h).1
+pub abstracted_is_well : (ids : List (List ℕ × Ty)) (f : Formula) → IsTrue (is_well f) → IsTrue (is_well_in (abstracted ids 0 f) (scope_types ids))
+abstracted_is_well ids f h = ap (is_well_in (abstracted ids 0 f)) (sym (append-nil (scope_types ids))) ∙ (abstracted_in ids f [] [] h).1
 
 pub shifted_keeps_well : (new : List Ty) (f : Formula) (inner bound : List Ty) → IsTrue (is_well_in f (inner ++ bound)) → IsTrue (is_well_in (shifted (length new) (length inner) f) (inner ++ (new ++ bound)))
 shifted_keeps_well new f inner bound h = (shifted_is_well new f inner bound h).1

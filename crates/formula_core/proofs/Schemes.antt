@@ -17,8 +17,8 @@ use Rattle.formula_core.specs.declared.row.UnaryRow.TheVariants as unary
 use Rattle.formula_core.specs.declared.row.BinaryRow.{BinaryRow}
 use Rattle.formula_core.specs.declared.row.BinaryRow.TheVariants as binary
 use Rattle.formula_core.specs.Types.{same_type, is_value_step, is_value_type, is_truth_at, is_truth, is_integer_at, is_integer, is_boolean_at, is_boolean, members_at, components_at, components, if_set, if_pair, if_relation, is_set_of, is_pair_of, is_relation_of}
-use Rattle.formula_core.specs.TypeTable.{nullary_fits, unary_fits, binary_fits, fits, binder_fits}
-use Rattle.formula_core.specs.Schemes.{Scheme, alpha, power, nullary_scheme, unary_scheme, binary_scheme, operand_schemes, result_scheme, part_schemes, binder_scheme, Letters, AreValues, type_at, IsInstance}
+use Rattle.formula_core.specs.TypeTable.{nullary_fits, unary_fits, binary_fits, row_fits, binder_fits}
+use Rattle.formula_core.specs.Schemes.{Scheme, alpha, power, nullary_scheme, unary_scheme, binary_scheme, operand_schemes, result_scheme, part_schemes, binder_scheme, Letters, AreValues, type_of_scheme, IsSchemeInstance}
 use Rattle.formula_core.proofs.Equations.{type_fold}
 use Rattle.formula_core.proofs.Types.{same_type_exact}
 use Rattle.formula_core.proofs.Weakening.{first_true, second_true, both_true}
@@ -123,7 +123,7 @@ letters a b c d = record { alpha = a; beta = b; gamma = c; delta = d }
 
 instance : {operands : List Scheme} {whole : Scheme} {types : List Ty} {t : Ty} → (a b c d : Ty)
     → is_value_type a ≡ true → is_value_type b ≡ true → is_value_type c ≡ true → is_value_type d ≡ true
-    → types ≡ map (type_at (letters a b c d)) operands → t ≡ type_at (letters a b c d) whole → IsInstance operands whole types t
+    → types ≡ map (type_of_scheme (letters a b c d)) operands → t ≡ type_of_scheme (letters a b c d) whole → IsSchemeInstance operands whole types t
 instance a b c d va vb vc vd e k = record {
   letters = letters a b c d;
   values = record { alpha = va; beta = vb; gamma = vc; delta = vd };
@@ -132,15 +132,15 @@ instance a b c d va vb vc vd e k = record {
 }
 
 without : {operands : List Scheme} {whole : Scheme} {types : List Ty} {t : Ty}
-    → types ≡ map (type_at (letters ty.Int ty.Int ty.Int ty.Int)) operands → t ≡ type_at (letters ty.Int ty.Int ty.Int ty.Int) whole → IsInstance operands whole types t
+    → types ≡ map (type_of_scheme (letters ty.Int ty.Int ty.Int ty.Int)) operands → t ≡ type_of_scheme (letters ty.Int ty.Int ty.Int ty.Int) whole → IsSchemeInstance operands whole types t
 without = instance ty.Int ty.Int ty.Int ty.Int value-Int value-Int value-Int value-Int
 
 with_one : {operands : List Scheme} {whole : Scheme} {types : List Ty} {t : Ty} → (a : Ty) → is_value_type a ≡ true
-    → types ≡ map (type_at (letters a ty.Int ty.Int ty.Int)) operands → t ≡ type_at (letters a ty.Int ty.Int ty.Int) whole → IsInstance operands whole types t
+    → types ≡ map (type_of_scheme (letters a ty.Int ty.Int ty.Int)) operands → t ≡ type_of_scheme (letters a ty.Int ty.Int ty.Int) whole → IsSchemeInstance operands whole types t
 with_one a v = instance a ty.Int ty.Int ty.Int v value-Int value-Int value-Int
 
 with_two : {operands : List Scheme} {whole : Scheme} {types : List Ty} {t : Ty} → (a b : Ty) → is_value_type a ≡ true → is_value_type b ≡ true
-    → types ≡ map (type_at (letters a b ty.Int ty.Int)) operands → t ≡ type_at (letters a b ty.Int ty.Int) whole → IsInstance operands whole types t
+    → types ≡ map (type_of_scheme (letters a b ty.Int ty.Int)) operands → t ≡ type_of_scheme (letters a b ty.Int ty.Int) whole → IsSchemeInstance operands whole types t
 with_two a b v w = instance a b ty.Int ty.Int v w value-Int value-Int
 
 single : {a b : Ty} → a ≡ b → a ∷ [] ≡ b ∷ []
@@ -149,7 +149,7 @@ single e = λ i. e i ∷ []
 double : {a b c d : Ty} → a ≡ b → c ≡ d → a ∷ c ∷ [] ≡ b ∷ d ∷ []
 double e k = λ i. e i ∷ k i ∷ []
 
-nullary_found : (row : NullaryRow) (t : Ty) → nullary_fits row t ≡ true → IsInstance [] (nullary_scheme row) [] t
+nullary_found : (row : NullaryRow) (t : Ty) → nullary_fits row t ≡ true → IsSchemeInstance [] (nullary_scheme row) [] t
 nullary_found nullary.Predicate t h = without refl (truth_view t h)
 nullary_found nullary.TruthValue t h = without refl (boolean_view t h)
 nullary_found nullary.TruthValueSet t h = let v : SetOf t is_boolean = set_view t _ h in without refl (v.is ∙ ap ty.Pow (boolean_view v.part v.holds))
@@ -175,7 +175,7 @@ nullary_found nullary.IntegerMap t h =
     let v : RelationOf t (λ α β. is_integer α && is_integer β) = relation_view t _ h in
     without refl (v.is ∙ (λ i. ty.Pow (ty.Pair (integer_view v.from (first_true _ _ v.holds) i) (integer_view v.to (second_true (is_integer v.from) _ v.holds) i))))
 
-unary_found : (row : UnaryRow) (a t : Ty) → unary_fits row a t ≡ true → IsInstance ((unary_scheme row).0 ∷ []) (unary_scheme row).1 (a ∷ []) t
+unary_found : (row : UnaryRow) (a t : Ty) → unary_fits row a t ≡ true → IsSchemeInstance ((unary_scheme row).0 ∷ []) (unary_scheme row).1 (a ∷ []) t
 unary_found unary.Negation a t h = without (single (truth_view a (first_true _ _ h))) (truth_view t (second_true (is_truth a) _ h))
 unary_found unary.Finiteness a t h =
     let v : SetOf a is_value_type = set_view a _ (first_true _ _ h) in
@@ -232,7 +232,7 @@ relation_types t f value h =
     record { from = v.from; to = v.to; from_is = from_value t v.from v.to v.is value; to_is = to_value t v.from v.to v.is value; is = v.is; holds = v.holds }
 
 binary_found : (row : BinaryRow) (a b t : Ty) → binary_fits row a b t ≡ true
-    → IsInstance ((binary_scheme row).0 ∷ (binary_scheme row).1 ∷ []) (binary_scheme row).2 (a ∷ b ∷ []) t
+    → IsSchemeInstance ((binary_scheme row).0 ∷ (binary_scheme row).1 ∷ []) (binary_scheme row).2 (a ∷ b ∷ []) t
 binary_found binary.Connective a b t h = let k : Three (is_truth a) (is_truth b) (is_truth t) = three _ _ _ h in without (double (truth_view a k.first) (truth_view b k.second)) (truth_view t k.third)
 binary_found binary.Equality a b t h =
     let k : Three (is_value_type a) (same_type b a) (is_truth t) = three _ _ _ h in
@@ -312,20 +312,20 @@ binary_found binary.Image a b t h =
     let v : RelationTypes a (λ α β. is_set_of b α && is_set_of t β) = relation_types a _ (first_true _ _ h) (second_true (is_value_type a) _ h) in
     with_two v.from v.to v.from_is v.to_is (double v.is (set_of_view b v.from (first_true _ _ v.holds))) (set_of_view t v.to (second_true (is_set_of b v.from) _ v.holds))
 
-all_same : (a : Ty) (types : List Ty) → list_all (λ b. same_type b a) types ≡ true → types ≡ map (type_at (letters a ty.Int ty.Int ty.Int)) (replicate (length types) alpha)
+all_same : (a : Ty) (types : List Ty) → list_all (λ b. same_type b a) types ≡ true → types ≡ map (type_of_scheme (letters a ty.Int ty.Int ty.Int)) (replicate (length types) alpha)
 all_same a [] h = refl
 all_same a (b ∷ types) h = λ i. same_type_exact b a (first_true _ _ h) i ∷ all_same a types (second_true (same_type b a) _ h) i
 
 extension_found : (a : Ty) (rest : List Ty) (t : Ty) → (is_value_type a && list_all (λ b. same_type b a) rest && is_set_of t a) ≡ true
-    → IsInstance (alpha ∷ replicate (length (a ∷ rest) - 1) alpha) (power alpha) (a ∷ rest) t
+    → IsSchemeInstance (alpha ∷ replicate (length (a ∷ rest) - 1) alpha) (power alpha) (a ∷ rest) t
 extension_found a rest t h =
     let n : length rest ≡ length (a ∷ rest) - 1 = omega arith in
     let k : Three (is_value_type a) (list_all (λ b. same_type b a) rest) (is_set_of t a) = three _ _ _ h in
-    let others : rest ≡ map (type_at (letters a ty.Int ty.Int ty.Int)) (replicate (length (a ∷ rest) - 1) alpha) =
-    all_same a rest k.second ∙ ap (λ m. map (type_at (letters a ty.Int ty.Int ty.Int)) (replicate m alpha)) n in
+    let others : rest ≡ map (type_of_scheme (letters a ty.Int ty.Int ty.Int)) (replicate (length (a ∷ rest) - 1) alpha) =
+    all_same a rest k.second ∙ ap (λ m. map (type_of_scheme (letters a ty.Int ty.Int ty.Int)) (replicate m alpha)) n in
     with_one a k.first (λ i. a ∷ others i) (set_of_view t a k.third)
 
-found : (row : Row) (types : List Ty) (t : Ty) → fits row types t ≡ true → IsInstance (operand_schemes row (length types)) (result_scheme row) types t
+found : (row : Row) (types : List Ty) (t : Ty) → row_fits row types t ≡ true → IsSchemeInstance (operand_schemes row (length types)) (result_scheme row) types t
 found (Nullary row) [] t h = nullary_found row t h
 found (Nullary row) (a ∷ rest) t h = cc
 found (Unary row) [] t h = cc
@@ -338,7 +338,7 @@ found (Binary row) (a ∷ b ∷ c ∷ rest) t h = cc
 found SetExtension [] t h = cc
 found SetExtension (a ∷ rest) t h = extension_found a rest t h
 
-binder_found : (b : Binder) (types : List Ty) (t : Ty) → binder_fits b types t ≡ true → IsInstance (part_schemes b) (binder_scheme b) types t
+binder_found : (b : Binder) (types : List Ty) (t : Ty) → binder_fits b types t ≡ true → IsSchemeInstance (part_schemes b) (binder_scheme b) types t
 binder_found binder.ForAll (p ∷ []) t h = without (single (truth_view p (first_true _ _ h))) (truth_view t (second_true (is_truth p) _ h))
 binder_found binder.Exists (p ∷ []) t h = without (single (truth_view p (first_true _ _ h))) (truth_view t (second_true (is_truth p) _ h))
 binder_found binder.Comprehension (p ∷ e ∷ []) t h =
@@ -358,7 +358,7 @@ binder_found _ _ t h = cc
 
 ruleset views = (outs-Int, outs-Bool, outs-Truth, outs-Pow, outs-Pair, same_type_refl, value-Pow, value-Pair)
 
-nullary_fitting : (row : NullaryRow) (l : Letters) → AreValues l → nullary_fits row (type_at l (nullary_scheme row)) ≡ true
+nullary_fitting : (row : NullaryRow) (l : Letters) → AreValues l → nullary_fits row (type_of_scheme l (nullary_scheme row)) ≡ true
 nullary_fitting nullary.Predicate l w = simp views refl
 nullary_fitting nullary.TruthValue l w = simp views refl
 nullary_fitting nullary.TruthValueSet l w = simp views refl
@@ -369,7 +369,7 @@ nullary_fitting nullary.FirstProjection l w = simp (views, w.alpha, w.beta) refl
 nullary_fitting nullary.SecondProjection l w = simp (views, w.alpha, w.beta) refl
 nullary_fitting nullary.IntegerMap l w = simp views refl
 
-unary_fitting : (row : UnaryRow) (l : Letters) → AreValues l → unary_fits row (type_at l (unary_scheme row).0) (type_at l (unary_scheme row).1) ≡ true
+unary_fitting : (row : UnaryRow) (l : Letters) → AreValues l → unary_fits row (type_of_scheme l (unary_scheme row).0) (type_of_scheme l (unary_scheme row).1) ≡ true
 unary_fitting unary.Negation l w = simp views refl
 unary_fitting unary.Finiteness l w = simp (views, w.alpha) refl
 unary_fitting unary.Opposite l w = simp views refl
@@ -382,7 +382,7 @@ unary_fitting unary.Flattening l w = simp (views, w.alpha) refl
 unary_fitting unary.Extremum l w = simp views refl
 unary_fitting unary.TruthOf l w = simp views refl
 
-binary_fitting : (row : BinaryRow) (l : Letters) → AreValues l → binary_fits row (type_at l (binary_scheme row).0) (type_at l (binary_scheme row).1) (type_at l (binary_scheme row).2) ≡ true
+binary_fitting : (row : BinaryRow) (l : Letters) → AreValues l → binary_fits row (type_of_scheme l (binary_scheme row).0) (type_of_scheme l (binary_scheme row).1) (type_of_scheme l (binary_scheme row).2) ≡ true
 binary_fitting binary.Connective l w = simp views refl
 binary_fitting binary.Equality l w = simp (views, w.alpha) refl
 binary_fitting binary.Membership l w = simp (views, w.alpha) refl
@@ -403,25 +403,25 @@ binary_fitting binary.Arithmetic l w = simp views refl
 binary_fitting binary.Application l w = simp (views, w.alpha, w.beta) refl
 binary_fitting binary.Image l w = simp (views, w.alpha, w.beta) refl
 
-all_fitting : (l : Letters) (k : ℕ) → list_all (λ b. same_type b l.alpha) (map (type_at l) (replicate k alpha)) ≡ true
+all_fitting : (l : Letters) (k : ℕ) → list_all (λ b. same_type b l.alpha) (map (type_of_scheme l) (replicate k alpha)) ≡ true
 all_fitting l zero = refl
 all_fitting l (suc k) = both_true _ _ (same_type_refl l.alpha) (all_fitting l k)
 
-fitting : (row : Row) (k : ℕ) (l : Letters) → AreValues l → fits row (map (type_at l) (operand_schemes row k)) (type_at l (result_scheme row)) ≡ true
+fitting : (row : Row) (k : ℕ) (l : Letters) → AreValues l → row_fits row (map (type_of_scheme l) (operand_schemes row k)) (type_of_scheme l (result_scheme row)) ≡ true
 fitting (Nullary row) k l w = nullary_fitting row l w
 fitting (Unary row) k l w = unary_fitting row l w
 fitting (Binary row) k l w = binary_fitting row l w
 fitting SetExtension k l w = both_true _ _ (both_true _ _ w.alpha (all_fitting l (k - 1))) (at_set l.alpha (λ p. same_type p l.alpha) ∙ same_type_refl l.alpha)
 
-binder_fitting : (b : Binder) (l : Letters) → AreValues l → binder_fits b (map (type_at l) (part_schemes b)) (type_at l (binder_scheme b)) ≡ true
+binder_fitting : (b : Binder) (l : Letters) → AreValues l → binder_fits b (map (type_of_scheme l) (part_schemes b)) (type_of_scheme l (binder_scheme b)) ≡ true
 binder_fitting binder.ForAll l w = simp views refl
 binder_fitting binder.Exists l w = simp views refl
 binder_fitting binder.Comprehension l w = simp (views, w.alpha) refl
 binder_fitting binder.QuantifiedUnion l w = simp (views, w.alpha) refl
 binder_fitting binder.QuantifiedIntersection l w = simp (views, w.alpha) refl
 
-pub fits_exactly : (row : Row) (types : List Ty) (t : Ty) → IsTrue (fits row types t) ↔ IsInstance (operand_schemes row (length types)) (result_scheme row) types t
-fits_exactly row types t = (found row types t, λ is. (λ i. fits row (is.operands_are i) (is.whole_is i)) ∙ fitting row (length types) is.letters is.values)
+pub fits_exactly : (row : Row) (types : List Ty) (t : Ty) → IsTrue (row_fits row types t) ↔ IsSchemeInstance (operand_schemes row (length types)) (result_scheme row) types t
+fits_exactly row types t = (found row types t, λ is. (λ i. row_fits row (is.operands_are i) (is.whole_is i)) ∙ fitting row (length types) is.letters is.values)
 
-pub binder_fits_exactly : (b : Binder) (types : List Ty) (t : Ty) → IsTrue (binder_fits b types t) ↔ IsInstance (part_schemes b) (binder_scheme b) types t
+pub binder_fits_exactly : (b : Binder) (types : List Ty) (t : Ty) → IsTrue (binder_fits b types t) ↔ IsSchemeInstance (part_schemes b) (binder_scheme b) types t
 binder_fits_exactly b types t = (binder_found b types t, λ is. (λ i. binder_fits b (is.operands_are i) (is.whole_is i)) ∙ binder_fitting b is.letters is.values)

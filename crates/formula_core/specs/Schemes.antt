@@ -27,8 +27,8 @@ pub data Scheme : Type 0 where
   pair : Scheme → Scheme → Scheme
 
 -- the type of the relations between two types
-abbrev pub relation : Scheme → Scheme → Scheme
-relation from to = power (pair from to)
+abbrev pub relation_scheme : Scheme → Scheme → Scheme
+relation_scheme from to = power (pair from to)
 
 -- the type of an operator without operand
 abbrev pub nullary_scheme : NullaryRow → Scheme
@@ -37,21 +37,21 @@ nullary_scheme nullary.TruthValue = boolean
 nullary_scheme nullary.TruthValueSet = power boolean
 nullary_scheme nullary.IntegerSet = power integer
 nullary_scheme nullary.EmptySet = power alpha
-nullary_scheme nullary.Identity = relation alpha alpha
-nullary_scheme nullary.FirstProjection = relation (pair alpha beta) alpha
-nullary_scheme nullary.SecondProjection = relation (pair alpha beta) beta
-nullary_scheme nullary.IntegerMap = relation integer integer
+nullary_scheme nullary.Identity = relation_scheme alpha alpha
+nullary_scheme nullary.FirstProjection = relation_scheme (pair alpha beta) alpha
+nullary_scheme nullary.SecondProjection = relation_scheme (pair alpha beta) beta
+nullary_scheme nullary.IntegerMap = relation_scheme integer integer
 
 -- the type of the operand of an operator, and of the operator
 abbrev pub unary_scheme : UnaryRow → Scheme × Scheme
 unary_scheme unary.Negation = (truth, truth)
 unary_scheme unary.Finiteness = (power alpha, truth)
 unary_scheme unary.Opposite = (integer, integer)
-unary_scheme unary.Converse = (relation alpha beta, relation beta alpha)
+unary_scheme unary.Converse = (relation_scheme alpha beta, relation_scheme beta alpha)
 unary_scheme unary.PowerSet = (power alpha, power (power alpha))
 unary_scheme unary.Cardinality = (power alpha, integer)
-unary_scheme unary.Domain = (relation alpha beta, power alpha)
-unary_scheme unary.Range = (relation alpha beta, power beta)
+unary_scheme unary.Domain = (relation_scheme alpha beta, power alpha)
+unary_scheme unary.Range = (relation_scheme alpha beta, power beta)
 unary_scheme unary.Flattening = (power (power alpha), power alpha)
 unary_scheme unary.Extremum = (power integer, integer)
 unary_scheme unary.TruthOf = (truth, boolean)
@@ -64,19 +64,20 @@ binary_scheme binary.Membership = (alpha, power alpha, truth)
 binary_scheme binary.Inclusion = (power alpha, power alpha, truth)
 binary_scheme binary.Comparison = (integer, integer, truth)
 binary_scheme binary.Maplet = (alpha, beta, pair alpha beta)
-binary_scheme binary.RelationSet = (power alpha, power beta, power (relation alpha beta))
+binary_scheme binary.RelationSet = (power alpha, power beta, power (relation_scheme alpha beta))
 binary_scheme binary.SetOperation = (power alpha, power alpha, power alpha)
-binary_scheme binary.Product = (power alpha, power beta, relation alpha beta)
-binary_scheme binary.DomainFilter = (power alpha, relation alpha beta, relation alpha beta)
-binary_scheme binary.RangeFilter = (relation alpha beta, power beta, relation alpha beta)
-binary_scheme binary.Overriding = (relation alpha beta, relation alpha beta, relation alpha beta)
-binary_scheme binary.Composition = (relation alpha beta, relation beta gamma, relation alpha gamma)
-binary_scheme binary.ParallelProduct = (relation alpha beta, relation gamma delta, relation (pair alpha gamma) (pair beta delta))
-binary_scheme binary.DirectProduct = (relation alpha beta, relation alpha gamma, relation alpha (pair beta gamma))
+binary_scheme binary.Product = (power alpha, power beta, relation_scheme alpha beta)
+binary_scheme binary.DomainFilter = (power alpha, relation_scheme alpha beta, relation_scheme alpha beta)
+binary_scheme binary.RangeFilter = (relation_scheme alpha beta, power beta, relation_scheme alpha beta)
+binary_scheme binary.Overriding = (relation_scheme alpha beta, relation_scheme alpha beta, relation_scheme alpha beta)
+binary_scheme binary.Composition = (relation_scheme alpha beta, relation_scheme beta gamma, relation_scheme alpha gamma)
+binary_scheme binary.ParallelProduct = (relation_scheme alpha beta, relation_scheme gamma delta, relation_scheme (pair alpha gamma) (pair beta delta))
+binary_scheme binary.DirectProduct =
+    (relation_scheme alpha beta, relation_scheme alpha gamma, relation_scheme alpha (pair beta gamma))
 binary_scheme binary.Interval = (integer, integer, power integer)
 binary_scheme binary.Arithmetic = (integer, integer, integer)
-binary_scheme binary.Application = (relation alpha beta, alpha, beta)
-binary_scheme binary.Image = (relation alpha beta, power alpha, power beta)
+binary_scheme binary.Application = (relation_scheme alpha beta, alpha, beta)
+binary_scheme binary.Image = (relation_scheme alpha beta, power alpha, power beta)
 
 -- The types of the operands of an operator, of which a set extension has any number `k`, but at least one.
 abbrev pub operand_schemes : Row → ℕ → List Scheme
@@ -123,20 +124,20 @@ pub record AreValues (letters : Letters) : Type 0 where
   pub delta : IsTrue (is_value_type letters.delta)
 
 -- the type that a scheme is with types for its letters
-abbrev pub type_at : Letters → Scheme → Ty
-type_at letters alpha = letters.alpha
-type_at letters beta = letters.beta
-type_at letters gamma = letters.gamma
-type_at letters delta = letters.delta
-type_at letters integer = ty.Int
-type_at letters boolean = ty.Bool
-type_at letters truth = ty.Truth
-type_at letters (power members) = ty.Pow (type_at letters members)
-type_at letters (pair left right) = ty.Pair (type_at letters left) (type_at letters right)
+abbrev pub type_of_scheme : Letters → Scheme → Ty
+type_of_scheme letters alpha = letters.alpha
+type_of_scheme letters beta = letters.beta
+type_of_scheme letters gamma = letters.gamma
+type_of_scheme letters delta = letters.delta
+type_of_scheme letters integer = ty.Int
+type_of_scheme letters boolean = ty.Bool
+type_of_scheme letters truth = ty.Truth
+type_of_scheme letters (power members) = ty.Pow (type_of_scheme letters members)
+type_of_scheme letters (pair left right) = ty.Pair (type_of_scheme letters left) (type_of_scheme letters right)
 
 -- There are types of values for the letters with which `types` are those of the operands, and `t` is the type of the whole.
-pub record IsInstance (operands : List Scheme) (whole : Scheme) (types : List Ty) (t : Ty) : Type 0 where
+pub record IsSchemeInstance (operands : List Scheme) (whole : Scheme) (types : List Ty) (t : Ty) : Type 0 where
   pub letters : Letters
   pub values : AreValues letters
-  pub operands_are : types ≡ map (type_at letters) operands
-  pub whole_is : t ≡ type_at letters whole
+  pub operands_are : types ≡ map (type_of_scheme letters) operands
+  pub whole_is : t ≡ type_of_scheme letters whole

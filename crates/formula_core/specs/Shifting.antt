@@ -40,8 +40,8 @@ abbrev pub abstracted : List (List ℕ × Ty) → ℕ → Formula → Formula
 abstracted ids depth f = fold-Formula (ℕ → Formula) (abstracted_step ids) f depth
 
 -- the types of the identifiers, each at its index
-abbrev pub scope_of : List (List ℕ × Ty) → List Ty
-scope_of ids = reverse (map (λ x. x.1) ids)
+abbrev pub scope_types : List (List ℕ × Ty) → List Ty
+scope_types ids = reverse (map (λ x. x.1) ids)
 
 -- the identifiers as terms
 abbrev pub as_terms : List (List ℕ × Ty) → List Formula

@@ -6,8 +6,8 @@ ghost use Rattle.formula_core.specs.Wellness.{is_well_in};
 ghost use Rattle.formula_core.specs.Formulas.{joined, same_identifier, free_of, occurrences, substituted, instantiated};
 ghost use Rattle.formula_core.specs.Laws.{occurrences_at, first_then, KeepsProperties, IsWithin, Replaces, StaysTyped, QuantifiesTyped, InstantiatesTyped};
 ghost use Rattle.formula_core.specs.Shifting.{abstracted, as_terms, shifted};
-ghost use Rattle.formula_core.specs.TypeTable.{fits, binder_fits};
-ghost use Rattle.formula_core.specs.Schemes.{IsInstance, operand_schemes, result_scheme, part_schemes, binder_scheme};
+ghost use Rattle.formula_core.specs.TypeTable.{row_fits, binder_fits};
+ghost use Rattle.formula_core.specs.Schemes.{IsSchemeInstance, operand_schemes, result_scheme, part_schemes, binder_scheme};
 ghost use Rattle.formula_core.specs.Rows.{row_of};
 
 use crate::formula::Formula;
@@ -60,8 +60,8 @@ pub fn shifting_keeps_well(f: &Formula)
 
 /// Operands of these types fit an operator, which then has the type `whole`, exactly where this is an instance of its line in the table of types.
 pub fn fits_by_schemes(op: Op, types: &[Ty], whole: &Ty)
-    ensures { IsTrue (fits (row_of op) types.now whole.now)
-        ↔ IsInstance (operand_schemes (row_of op) (length types.now)) (result_scheme (row_of op)) types.now whole.now }
+    ensures { IsTrue (row_fits (row_of op) types.now whole.now)
+        ↔ IsSchemeInstance (operand_schemes (row_of op) (length types.now)) (result_scheme (row_of op)) types.now whole.now }
 {
     let _ = op;
     let _ = types;
@@ -71,7 +71,7 @@ pub fn fits_by_schemes(op: Op, types: &[Ty], whole: &Ty)
 /// Parts of these types fit a binder, which then has the type `whole`, exactly where this is an instance of its line in the table of types.
 pub fn binder_fits_by_schemes(binder: Binder, types: &[Ty], whole: &Ty)
     ensures { IsTrue (binder_fits binder types.now whole.now)
-        ↔ IsInstance (part_schemes binder) (binder_scheme binder) types.now whole.now }
+        ↔ IsSchemeInstance (part_schemes binder) (binder_scheme binder) types.now whole.now }
 {
     let _ = binder;
     let _ = types;

@@ -3,7 +3,7 @@ ghost use Rattle.std.specs.Prelude.{◌≡◌, IsTrue, ◌+◌, ◌^◌, ℕ, mi
 ghost use Rattle.formula_core.specs.declared.formula.Formula.TheOpen.{Free as FreeStep};
 ghost use Rattle.formula_core.specs.Formulas.{same_identifier};
 ghost use Rattle.formula_core.specs.Wellness.{type_of, is_well, is_well_in};
-ghost use Rattle.formula_core.specs.Shifting.{scope_of, raised, shifted, place_from_last, abstracted, abstracted_step};
+ghost use Rattle.formula_core.specs.Shifting.{scope_types, raised, shifted, place_from_last, abstracted, abstracted_step};
 
 use crate::formula::{
     Formula, add_binder, add_identifier, add_index, add_node, add_number, deeper, only_of,
@@ -115,7 +115,7 @@ impl Formula {
         identifiers: &[(Name, Ty)],
     ) -> Result<Formula, OutOfMemory>
         ensures value { IfOk result (λ f. f ≡ abstracted identifiers.now 0 self.now) }
-        ensures well { IsTrue (is_well self.now) → IfOk result (λ f. IsTrue (is_well_in f (scope_of identifiers.now))) }
+        ensures well { IsTrue (is_well self.now) → IfOk result (λ f. IsTrue (is_well_in f (scope_types identifiers.now))) }
         ensures typed { IfOk result (λ f. type_of f ≡ type_of self.now) }
     {
         self.bind_any(alloc, identifiers)

@@ -8,7 +8,7 @@ use Rattle.formula_core.specs.Formulas.{joined}
 use Rattle.formula_core.specs.Sizes.{formula_height, formula_nodes, greatest}
 use Rattle.rule_table.specs.declared.rule.Antecedent.{Antecedent}
 use Rattle.rule_table.specs.Rules.{antecedent_formulas}
-use Rattle.condition_size.specs.Sizes.{counted}
+use Rattle.condition_size.specs.Sizes.{clamped}
 use Rattle.instance_size.specs.declared.extent.Extent.{Extent}
 use Rattle.instance_size.specs.Extents.{HasRoom, room_for}
 use Rattle.instance_size.specs.Private.{no_parts, room_over, widened}
@@ -28,7 +28,7 @@ all_kept r (f ∷ fs) g h = all_kept (widened r f) fs g (kept r f g h)
 
 pub all_fit : (r : Extent) (fs : List Formula) → AllByRecursion (HasRoom (room_over r fs)) fs
 all_fit r [] = tt
-all_fit r (f ∷ fs) = (all_kept (widened r f) fs f (record { nodes = last r.nodes (counted (formula_nodes f)); height = last r.height (counted (formula_height f)) }), all_fit (widened r f) fs)
+all_fit r (f ∷ fs) = (all_kept (widened r f) fs f (record { nodes = last r.nodes (clamped (formula_nodes f)); height = last r.height (clamped (formula_height f)) }), all_fit (widened r f) fs)
 
 pub room_over_append : (r : Extent) (fs gs : List Formula) → room_over r (fs ++ gs) ≡ room_over (room_over r fs) gs
 room_over_append r [] gs = refl
@@ -70,12 +70,12 @@ made_of : (n m h k : ℕ) → n ≡ m → h ≡ k → made n h ≡ made m k
 made_of n m h k e f = λ i. made (e i) (f i)
 
 abbrev least_over : Extent → List Formula → Extent
-least_over r fs = record { nodes = max r.nodes (counted (greatest (map formula_nodes fs))); height = max r.height (counted (greatest (map formula_height fs))) }
+least_over r fs = record { nodes = max r.nodes (clamped (greatest (map formula_nodes fs))); height = max r.height (clamped (greatest (map formula_height fs))) }
 
-no_more : (a : ℕ) → a ≡ max a (counted 0)
+no_more : (a : ℕ) → a ≡ max a (clamped 0)
 no_more a = omega arith
 
-more : (a b c : ℕ) → max (max a (counted b)) (counted c) ≡ max a (counted (max b c))
+more : (a b c : ℕ) → max (max a (clamped b)) (clamped c) ≡ max a (clamped (max b c))
 more a b c = omega arith
 
 over_least : (r : Extent) (fs : List Formula) → room_over r fs ≡ least_over r fs
@@ -87,4 +87,4 @@ above_none : (a : ℕ) → max 0 a ≡ a
 above_none a = omega arith
 
 pub least : (fs : List Formula) → room_over no_parts fs ≡ room_for fs
-least fs = over_least no_parts fs ∙ made_of _ _ _ _ (above_none (counted (greatest (map formula_nodes fs)))) (above_none (counted (greatest (map formula_height fs))))
+least fs = over_least no_parts fs ∙ made_of _ _ _ _ (above_none (clamped (greatest (map formula_nodes fs)))) (above_none (clamped (greatest (map formula_height fs))))

@@ -11,7 +11,7 @@ use Rattle.formula_core.specs.declared.Formula.TheOpen.{Formula-F, Int as IntF, 
 use Rattle.formula_core.specs.declared.Formula.TheVariants.{Node, Bind}
 use Rattle.formula_core.specs.Sizes.{formula_height, formula_nodes, greatest}
 use Rattle.formula_core.proofs.Equations.{formula_height-Bind, formula_height-Node, formula_nodes-Bind, formula_nodes-Node}
-use Rattle.condition_size.specs.Sizes.{counted}
+use Rattle.condition_size.specs.Sizes.{clamped}
 use Rattle.well_defined.specs.Predicates.{disjunction}
 use Rattle.rule_table.specs.declared.law.Law.{Law}
 use Rattle.rule_table.specs.declared.law.Law.TheVariants as law
@@ -108,7 +108,7 @@ put (i ∷ place) f p new e =
       record { nodes = le_trans _ _ _ r.2.nodes up.nodes; height = le_trans _ _ _ r.2.height up.height },
     )
 
-smaller : (a b : ℕ) → a ≤ b → counted a ≤ counted b
+smaller : (a b : ℕ) → a ≤ b → clamped a ≤ clamped b
 smaller a b h = omega arith
 
 module _ (room : Extent) where

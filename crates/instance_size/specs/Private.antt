@@ -4,7 +4,7 @@ use Rattle.std.specs.Option.{option_and_then}
 use Rattle.formula_core.specs.declared.Op.TheVariants as op
 use Rattle.formula_core.specs.declared.Formula.{Formula}
 use Rattle.formula_core.specs.Sizes.{formula_height, formula_nodes, greatest}
-use Rattle.condition_size.specs.Sizes.{counted}
+use Rattle.condition_size.specs.Sizes.{clamped}
 use Rattle.condition_size.specs.declared.size.Size.{Size}
 use Rattle.instance_size.specs.declared.extent.Extent.{Extent}
 use Rattle.rule_table.specs.declared.law.Law.{Law}
@@ -29,13 +29,13 @@ abbrev pub no_parts : Extent
 no_parts = record { nodes = 0; height = 0 }
 
 abbrev pub side_by_side : Extent → Extent → Extent
-side_by_side a b = record { nodes = counted (a.nodes + b.nodes); height = max a.height b.height }
+side_by_side a b = record { nodes = clamped (a.nodes + b.nodes); height = max a.height b.height }
 
 abbrev pub extent_of_parts : List Formula → Extent
-extent_of_parts fs = record { nodes = counted (sum (map formula_nodes fs)); height = counted (greatest (map formula_height fs)) }
+extent_of_parts fs = record { nodes = clamped (sum (map formula_nodes fs)); height = clamped (greatest (map formula_height fs)) }
 
 abbrev pub above : Extent → Extent
-above e = record { nodes = counted (e.nodes + 1); height = counted (e.height + 1) }
+above e = record { nodes = clamped (e.nodes + 1); height = clamped (e.height + 1) }
 
 abbrev pub leaf : Extent
 leaf = record { nodes = 1; height = 1 }
@@ -46,7 +46,7 @@ first_two _ = None
 
 -- room for one more formula, and for several
 abbrev pub widened : Extent → Formula → Extent
-widened room f = record { nodes = max room.nodes (counted (formula_nodes f)); height = max room.height (counted (formula_height f)) }
+widened room f = record { nodes = max room.nodes (clamped (formula_nodes f)); height = max room.height (clamped (formula_height f)) }
 
 abbrev pub room_over : Extent → List Formula → Extent
 room_over room [] = room

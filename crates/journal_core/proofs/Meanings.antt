@@ -6,14 +6,14 @@ use Rattle.std.specs.Int.{w32, to_le_bytes, from_le_bytes}
 use Rattle.outside.specs.Disk.{Sides}
 use Rattle.outside.specs.declared.side.Side.{Side}
 use Rattle.outside.specs.declared.side.Side.TheVariants.{Left, Right}
-use Rattle.journal_core.specs.Sides.{record_bytes, open_records, HasRecords, HoldsNone, IsForeign, IsOpen, Yields, other, IsWhole, IsBroken, IsDamaged, StandsAt}
-use Rattle.journal_core.specs.Start.{Meaning, meaning_of, nothing, records, foreign, damaged, StandsFor, IsCause, IsAnswerFor}
+use Rattle.journal_core.specs.Sides.{record_bytes, open_records, HasRecords, HoldsNone, IsForeign, IsOpenSide, Yields, other, IsWhole, IsBroken, IsDamaged, StandsAt}
+use Rattle.journal_core.specs.Start.{JournalMeaning, meaning_of, nothing, records, foreign, damaged, JournalStandsFor, IsJournalCause, IsJournalAnswerFor}
 use Rattle.journal_core.specs.declared.piece.JournalFault.{JournalFault}
 use Rattle.journal_core.specs.declared.piece.JournalFault.TheVariants as fault
 use Rattle.journal_core.proofs.Standing.{unique, same_number, stands_of, not_both, not_two, is_open, same_parts, open_more, length-open_first, length-record_bytes, Stands, empty, counting}
 
 -- a side with an open first gate is a journal
-open_is_journal : (side : List ℕ) (generation : ℕ) → IsOpen side generation → IsForeign side → ⊥
+open_is_journal : (side : List ℕ) (generation : ℕ) → IsOpenSide side generation → IsForeign side → ⊥
 open_is_journal side generation opened is = is.1 (sym (take-take 8 17 side (omega arith)) ∙ ap (λ (l : List ℕ). take 8 l) opened.1)
 
 none_is_journal : (side : List ℕ) → HoldsNone side → IsForeign side → ⊥
@@ -154,7 +154,7 @@ one_gate side g h gate gate' a b = ⊎_elim
     (omega (arith, a.at, a.within)) (omega (arith, b.at, b.within)))
 
 -- one side counts
-not_two_open : (sides : Sides) (side : Side) (g h : ℕ) → IsOpen (sides side) g → IsOpen (sides (other side)) h → Yields (sides (other side)) side g → Yields (sides side) (other side) h → ⊥
+not_two_open : (sides : Sides) (side : Side) (g h : ℕ) → IsOpenSide (sides side) g → IsOpenSide (sides (other side)) h → Yields (sides (other side)) side g → Yields (sides side) (other side) h → ⊥
 not_two_open sides Left g h a b first second = not_two sides g h a b first second
 not_two_open sides Right g h a b first second = not_two sides h g b a second first
 
@@ -173,11 +173,11 @@ one_damage sides Right Right at at' a b = ap (λ (n : ℕ). damaged Right n) (on
 one_damage sides Left Right at at' a b = absurd (not_two_open sides Left a.generation b.generation a.opened b.opened a.yields b.yields)
 one_damage sides Right Left at at' a b = absurd (not_two_open sides Right a.generation b.generation a.opened b.opened a.yields b.yields)
 
-foreign_side : (sides : Sides) (s : Side) → StandsFor sides (foreign s) → IsForeign (sides s)
+foreign_side : (sides : Sides) (s : Side) → JournalStandsFor sides (foreign s) → IsForeign (sides s)
 foreign_side sides Left is = is
 foreign_side sides Right is = is.1
 
-one_foreign : (sides : Sides) (s t : Side) → StandsFor sides (foreign s) → StandsFor sides (foreign t) → foreign s ≡ foreign t
+one_foreign : (sides : Sides) (s t : Side) → JournalStandsFor sides (foreign s) → JournalStandsFor sides (foreign t) → foreign s ≡ foreign t
 one_foreign sides Left Left a b = refl
 one_foreign sides Right Right a b = refl
 one_foreign sides Left Right a b = absurd (b.0 a)
@@ -194,18 +194,18 @@ same_records : (s t : Side) (g h : ℕ) (x y : List ℕ) (xs ys : List (List ℕ
 same_records s t g h x y xs ys side number bodies = cc
 
 -- what means some records stands
-pub means_stands : (sides : Sides) (side : Side) (generation : ℕ) (bodies : List (List ℕ)) → StandsFor sides (meaning_of side generation bodies) → StandsAt sides side generation bodies
+pub means_stands : (sides : Sides) (side : Side) (generation : ℕ) (bodies : List (List ℕ)) → JournalStandsFor sides (meaning_of side generation bodies) → StandsAt sides side generation bodies
 means_stands sides side generation [] is = is
 means_stands sides side generation (body ∷ bodies) is = is
 
-pub stands_means : (sides : Sides) (side : Side) (generation : ℕ) (bodies : List (List ℕ)) → StandsAt sides side generation bodies → StandsFor sides (meaning_of side generation bodies)
+pub stands_means : (sides : Sides) (side : Side) (generation : ℕ) (bodies : List (List ℕ)) → StandsAt sides side generation bodies → JournalStandsFor sides (meaning_of side generation bodies)
 stands_means sides side generation [] is = is
 stands_means sides side generation (body ∷ bodies) is = is
 
-at_none : (sides : Sides) → StandsFor sides nothing → Stands sides []
+at_none : (sides : Sides) → JournalStandsFor sides nothing → Stands sides []
 at_none sides is = stands_of sides Left 0 [] is
 
-pub one_meaning : (sides : Sides) (a b : Meaning) → StandsFor sides a → StandsFor sides b → a ≡ b
+pub one_meaning : (sides : Sides) (a b : JournalMeaning) → JournalStandsFor sides a → JournalStandsFor sides b → a ≡ b
 one_meaning sides nothing nothing a b = refl
 one_meaning sides nothing (records t h y ys) a b = absurd (let same = one_list_stands sides [] (y ∷ ys) (at_none sides a) (stands_of sides t h (y ∷ ys) b) in cc)
 one_meaning sides nothing (foreign s) a b = absurd (no_records sides [] s (at_none sides a) (foreign_side sides s b))
@@ -225,7 +225,7 @@ one_meaning sides (damaged s at) (records t h y ys) a b = absurd (sound_sides si
 one_meaning sides (damaged s at) (foreign t) a b = absurd (no_damage sides s at t a (foreign_side sides t b))
 one_meaning sides (damaged s at) (damaged t at') a b = one_damage sides s t at at' a b
 
-pub answer_for : (sides : Sides) (meaning : Meaning) (answer : JournalFault) → StandsFor sides meaning → IsCause sides answer → IsAnswerFor meaning answer
+pub answer_for : (sides : Sides) (meaning : JournalMeaning) (answer : JournalFault) → JournalStandsFor sides meaning → IsJournalCause sides answer → IsJournalAnswerFor meaning answer
 answer_for sides meaning (fault.Foreign s) is cause = one_meaning sides meaning (foreign s) is cause
 answer_for sides meaning (fault.Damaged s at) is cause = one_meaning sides meaning (damaged s at) is cause
 answer_for sides meaning fault.DiskFault is cause = cause

@@ -8,7 +8,7 @@ use Rattle.std.specs.Int.{w32, w64, to_le_bytes, from_le_bytes}
 use Rattle.outside.specs.Disk.{Sides, overwritten}
 use Rattle.outside.specs.declared.side.Side.{Side}
 use Rattle.outside.specs.declared.side.Side.TheVariants.{Left, Right}
-use Rattle.journal_core.specs.Sides.{header, record_bytes, open_records, HasRecords, HoldsNone, IsOpen, IsOlder, Yields, other, IsBeforeOrAfter, StandsAt}
+use Rattle.journal_core.specs.Sides.{header, record_bytes, open_records, HasRecords, HoldsNone, IsOpenSide, IsOlder, Yields, other, IsBeforeOrAfterAppend, StandsAt}
 use Rattle.journal_core.specs.Private.{HasFront, IsWritten, HasGate}
 use Rattle.journal_core.specs.State.{Only, IsShut, IsAtRest}
 
@@ -59,7 +59,7 @@ same_records (x ∷ xs) (y ∷ ys) g h r s shut shut' small small' same =
     let rest = same_records xs ys g h r s shut shut' (omega (arith, small, size_x)) (omega (arith, small', size_y)) bodies.1 in
     λ i. bodies.0 i ∷ rest i
 
-pub is_open : (side : List ℕ) (generation : ℕ) (body : List ℕ) (bodies : List (List ℕ)) → HasRecords side generation (body ∷ bodies) → IsOpen side generation
+pub is_open : (side : List ℕ) (generation : ℕ) (body : List ℕ) (bodies : List (List ℕ)) → HasRecords side generation (body ∷ bodies) → IsOpenSide side generation
 is_open side generation body bodies has = (
   omega (arith, ap length has.split),
   ap (λ (l : List ℕ). take 17 l) has.split,
@@ -72,11 +72,11 @@ holds_none side generation has = inr (ap (λ (l : List ℕ). take 8 l) has.split
 get_take : (l : List ℕ) → get_or (take 17 l) 16 0 ≡ get_or l 16 0
 get_take l = get_or-take 17 l 16 0 (omega arith)
 
-pub not_both : (side : List ℕ) (generation : ℕ) → IsOpen side generation → HoldsNone side → ⊥
+pub not_both : (side : List ℕ) (generation : ℕ) → IsOpenSide side generation → HoldsNone side → ⊥
 not_both side generation opened (inl short) = omega (arith, opened.0, short)
 not_both side generation opened (inr closed) = closed.1 (sym (get_take side) ∙ ap (λ (l : List ℕ). get_or l 16 0) opened.1)
 
-pub same_number : (side : List ℕ) (g h : ℕ) → IsOpen side g → IsOpen side h → g ≡ h
+pub same_number : (side : List ℕ) (g h : ℕ) → IsOpenSide side g → IsOpenSide side h → g ≡ h
 same_number side g h a b =
     let heads : header g ++ 1 ∷ [] ≡ header h ++ 1 ∷ [] = sym a.1 ∙ b.1 in
     let bytes : to_le_bytes w64 g ≡ to_le_bytes w64 h = ap (λ (l : List ℕ). take 8 (drop 8 l)) heads in
@@ -104,7 +104,7 @@ pub one_list : (side : List ℕ) (g h : ℕ) (xs ys : List (List ℕ)) → HasRe
 one_list side g h xs ys a b = same_records ys xs b.gate a.gate b.behind a.behind b.closed a.closed (omega (arith, b.within)) (omega (arith, a.within)) (ap (λ (l : List ℕ). drop 16 l) (sym b.split ∙ a.split))
 
 -- two open sides do not both count
-pub not_two : (sides : Sides) (g h : ℕ) → IsOpen (sides Left) g → IsOpen (sides Right) h → Yields (sides Right) Left g → Yields (sides Left) Right h → ⊥
+pub not_two : (sides : Sides) (g h : ℕ) → IsOpenSide (sides Left) g → IsOpenSide (sides Right) h → Yields (sides Right) Left g → Yields (sides Left) Right h → ⊥
 not_two sides g h a b (inl none) less = not_both _ h b none
 not_two sides g h a b (inr first) (inl none) = not_both _ g a none
 not_two sides g h a b (inr first) (inr less) = omega (arith, first.2, less.2, same_number _ h first.0 b first.1, same_number _ g less.0 a less.1)
@@ -294,7 +294,7 @@ module _ (bytes : Sides) (images : Sides → Type 0) (side : Side) (gate generat
     added c is stays = stands_as c (rest.bodies ++ body ∷ []) (added_has (bytes side) generation rest.bodies gate ends body fits (mid side) staged (c side) number is)
         (λ s no. stays s no ∙ kept s no) (λ e. absurd (not_empty rest.bodies body e))
 
-    pub either : (c : Sides) → HasGate side gate mid c → IsBeforeOrAfter side generation rest.bodies body c
+    pub either : (c : Sides) → HasGate side gate mid c → IsBeforeOrAfterAppend side generation rest.bodies body c
     either c gated = elim (cases_eq gated.byte 1) [
       | inl opened ↦ inr (added c (gated.changed ∙ ap (λ (x : ℕ). overwritten gate (x ∷ []) (mid side)) opened) gated.stays)
       | inr shut ↦ inl (stands_as c rest.bodies (closed_has (bytes side) generation rest.bodies gate ends body fits (mid side) staged (c side) gated.byte within number shut gated.changed)

@@ -40,8 +40,8 @@ abbrev pub IsForeign : List ℕ → Type 0
 IsForeign side = (17 < length side) × (take 8 side ≢ magic)
 
 -- the first gate is open, behind the header of this generation
-abbrev pub IsOpen : List ℕ → ℕ → Type 0
-IsOpen side generation = (17 < length side) × (take 17 side ≡ header generation ++ 1 ∷ []) × (generation < 2 ^ 64)
+abbrev pub IsOpenSide : List ℕ → ℕ → Type 0
+IsOpenSide side generation = (17 < length side) × (take 17 side ≡ header generation ++ 1 ∷ []) × (generation < 2 ^ 64)
 
 -- the side that counts may have the generation of the other one if it is Left
 abbrev pub IsBefore : Side → ℕ → ℕ → Type 0
@@ -50,7 +50,7 @@ IsBefore Right less generation = less < generation
 
 -- this side has an open first gate too, and the other one, of this generation, counts
 abbrev pub IsOlder : List ℕ → Side → ℕ → Type 0
-IsOlder rest side generation = (less : ℕ) × IsOpen rest less × IsBefore side less generation
+IsOlder rest side generation = (less : ℕ) × IsOpenSide rest less × IsBefore side less generation
 
 -- this side yields to the other one, which has an open first gate and this generation
 abbrev pub Yields : List ℕ → Side → ℕ → Type 0
@@ -66,8 +66,8 @@ StandsAt sides side generation [] = HoldsNone (sides Left) × HoldsNone (sides R
 StandsAt sides side generation (body ∷ bodies) = HasRecords (sides side) generation (body ∷ bodies) × Yields (sides (other side)) side generation
 
 -- with one more record on this side or without it
-abbrev pub IsBeforeOrAfter : Side → ℕ → List (List ℕ) → List ℕ → Sides → Type 0
-IsBeforeOrAfter side generation bodies body sides = StandsAt sides side generation bodies ⊎ StandsAt sides side generation (bodies ++ body ∷ [])
+abbrev pub IsBeforeOrAfterAppend : Side → ℕ → List (List ℕ) → List ℕ → Sides → Type 0
+IsBeforeOrAfterAppend side generation bodies body sides = StandsAt sides side generation bodies ⊎ StandsAt sides side generation (bodies ++ body ∷ [])
 
 -- these records, or this one on the other side, in the next generation
 abbrev pub IsBeforeOrOne : Side → ℕ → List (List ℕ) → List ℕ → Sides → Type 0
@@ -92,6 +92,6 @@ pub record IsBroken (side : List ℕ) (generation gate : ℕ) : Type 0 where
 -- the side that counts is damaged at this gate
 pub record IsDamaged (sides : Sides) (side : Side) (gate : ℕ) : Type 0 where
   pub generation : ℕ
-  pub opened : IsOpen (sides side) generation
+  pub opened : IsOpenSide (sides side) generation
   pub yields : Yields (sides (other side)) side generation
   pub damage : IsBroken (sides side) generation gate

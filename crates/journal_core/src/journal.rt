@@ -3,9 +3,9 @@ ghost use Rattle.std.specs.Prelude.{◌≡◌, ◌+◌, ◌-◌, ◌^◌, ◌<�
 ghost use Rattle.outside.specs.Cause.{Rose};
 ghost use Rattle.outside.specs.Disk.{Sides, LeavesOnly};
 ghost use Rattle.outside.specs.declared.side.Side.{Side};
-ghost use Rattle.journal_core.specs.Sides.{StandsAt, HasRecords, IsBeforeOrAfter, IsBeforeOrOne, open_records, other};
-ghost use Rattle.journal_core.specs.Start.{Meaning, meaning_of, StandsFor, IsAnswerFor, IsCause, IsReady, StandsAsSome, ArePlaced, bodies_of};
-ghost use Rattle.journal_core.specs.PrivateReading.{side_of, number_of, rest_of};
+ghost use Rattle.journal_core.specs.Sides.{StandsAt, HasRecords, IsBeforeOrAfterAppend, IsBeforeOrOne, open_records, other};
+ghost use Rattle.journal_core.specs.Start.{JournalMeaning, meaning_of, JournalStandsFor, IsJournalAnswerFor, IsJournalCause, IsMadeFit, JournalStandsAsSome, ArePlaced, bodies_of};
+ghost use Rattle.journal_core.specs.PrivateReading.{side_of, generation_number, rest_of};
 ghost use Rattle.journal_core.specs.State.{IsKept, JournalState};
 
 use crate::open::open;
@@ -20,7 +20,7 @@ use std::marker::Model;
 
 // The current side, its generation, and whether the first gate of the other one is open.
 fn place_of(current: Current) -> (Side, u64, bool)
-    ensures { result ≡ (side_of current, number_of current, rest_of current) }
+    ensures { result ≡ (side_of current, generation_number current, rest_of current) }
 {
     match current {
         Current::Empty { generation } => (Side::Left, generation, false),
@@ -84,24 +84,24 @@ impl<D: Disk> Journal<D> {
         // The records are those that stand, each on the current side behind its gate; a fault has its cause in the sides.
         ensures records { D.told → MatchResult result
             (λ opened. StandsAt (D.bytes_of disk) opened.0.side opened.0.generation (bodies_of opened.1.items))
-            (λ refused. IsCause (D.bytes_of disk) refused.1) }
+            (λ refused. IsJournalCause (D.bytes_of disk) refused.1) }
         // Sides stand for one thing at most, so a start answers exactly that, if the disk doesn't fail and memory is there.
-        ensures exactly { D.told → (meaning : Meaning) → StandsFor (D.bytes_of disk) meaning → MatchResult result
+        ensures exactly { D.told → (meaning : JournalMeaning) → JournalStandsFor (D.bytes_of disk) meaning → MatchResult result
             (λ opened. meaning ≡ meaning_of opened.0.side opened.0.generation (bodies_of opened.1.items))
-            (λ refused. IsAnswerFor meaning refused.1) }
+            (λ refused. IsJournalAnswerFor meaning refused.1) }
         ensures placed { D.told → IfOk result (λ opened. ArePlaced opened.0.side 16 opened.1.items) }
         ensures gate { D.told → IfOk result (λ opened.
             opened.0.gate ≡ 16 + length (open_records (bodies_of opened.1.items))) }
         ensures current { D.told → IfOk result (λ opened.
             HasRecords (D.bytes_of opened.0.disk opened.0.side) opened.0.generation (bodies_of opened.1.items)) }
         ensures ready { D.told → IfOk result (λ opened. (side : Side)
-            → IsReady side (D.bytes_of disk side) (D.bytes_of opened.0.disk side)) }
+            → IsMadeFit side (D.bytes_of disk side) (D.bytes_of opened.0.disk side)) }
         ensures begun { IfOk result (λ opened. opened.0.failed ≡ false) }
 
         // A stop at any moment leaves what stands for what a stop before would have left; after Ok it leaves these records.
         ensures any_moment { D.told → MatchResult result
-            (λ opened. LeavesOnly D.clock D.moments disk opened.0.disk (StandsAsSome (D.images disk)))
-            (λ refused. LeavesOnly D.clock D.moments disk refused.0 (StandsAsSome (D.images disk))) }
+            (λ opened. LeavesOnly D.clock D.moments disk opened.0.disk (JournalStandsAsSome (D.images disk)))
+            (λ refused. LeavesOnly D.clock D.moments disk refused.0 (JournalStandsAsSome (D.images disk))) }
         ensures standing { D.told → IfOk result (λ opened. (c : Sides) → D.images opened.0.disk c
             → StandsAt c opened.0.side opened.0.generation (bodies_of opened.1.items)) }
         ensures read { D.told → IfOk result (λ opened.
@@ -137,7 +137,7 @@ impl<D: Disk> Journal<D> {
         ensures any_moment { D.told → self.old.failed ≡ false → (bodies : List (List ℕ))
             → StandsAt (D.bytes_of self.old.disk) self.old.side self.old.generation bodies
             → LeavesOnly D.clock D.moments self.old.disk self.new.disk
-            (IsBeforeOrAfter self.old.side self.old.generation bodies bytes.now) }
+            (IsBeforeOrAfterAppend self.old.side self.old.generation bodies bytes.now) }
         ensures acknowledged { D.told → OnOk result ((bodies : List (List ℕ))
             → StandsAt (D.bytes_of self.old.disk) self.old.side self.old.generation bodies
             → (c : Sides) → D.images self.new.disk c

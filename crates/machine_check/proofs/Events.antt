@@ -18,9 +18,9 @@ use Rattle.model_core.proofs.Firsts.{first_append, taken_more}
 use Rattle.model_core.proofs.Lists.{filter_append}
 use Rattle.check_rules.specs.Contexts.{names_of}
 use Rattle.check_rules.specs.Typed.{Entries, LabelledAction, AreTyped, AreTypedActions, never_typed}
-use Rattle.check_rules.specs.Events.{refined, lost_params, event_env, primed_variables, primed_env, witness_env, witnesses_of, event_of, IsTypedEvent, AreTypedEvents}
+use Rattle.check_rules.specs.Events.{refined, lost_params, event_env, primed_variables, primed_env, witness_env, witnesses_of, checked_event_of, IsTypedEvent, AreTypedEvents}
 use Rattle.context_check.specs.Typings.{AreTypedSoFar, AreTypedStepsSoFar}
-use Rattle.machine_check.specs.PrivateTyped.{AreTypedWitnesses, IsTypedSoFar, AreTypedEventsSoFar, Grows, witness_env_from}
+use Rattle.machine_check.specs.PrivateTyped.{AreTypedWitnesses, IsTypedSoFar, AreTypedEventsSoFar, ExtendsEntries, witness_env_from}
 use Rattle.machine_check.proofs.Growing.{added_again}
 
 pub witnesses_push : (xs : List Labelled) (w : Labelled) → witnesses_of (xs ++ w ∷ []) ≡ witnesses_of xs ++ witnesses_of (w ∷ [])
@@ -41,7 +41,7 @@ pub event_typed : (component : List ℕ) (m : List CheckedEvent) (variables : Li
     n ≡ first_by_place (never_typed component last declared) →
     AreTypedWitnesses component (witness_env m e variables env last) e.witnesses witnesses w →
     AreTypedStepsSoFar component after steps actions a →
-    typed ≡ event_of m e after guards witnesses actions →
+    typed ≡ checked_event_of m e after guards witnesses actions →
     IsTypedSoFar component m variables env e typed (earlier (earlier (earlier g n) w) a)
 event_typed component m variables env start last after e params written declared steps guards witnesses actions g n w a typed s p l d t k (gs, are, gf) ns (same, (wf, wit, wfirst)) (sf, acts, af) is = (
   gs ++ never_typed component last e.params ++ wf ++ sf,
@@ -58,7 +58,7 @@ event_typed component m variables env start last after e params written declared
     actions,
     sf,
     subst (λ x. AreTypedActions component x e.actions actions sf) k (subst (λ x. AreTypedActions component after x actions sf) t acts),
-    is ∙ ap (λ x. event_of m e x guards witnesses actions) k,
+    is ∙ ap (λ x. checked_event_of m e x guards witnesses actions) k,
     refl,
   ),
   (λ i. earlier (earlier (earlier (gf i) ((ns ∙ ap (λ x. first_by_place (never_typed component last x)) d) i)) (wfirst i)) (af i)) ∙ four gs (never_typed component last e.params) wf sf,
@@ -115,7 +115,7 @@ witnesses_typed component known env last items written typed first k i h =
 
 -- An event's witnesses are typed behind the names that it adds to those of its machine.
 pub witnesses_behind : (component : List ℕ) (m : List CheckedEvent) (variables : List (List ℕ)) (env start last : Entries) (e : RawEvent) (abstract : List CheckedEvent) (added : Entries) (n : ℕ) (typed : List Labelled) (first : Option Fault) →
-    start ≡ primed_env env variables → abstract ≡ refined m e → n ≡ length env → Grows env last → added ≡ drop n last →
+    start ≡ primed_env env variables → abstract ≡ refined m e → n ≡ length env → ExtendsEntries env last → added ≡ drop n last →
     AreTypedWitnesses component (witness_env_from abstract e start added) e.witnesses typed first → AreTypedWitnesses component (witness_env m e variables env last) e.witnesses typed first
 witnesses_behind component m variables env start last e abstract added n typed first s r is grown a h =
     let start_is : with_all start added ≡ with_all (primed_env env variables) last = (λ i. with_all (s i) (a i)) ∙ added_again env (primed_variables env variables) last n grown is in

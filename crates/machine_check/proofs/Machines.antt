@@ -26,11 +26,11 @@ use Rattle.model_core.proofs.Firsts.{first_append, taken_more}
 use Rattle.model_core.proofs.Lists.{any_append, filter_append}
 use Rattle.check_rules.specs.Components.{ChecksApart, machine_at, contexts_in}
 use Rattle.check_rules.specs.Declarations.{brings_clash, declared_twice, labelled_twice}
-use Rattle.check_rules.specs.Machines.{Written, ChecksFormulasApart, ChecksMachineApart, abstract_view, abstract_variables, own_names, all_variables, abstract_events, machine_assignments, machine_declarations, machine_env, machine_of, new_variables}
+use Rattle.check_rules.specs.Machines.{Written, ChecksFormulasApart, ChecksMachineApart, abstract_view, abstract_variables, own_names, all_variables, abstract_events, machine_assignments, machine_declarations, machine_env, checked_machine_of, new_variables}
 use Rattle.check_rules.specs.Contexts.{labels_of}
 use Rattle.check_rules.specs.Events.{AreTypedEvents, event_declarations}
 use Rattle.check_rules.specs.Typed.{Entries, AreTyped, IsTypedVariant, never_typed}
-use Rattle.check_rules.specs.Visible.{Identifiers, Visible, entries, identifiers, names, seen_from, with_context}
+use Rattle.check_rules.specs.Visible.{Identifiers, Visible, entries, all_visible, names, seen_from, with_context}
 use Rattle.context_check.specs.declared.fault.CheckFault.{CheckFault}
 use Rattle.context_check.specs.declared.fault.CheckFault.TheVariants as why
 use Rattle.machine_check.specs.PrivateMachine.{IsTypedMachineSoFar, own_declarations}
@@ -105,7 +105,7 @@ pub machine_typed : (m : Option CheckedMachine) (w : Written) (v : Visible) (sta
     (typed : List CheckedEvent) (a b c d first : Option Fault) (checked : CheckedMachine) → start ≡ machine_env m v → wanted ≡ new_variables m w → variables ≡ all_variables m w → events ≡ abstract_events m →
     AreTypedSoFar w.name.name start wanted w.invariants invariants a last → b ≡ first_by_place (never_typed w.name.name last w.variables) →
     ((faults : List Fault) × IsTypedVariant w.name.name last w.variant variant faults × (c ≡ first_by_place faults)) →
-    AreTypedEventsSoFar w.name.name events variables last w.events typed d → checked ≡ machine_of m w v last invariants variant typed → first ≡ earlier (earlier (earlier a b) c) d →
+    AreTypedEventsSoFar w.name.name events variables last w.events typed d → checked ≡ checked_machine_of m w v last invariants variant typed → first ≡ earlier (earlier (earlier a b) c) d →
     IsTypedMachineSoFar m w v checked first
 machine_typed m w v start last wanted variables events invariants variant typed a b c d first checked s n vs es (af, at, ais) bis (cf, ct, cis) (df, dt, dis) is e = (
   af ++ never_typed w.name.name last w.variables ++ cf ++ df,
@@ -154,9 +154,9 @@ begun m w v seen clash own found answer c s o e h =
         ≡ first_by_place (machine_declarations m w seen)
     joined_all =
         two (brings_clash w.name.name (abstract_view m) (zip w.sees seen))
-        (declared_twice w.name.name (filter (λ n. not (is_among (abstract_variables m) n)) (names (entries (identifiers (seen_from (abstract_view m) seen))))) w.variables)
+        (declared_twice w.name.name (filter (λ n. not (is_among (abstract_variables m) n)) (names (entries (all_visible (seen_from (abstract_view m) seen))))) w.variables)
         (labelled_twice w.name.name [] (labels_of w.invariants)) (declared_twice w.name.name [] (map (λ e. e.name) w.events))
-        (joined (map (event_declarations w.name.name (abstract_events m) (names (entries (identifiers (seen_from (abstract_view m) seen))) ++ own_names w)) w.events))
+        (joined (map (event_declarations w.name.name (abstract_events m) (names (entries (all_visible (seen_from (abstract_view m) seen))) ++ own_names w)) w.events))
 
 pub apart : (component : RawComponent) (parts : List Checked) (abstraction : Option Checked) (m : Option CheckedMachine) (name : Ref) (refines : Option Ref) (sees variables : List Ref) (invariants : List RawLabelled)
     (variant : Option RawVariant) (events : List RawEvent) (w : Written) (contexts : List CheckedContext) (answer : Answer) → component ≡ raw.Machine name refines sees variables invariants variant events →

@@ -7,7 +7,7 @@ use Rattle.formula_core.specs.declared.ty.Ty.{Ty}
 use Rattle.formula_core.specs.Names.{is_identifier}
 use Rattle.formula_core.specs.Formulas.{joined}
 use Rattle.type_action.specs.CoreActions.{with_all, primed}
-use Rattle.type_core.specs.Answers.{with_name}
+use Rattle.type_core.specs.Answers.{with_typed_name}
 use Rattle.model_core.specs.declared.checked.CheckedEvent.{CheckedEvent}
 use Rattle.check_rules.specs.Typed.{Entries}
 use Rattle.machine_check.specs.PrivateTyped.{primed_known}
@@ -16,7 +16,7 @@ use Rattle.machine_check.proofs.Assigned.{joined_append}
 
 pub with_all_append : (env xs ys : List (List ℕ × Ty)) → with_all env (xs ++ ys) ≡ with_all (with_all env xs) ys
 with_all_append env [] ys = refl
-with_all_append env (x ∷ xs) ys = with_all_append (with_name env x.0 (Some x.1)) xs ys
+with_all_append env (x ∷ xs) ys = with_all_append (with_typed_name env x.0 (Some x.1)) xs ys
 
 abbrev pub params_of : List (Bor CheckedEvent) → List (List ℕ × Ty)
 params_of events = joined (map (λ a. a.now.params) events)

@@ -15,7 +15,7 @@ use Rattle.formula_core.specs.declared.ty.Ty.{Ty}
 use Rattle.formula_core.specs.Env.{type_in}
 use Rattle.model_core.proofs.Firsts.{taken_more}
 use Rattle.check_rules.specs.Typed.{Entries}
-use Rattle.machine_check.specs.PrivateTyped.{type_there}
+use Rattle.machine_check.specs.PrivateTyped.{type_of_text}
 
 pub or_none : {X : Type 0} (o : Option X) → o ≡ option_or o None
 or_none None = refl
@@ -34,12 +34,12 @@ type_append name (x ∷ xs) ys = at (bytes_eq name x.0) (type_append name xs ys)
     at true h = refl
     at false h = h
 
-pub none_there : (types : BTreeMap (Bor (List ℕ)) (Bor Ty)) → types.entries ≡ [] → (x : List ℕ) → type_there types x ≡ None
+pub none_there : (types : BTreeMap (Bor (List ℕ)) (Bor Ty)) → types.entries ≡ [] → (x : List ℕ) → type_of_text types x ≡ None
 none_there types e x = ap (λ es. option_map (λ t. t.now) (lookup (λ k. is_eq (slice_cmp nat_cmp x k.now)) es)) e
 
 pub noted : (key : Bor (List ℕ)) (m n : BTreeMap (Bor (List ℕ)) (Bor Ty)) (after : Bor Ty) (name : List ℕ) (ty : Ty) →
-    tree.Updates (λ x y. slice_cmp nat_cmp x.now y.now) m n key (Some after) → key.now ≡ name → Some after.now ≡ option_or (type_there m name) (Some ty) →
-    (x : List ℕ) → type_there n x ≡ option_or (type_there m x) (type_in ((name, ty) ∷ []) x)
+    tree.Updates (λ x y. slice_cmp nat_cmp x.now y.now) m n key (Some after) → key.now ≡ name → Some after.now ≡ option_or (type_of_text m name) (Some ty) →
+    (x : List ℕ) → type_of_text n x ≡ option_or (type_of_text m x) (type_in ((name, ty) ∷ []) x)
 noted key m n after name ty u e first x =
     ap (option_map (λ t. t.now)) (btree_map_updates_str key.now m n (Some after) u x) ∙ ap (λ k. option_map (λ t. t.now) (cond (bytes_eq k x) (Some after) at)) e
     ∙ chosen (bytes_eq name x) refl
@@ -49,7 +49,7 @@ noted key m n after name ty u e first x =
 
     chosen : (b : Bool) → bytes_eq name x ≡ b → option_map (λ t. t.now) (cond b (Some after) at) ≡ option_or (option_map (λ t. t.now) at) (cond (bytes_eq x name) (Some ty) None)
     chosen true f =
-        first ∙ ap (λ k. option_or (type_there m k) (Some ty)) ((bytes_eq-Decides name x).0 f)
+        first ∙ ap (λ k. option_or (type_of_text m k) (Some ty)) ((bytes_eq-Decides name x).0 f)
         ∙ ap (λ b. option_or (option_map (λ t. t.now) at) (cond b (Some ty) None)) (sym (nat_list_eq_equiv.symm x name ∙ f))
     chosen false f =
         or_none (option_map (λ t. t.now) at)

@@ -31,12 +31,12 @@ abbrev pub HasExactly : BTreeSet (Bor (List ℕ)) → List (List ℕ) → Type 0
 HasExactly set names = (x : List ℕ) → has set x ≡ is_among names x
 
 -- the environment has more names at its end
-abbrev pub Grows : Entries → Entries → Type 0
-Grows env last = (rest : Entries) × (last ≡ env ++ rest)
+abbrev pub ExtendsEntries : Entries → Entries → Type 0
+ExtendsEntries env last = (rest : Entries) × (last ≡ env ++ rest)
 
 -- the type that a name has in a map
-abbrev pub type_there : BTreeMap (Bor (List ℕ)) (Bor Ty) → List ℕ → Option Ty
-type_there types name = option_map (λ t. t.now) (tree.get_by (λ k. slice_cmp nat_cmp name k.now) types)
+abbrev pub type_of_text : BTreeMap (Bor (List ℕ)) (Bor Ty) → List ℕ → Option Ty
+type_of_text types name = option_map (λ t. t.now) (tree.get_by (λ k. slice_cmp nat_cmp name k.now) types)
 
 -- names with their types, of those that have one
 abbrev pub typed_there : (List ℕ → Option Ty) → List (List ℕ) → Entries

@@ -4,15 +4,15 @@ ghost use Rattle.std.specs.Prelude.{◌≡◌, ◌++◌, ◌∷◌, [], IfOk, On
 ghost use Rattle.std.specs.List.{filter};
 ghost use Rattle.formula_core.specs.Formulas.{joined};
 ghost use Rattle.formula_core.specs.Names.{is_identifier};
-ghost use Rattle.type_core.specs.Answers.{with_name};
+ghost use Rattle.type_core.specs.Answers.{with_typed_name};
 ghost use Rattle.type_action.specs.CoreActions.{with_all};
 ghost use Rattle.check_rules.specs.Visible.{names};
 ghost use Rattle.check_rules.specs.Typed.{in_order};
 ghost use Rattle.check_rules.specs.Contexts.{names_of};
 ghost use Rattle.check_rules.specs.Events.{params_inherited, primed_env};
 ghost use Rattle.context_check.specs.Texts.{has};
-ghost use Rattle.machine_check.specs.PrivateTyped.{HasExactly, Grows, event_env_from, witness_env_from};
-ghost use Rattle.machine_check.specs.PrivateTyped.{primed_known, type_there, typed_there};
+ghost use Rattle.machine_check.specs.PrivateTyped.{HasExactly, ExtendsEntries, event_env_from, witness_env_from};
+ghost use Rattle.machine_check.specs.PrivateTyped.{primed_known, type_of_text, typed_there};
 
 use crate::assignments::{add_names_of, texts_of};
 use crate::machine_names::add_ref_names;
@@ -24,7 +24,7 @@ use std::alloc::Global;
 use std::collections::BTreeSet;
 
 fn add_name(alloc: Global, env: &mut Env, name: Name, ty: &Ty) -> Result<(), OutOfMemory>
-    ensures { OnOk result (env.new ≡ with_name env.old name (Some ty.now)) }
+    ensures { OnOk result (env.new ≡ with_typed_name env.old name (Some ty.now)) }
 {
     match env.add(name, ty.copy(alloc)?) {
         Ok(()) => Ok(()),
@@ -50,7 +50,7 @@ fn add_typed_there(
     types: &Types<'_>,
     params: &[Ref],
 ) -> Result<(), OutOfMemory>
-    ensures { OnOk result (env.new ≡ with_all env.old (typed_there (type_there types.now) (names_of params.now))) }
+    ensures { OnOk result (env.new ≡ with_all env.old (typed_there (type_of_text types.now) (names_of params.now))) }
 {
     for param in params {
         if let Some(ty) = type_there(types, &param.name) {
@@ -212,7 +212,7 @@ pub fn add_witness_names(
 ) -> Result<(), OutOfMemory>
     ensures names { OnOk result (env.new
         ≡ witness_env_from (map (λ x. x.now) refined.now) event.now env.old added.now) }
-    ensures grown { OnOk result (Grows env.old env.new) }
+    ensures grown { OnOk result (ExtendsEntries env.old env.new) }
 {
     let inherited = inherited_params(refined, event);
     let kept = param_names(alloc, inherited, event.params.items())?;

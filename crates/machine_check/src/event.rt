@@ -3,7 +3,7 @@
 ghost use Rattle.std.specs.Prelude.{◌≡◌, ℕ, List, IfOk, OnOk, map};
 ghost use Rattle.std.specs.Option.{option_copied};
 ghost use Rattle.check_rules.specs.Events.{extended_of, primed_env};
-ghost use Rattle.machine_check.specs.PrivateTyped.{guards_in, actions_in, event_from, witness_env_from, Grows};
+ghost use Rattle.machine_check.specs.PrivateTyped.{guards_in, actions_in, event_from, witness_env_from, ExtendsEntries};
 ghost use Rattle.machine_check.specs.PrivateTyped.{AreTypedWitnesses, IsTypedSoFar, AreTypedEventsSoFar};
 
 use crate::environment::{add_event_names, add_witness_names, inherited_params, primed_env};
@@ -113,7 +113,7 @@ fn type_in_place(
 ) -> Result<(CheckedEvent, Option<Fault>), OutOfMemory>
     ensures typed { IfOk result (λ one. (names : List (List ℕ)) → primed.old ≡ primed_env env.old names
         → IsTypedSoFar component.now events.now names env.old event.now one.0 one.1) }
-    ensures grown { OnOk result (Grows env.old env.new) }
+    ensures grown { OnOk result (ExtendsEntries env.old env.new) }
     ensures primed_kept { OnOk result (primed.new ≡ primed.old) }
 {
     let len = env.entries().len();

@@ -10,7 +10,7 @@ ghost use Rattle.check_rules.specs.Contexts.{names_of};
 ghost use Rattle.check_rules.specs.Declarations.{declared_twice};
 ghost use Rattle.check_rules.specs.Events.{event_declarations};
 ghost use Rattle.check_rules.specs.Machines.{abstract_events};
-ghost use Rattle.check_rules.specs.Visible.{entries, identifiers, names};
+ghost use Rattle.check_rules.specs.Visible.{entries, all_visible, names};
 ghost use Rattle.context_check.specs.Texts.{has, mark_of, ref_mark};
 ghost use Rattle.machine_check.specs.PrivateMachine.{own_declarations, written_of};
 ghost use Rattle.context_check.specs.Views.{placed, visible};
@@ -65,7 +65,7 @@ fn names_but<'a>(
     view: &'a View<'_>,
 ) -> Result<Texts<'a>, OutOfMemory>
     ensures { IfOk result (λ texts. (x : List ℕ) → has texts x
-        ≡ is_among (filter (λ n. not (has except.now n)) (names (entries (identifiers (visible view.now))))) x) }
+        ≡ is_among (filter (λ n. not (has except.now n)) (names (entries (all_visible (visible view.now))))) x) }
 {
     let mut texts = BTreeSet::new(alloc);
     add_identifiers(&mut texts, except, &view.constants)?;
@@ -83,7 +83,7 @@ fn first_variable_twice(
 ) -> Result<Option<Fault>, OutOfMemory>
     ensures { IfOk result (λ first. first ≡ first_by_place
         (declared_twice component.now (filter (λ n. not (is_among kept.now n))
-        (names (entries (identifiers (visible view.now))))) variables.now)) }
+        (names (entries (all_visible (visible view.now))))) variables.now)) }
 {
     let kept = texts_of(alloc, kept)?;
     let known = names_but(alloc, &kept, view)?;
@@ -154,7 +154,7 @@ fn all_names<'a>(
     variables: &'a [Ref],
 ) -> Result<Texts<'a>, OutOfMemory>
     ensures { IfOk result (λ texts. (x : List ℕ) → has texts x
-        ≡ is_among (names (entries (identifiers (visible view.now))) ++ names_of variables.entry.now) x) }
+        ≡ is_among (names (entries (all_visible (visible view.now))) ++ names_of variables.entry.now) x) }
 {
     let none = BTreeSet::new(alloc);
     let mut texts = names_but(alloc, &none, view)?;
@@ -173,7 +173,7 @@ fn first_in_events(
 ) -> Result<Option<Fault>, OutOfMemory>
     ensures { IfOk result (λ first. first ≡ first_by_place
         (joined (map (event_declarations component.now events.now
-        (names (entries (identifiers (visible view.now))) ++ names_of variables.now)) written.now))) }
+        (names (entries (all_visible (visible view.now))) ++ names_of variables.now)) written.now))) }
 {
     let known = all_names(alloc, view, variables)?;
     let first = first_declared_in_events(alloc, component, events, &known, written)?;

@@ -6,7 +6,7 @@ ghost use Rattle.std.specs.Option.{option_copied};
 ghost use Rattle.formula_core.specs.Formulas.{joined};
 ghost use Rattle.model_core.specs.Each.{is_among};
 ghost use Rattle.check_rules.specs.Contexts.{names_of};
-ghost use Rattle.check_rules.specs.Machines.{abstract_view, machine_of, new_variables};
+ghost use Rattle.check_rules.specs.Machines.{abstract_view, checked_machine_of, new_variables};
 ghost use Rattle.check_rules.specs.Typed.{in_order};
 ghost use Rattle.check_rules.specs.Visible.{entries, names, origins};
 ghost use Rattle.context_check.specs.Texts.{has};
@@ -291,7 +291,7 @@ pub fn machine_of(
 ) -> Result<CheckedMachine, OutOfMemory>
     requires new { new.now ≡ new_variables (option_copied abstraction) (written_of written.now) }
     requires variables { (visible view.now).variables ≡ (abstract_view (option_copied abstraction)).variables }
-    ensures { IfOk result (λ typed. typed ≡ machine_of (option_copied abstraction.entry) (written_of written.now)
+    ensures { IfOk result (λ typed. typed ≡ checked_machine_of (option_copied abstraction.entry) (written_of written.now)
         (visible view.now) env.now invariants.items variant events.items) }
 {
     let component = &written.name.name;

@@ -4,7 +4,7 @@ ghost use Rattle.std.specs.Prelude.{◌≡◌, ◌∷◌, [], ℕ, List, IfOk, O
 ghost use Rattle.std.specs.Option.{option_copied, option_map, option_or};
 ghost use Rattle.formula_core.specs.Env.{type_in};
 ghost use Rattle.formula_core.specs.Formulas.{joined};
-ghost use Rattle.machine_check.specs.PrivateTyped.{type_there};
+ghost use Rattle.machine_check.specs.PrivateTyped.{type_of_text};
 
 use formula_core::{Name, OutOfMemory, Ty};
 use model_core::CheckedEvent;
@@ -26,7 +26,7 @@ fn first_type<'a>(known: Option<&&'a Ty>, ty: &'a Ty) -> &'a Ty
 /// Notes the type of a name that has none there.
 fn note_type<'a>(types: &mut Types<'a>, param: &'a (Name, Ty)) -> Result<(), OutOfMemory>
     ensures { OnOk result ((x : List ℕ)
-        → type_there types.new x ≡ option_or (type_there types.old x) (type_in (param.entry.now ∷ []) x)) }
+        → type_of_text types.new x ≡ option_or (type_of_text types.old x) (type_in (param.entry.now ∷ []) x)) }
 {
     let ty = first_type(types.get(param.0.as_text()), &param.1);
     types.insert(param.0.as_text(), ty)?;
@@ -35,7 +35,7 @@ fn note_type<'a>(types: &mut Types<'a>, param: &'a (Name, Ty)) -> Result<(), Out
 
 fn note_types<'a>(types: &mut Types<'a>, params: &'a [(Name, Ty)]) -> Result<(), OutOfMemory>
     ensures { OnOk result ((x : List ℕ)
-        → type_there types.new x ≡ option_or (type_there types.old x) (type_in params.entry.now x)) }
+        → type_of_text types.new x ≡ option_or (type_of_text types.old x) (type_in params.entry.now x)) }
 {
     for param in params {
         note_type(types, param)?;
@@ -46,7 +46,7 @@ fn note_types<'a>(types: &mut Types<'a>, params: &'a [(Name, Ty)]) -> Result<(),
 /// The type of each parameter in the first of the events that has it.
 pub fn types_in<'a>(alloc: Global, events: &[&'a CheckedEvent]) -> Result<Types<'a>, OutOfMemory>
     ensures { IfOk result (λ types. (x : List ℕ)
-        → type_there types x ≡ type_in (joined (map (λ a. a.now.params) events.now)) x) }
+        → type_of_text types x ≡ type_in (joined (map (λ a. a.now.params) events.now)) x) }
 {
     let mut types = BTreeMap::new(alloc);
     for event in events {
@@ -56,7 +56,7 @@ pub fn types_in<'a>(alloc: Global, events: &[&'a CheckedEvent]) -> Result<Types<
 }
 
 pub fn type_there<'a>(types: &Types<'a>, name: &Name) -> Option<&'a Ty>
-    ensures { option_copied result ≡ type_there types.now name.now }
+    ensures { option_copied result ≡ type_of_text types.now name.now }
 {
     types.get(name.as_text()).copied()
 }

@@ -9,9 +9,9 @@ use Rattle.formula_core.specs.declared.Formula.TheVariants.{Node, Bind}
 use Rattle.formula_core.specs.Formulas.{joined}
 use Rattle.formula_core.specs.Identifiers.{carriers, identifiers}
 use Rattle.formula_core.specs.Rows.{row_of}
-use Rattle.formula_core.specs.Schemes.{IsInstance, operand_schemes, result_scheme, part_schemes, binder_scheme}
+use Rattle.formula_core.specs.Schemes.{IsSchemeInstance, operand_schemes, result_scheme, part_schemes, binder_scheme}
 use Rattle.formula_core.specs.Typed.{Stands}
-use Rattle.formula_core.specs.TypeTable.{fits, binder_fits}
+use Rattle.formula_core.specs.TypeTable.{row_fits, binder_fits}
 use Rattle.formula_core.specs.Wellness.{type_of, is_well_in, may_be_bound}
 use Rattle.formula_core.proofs.Equations.{identifiers-Free, identifiers-Bound, identifiers-Node, identifiers-Bind}
 use Rattle.formula_core.proofs.Induction.{formula_induction}
@@ -71,32 +71,32 @@ module _ (env : Env) where
 
     -- an operator on typed operands
     pub node_is : (o : Op) (ts : List Ty) (parts : List Formula) (t : Ty) → AreOf env bound ts parts
-        → IsInstance (operand_schemes (row_of o) (length ts)) (result_scheme (row_of o)) ts t → Carried env t → Is env bound t (Node o parts t)
+        → IsSchemeInstance (operand_schemes (row_of o) (length ts)) (result_scheme (row_of o)) ts t → Carried env t → Is env bound t (Node o parts t)
     node_is o ts parts t are is c = record {
       type = type-Node o parts t;
       well = well-Node o parts t bound ∙ both_true _ _ (wells ts parts are)
-          (ap (λ us. fits (row_of o) us t) (types_are ts parts are) ∙ (fits_exactly (row_of o) ts t).1 is);
+          (ap (λ us. row_fits (row_of o) us t) (types_are ts parts are) ∙ (fits_exactly (row_of o) ts t).1 is);
       names = subst All (sym (identifiers-Node o parts t)) (both (Stands env) (joined (map identifiers parts)) (carriers t) (stand ts parts are) c);
     }
 
     -- the operands of an operator that is typed
     pub record Opened (o : Op) (parts : List Formula) (t : Ty) : Type 0 where
       pub operands : AreOf env bound (map type_of parts) parts
-      pub fit : IsInstance (operand_schemes (row_of o) (length (map type_of parts))) (result_scheme (row_of o)) (map type_of parts) t
+      pub fit : IsSchemeInstance (operand_schemes (row_of o) (length (map type_of parts))) (result_scheme (row_of o)) (map type_of parts) t
 
     pub opened : (o : Op) (parts : List Formula) (u t : Ty) → Is env bound t (Node o parts u) → Opened o parts t
     opened o parts u t h =
-        let k : (list_all (λ f. is_well_in f bound) parts && fits (row_of o) (map type_of parts) u) ≡ true = sym (well-Node o parts u bound) ∙ h.well in
+        let k : (list_all (λ f. is_well_in f bound) parts && row_fits (row_of o) (map type_of parts) u) ≡ true = sym (well-Node o parts u bound) ∙ h.well in
         let e : u ≡ t = sym (type-Node o parts u) ∙ h.type in
         record {
           operands = parts_of parts (first_true _ _ k) (front (Stands env) (joined (map identifiers parts)) (carriers u) (subst All (identifiers-Node o parts u) h.names));
           fit = (fits_exactly (row_of o) (map type_of parts) t).0
-              (ap (fits (row_of o) (map type_of parts)) (sym e) ∙ second_true (list_all (λ f. is_well_in f bound) parts) _ k);
+              (ap (row_fits (row_of o) (map type_of parts)) (sym e) ∙ second_true (list_all (λ f. is_well_in f bound) parts) _ k);
         }
 
   -- the same of binders
   pub bind_is : (bound : List Ty) (b : Binder) (types ts : List Ty) (parts : List Formula) (t : Ty) → may_be_bound types ≡ true → All (joined (map carriers types))
-      → AreOf env (reverse types ++ bound) ts parts → IsInstance (part_schemes b) (binder_scheme b) ts t → Carried env t → Is env bound t (Bind b types parts t)
+      → AreOf env (reverse types ++ bound) ts parts → IsSchemeInstance (part_schemes b) (binder_scheme b) ts t → Carried env t → Is env bound t (Bind b types parts t)
   bind_is bound b types ts parts t may own are is c = record {
     type = type-Bind b types parts t;
     well = well-Bind b types parts t bound
@@ -111,7 +111,7 @@ module _ (env : Env) where
     pub may : may_be_bound types ≡ true
     pub own : All (joined (map carriers types))
     pub inner : AreOf env (reverse types ++ bound) (map type_of parts) parts
-    pub fit : IsInstance (part_schemes b) (binder_scheme b) (map type_of parts) t
+    pub fit : IsSchemeInstance (part_schemes b) (binder_scheme b) (map type_of parts) t
 
   pub opened_binder : (bound : List Ty) (b : Binder) (types : List Ty) (parts : List Formula) (u t : Ty) → Is env bound t (Bind b types parts u) → OpenedBinder bound b types parts t
   opened_binder bound b types parts u t h =

@@ -19,7 +19,7 @@ use Rattle.formula_core.specs.declared.row.BinaryRow.TheVariants as binary
 use Rattle.formula_core.specs.Formulas.{joined}
 use Rattle.formula_core.specs.Identifiers.{carriers}
 use Rattle.formula_core.specs.Rows.{row_of}
-use Rattle.formula_core.specs.Schemes.{IsInstance, Letters, AreValues, type_at, operand_schemes, result_scheme, nullary_scheme, unary_scheme, binary_scheme, part_schemes, binder_scheme}
+use Rattle.formula_core.specs.Schemes.{IsSchemeInstance, Letters, AreValues, type_of_scheme, operand_schemes, result_scheme, nullary_scheme, unary_scheme, binary_scheme, part_schemes, binder_scheme}
 use Rattle.formula_core.specs.Shifting.{shifted}
 use Rattle.formula_core.specs.Typed.{Stands}
 use Rattle.formula_core.specs.Types.{is_value_type}
@@ -75,24 +75,24 @@ module _ (env : Env) where
 
   module _ (bound : List Ty) where
     -- an operator of a row
-    pub none_is : (o : Op) (row : NullaryRow) → row_of o ≡ Nullary row → (l : Letters) → AreValues l → Carried env (type_at l (nullary_scheme row))
-        → Is env bound (type_at l (nullary_scheme row)) (formula.Node o [] (type_at l (nullary_scheme row)))
-    none_is o row r l v c = node_is env bound o [] [] (type_at l (nullary_scheme row)) tt
-        (subst (λ x. IsInstance (operand_schemes x 0) (result_scheme x) [] (type_at l (nullary_scheme row))) (sym r)
+    pub none_is : (o : Op) (row : NullaryRow) → row_of o ≡ Nullary row → (l : Letters) → AreValues l → Carried env (type_of_scheme l (nullary_scheme row))
+        → Is env bound (type_of_scheme l (nullary_scheme row)) (formula.Node o [] (type_of_scheme l (nullary_scheme row)))
+    none_is o row r l v c = node_is env bound o [] [] (type_of_scheme l (nullary_scheme row)) tt
+        (subst (λ x. IsSchemeInstance (operand_schemes x 0) (result_scheme x) [] (type_of_scheme l (nullary_scheme row))) (sym r)
         (record { letters = l; values = v; operands_are = refl; whole_is = refl })) c
 
-    pub one_is : (o : Op) (row : UnaryRow) → row_of o ≡ Unary row → (l : Letters) → AreValues l → (p : Formula) → Is env bound (type_at l (unary_scheme row).0) p
-        → Carried env (type_at l (unary_scheme row).1) → Is env bound (type_at l (unary_scheme row).1) (formula.Node o (p ∷ []) (type_at l (unary_scheme row).1))
-    one_is o row r l v p h c = node_is env bound o (type_at l (unary_scheme row).0 ∷ []) (p ∷ []) (type_at l (unary_scheme row).1) (h, tt)
-        (subst (λ x. IsInstance (operand_schemes x 1) (result_scheme x) (type_at l (unary_scheme row).0 ∷ []) (type_at l (unary_scheme row).1)) (sym r)
+    pub one_is : (o : Op) (row : UnaryRow) → row_of o ≡ Unary row → (l : Letters) → AreValues l → (p : Formula) → Is env bound (type_of_scheme l (unary_scheme row).0) p
+        → Carried env (type_of_scheme l (unary_scheme row).1) → Is env bound (type_of_scheme l (unary_scheme row).1) (formula.Node o (p ∷ []) (type_of_scheme l (unary_scheme row).1))
+    one_is o row r l v p h c = node_is env bound o (type_of_scheme l (unary_scheme row).0 ∷ []) (p ∷ []) (type_of_scheme l (unary_scheme row).1) (h, tt)
+        (subst (λ x. IsSchemeInstance (operand_schemes x 1) (result_scheme x) (type_of_scheme l (unary_scheme row).0 ∷ []) (type_of_scheme l (unary_scheme row).1)) (sym r)
         (record { letters = l; values = v; operands_are = refl; whole_is = refl })) c
 
-    pub two_are : (o : Op) (row : BinaryRow) → row_of o ≡ Binary row → (l : Letters) → AreValues l → (p q : Formula) → Is env bound (type_at l (binary_scheme row).0) p
-        → Is env bound (type_at l (binary_scheme row).1) q → Carried env (type_at l (binary_scheme row).2)
-        → Is env bound (type_at l (binary_scheme row).2) (formula.Node o (p ∷ q ∷ []) (type_at l (binary_scheme row).2))
+    pub two_are : (o : Op) (row : BinaryRow) → row_of o ≡ Binary row → (l : Letters) → AreValues l → (p q : Formula) → Is env bound (type_of_scheme l (binary_scheme row).0) p
+        → Is env bound (type_of_scheme l (binary_scheme row).1) q → Carried env (type_of_scheme l (binary_scheme row).2)
+        → Is env bound (type_of_scheme l (binary_scheme row).2) (formula.Node o (p ∷ q ∷ []) (type_of_scheme l (binary_scheme row).2))
     two_are o row r l v p q g h c =
-        node_is env bound o (type_at l (binary_scheme row).0 ∷ type_at l (binary_scheme row).1 ∷ []) (p ∷ q ∷ []) (type_at l (binary_scheme row).2) (g, (h, tt))
-        (subst (λ x. IsInstance (operand_schemes x 2) (result_scheme x) (type_at l (binary_scheme row).0 ∷ type_at l (binary_scheme row).1 ∷ []) (type_at l (binary_scheme row).2)) (sym r)
+        node_is env bound o (type_of_scheme l (binary_scheme row).0 ∷ type_of_scheme l (binary_scheme row).1 ∷ []) (p ∷ q ∷ []) (type_of_scheme l (binary_scheme row).2) (g, (h, tt))
+        (subst (λ x. IsSchemeInstance (operand_schemes x 2) (result_scheme x) (type_of_scheme l (binary_scheme row).0 ∷ type_of_scheme l (binary_scheme row).1 ∷ []) (type_of_scheme l (binary_scheme row).2)) (sym r)
         (record { letters = l; values = v; operands_are = refl; whole_is = refl })) c
 
     abbrev pub Holds : Formula → Type 0
@@ -144,7 +144,7 @@ module _ (env : Env) where
     pub quantified_is : (b : Binder) → part_schemes b ≡ part_schemes binder.ForAll → binder_scheme b ≡ binder_scheme binder.ForAll → (types : List Ty) → may_be_bound types ≡ true
         → AllByRecursion (Stands env) (joined (map carriers types)) → (p : Formula) → Is env (reverse types ++ bound) ty.Truth p → Holds (quantified b types p)
     quantified_is b s w types may own p h = bind_is env bound b types (ty.Truth ∷ []) (p ∷ []) ty.Truth may own (h, tt)
-        (record { letters = no_letters; values = no_values; operands_are = ap (map (type_at no_letters)) (sym s); whole_is = ap (type_at no_letters) (sym w) }) carried_truth
+        (record { letters = no_letters; values = no_values; operands_are = ap (map (type_of_scheme no_letters)) (sym s); whole_is = ap (type_of_scheme no_letters) (sym w) }) carried_truth
 
     -- integers
     pub integer_is : (n : ℕ) → Is env bound ty.Int (formula.Int (pos n))

@@ -19,7 +19,7 @@ use Rattle.formula_core.specs.Wellness.{type_of}
 use Rattle.formula_core.proofs.Schemes.{value-Int}
 use Rattle.well_defined.specs.Predicates.{zero}
 use Rattle.well_defined.proofs.Types.{integer_exact}
-use Rattle.rule_table.specs.ArithmeticLaws.{member_of_naturals, member_of_positive_naturals, member_of_interval, member_of_successor, member_of_predecessor, negated_less, negated_at_most, equal_integers, less_is_at_most, computed, value_of, is_numeral_value, numerals_at}
+use Rattle.rule_table.specs.ArithmeticLaws.{member_of_naturals, member_of_positive_naturals, member_of_interval, member_of_successor, member_of_predecessor, negated_less, negated_at_most, equal_integers, less_is_at_most, computed, computed_value, is_numeral_value, numerals_at}
 use Rattle.rule_table.specs.Shapes.{one, plus_one, minus_one, two_of, numeral, as_numeral}
 use Rattle.made_rules.proofs.Typed.{Env, Is}
 use Rattle.made_rules.proofs.Forms.{retyped}
@@ -27,7 +27,7 @@ use Rattle.made_rules.proofs.Makers.{and_is, equal_is, at_most_is, less_is, inte
 use Rattle.made_rules.proofs.Operands.{on_none_if, on_one_if, on_two_if, then_if, test_if, power_exact, pair_left, pair_right, two_is, two_opened}
 
 -- what has a value is an operation on integers
-arithmetic_row : (o : Op) (m n v : ℤ) → value_of o m n ≡ Some v → row_of o ≡ Binary binary.Arithmetic
+arithmetic_row : (o : Op) (m n v : ℤ) → computed_value o m n ≡ Some v → row_of o ≡ Binary binary.Arithmetic
 arithmetic_row op.Plus m n v e = refl
 arithmetic_row op.Minus m n v e = refl
 arithmetic_row op.Times m n v e = refl
@@ -119,7 +119,7 @@ module _ (env : Env) (bound : List Ty) where
 
     -- an operation that has a value is an integer
     operation : (o : Op) (parts : List Formula) (u : Ty) (p q : Formula) (m n v : ℤ) → f ≡ formula.Node o parts u → two_of parts ≡ Some (p, q)
-        → value_of o m n ≡ Some v → t ≡ ty.Int
+        → computed_value o m n ≡ Some v → t ≡ ty.Int
     operation o parts u p q m n v e k is =
         (two_opened env bound o binary.Arithmetic (arithmetic_row o m n v is) p q t u
         (subst (Is env bound t) (e ∙ ap (λ ps. formula.Node o ps u) (two_is parts p q k)) h)).whole
@@ -128,7 +128,7 @@ module _ (env : Env) (bound : List Ty) where
     value_is z e = retyped env bound ty.Int t (as_numeral z) (sym e) (as_numeral_is z)
 
     abbrev made : Op × ℤ × ℤ → Option Formula
-    made x = option_and_then (λ v. if is_numeral_value v then Some (as_numeral v) else None) (value_of x.0 x.1 x.2)
+    made x = option_and_then (λ v. if is_numeral_value v then Some (as_numeral v) else None) (computed_value x.0 x.1 x.2)
 
     abbrev triple : Op → ℤ → ℤ → Op × ℤ × ℤ
     triple o m n = (o, m, n)
@@ -138,7 +138,7 @@ module _ (env : Env) (bound : List Ty) where
     with_values o parts u p q e k None b = tt
     with_values o parts u p q e k (Some m) None = tt
     with_values o parts u p q e k (Some m) (Some n) =
-        then_if (Is env bound t) (value_of o m n) _ (λ v is.
+        then_if (Is env bound t) (computed_value o m n) _ (λ v is.
         test_if (Is env bound t) (is_numeral_value v) (as_numeral v) (λ i. value_is v (operation o parts u p q m n v e k is)))
 
     abbrev read : Op → Formula × Formula → Option (Op × ℤ × ℤ)

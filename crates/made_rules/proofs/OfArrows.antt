@@ -16,7 +16,7 @@ use Rattle.formula_core.proofs.Keeping.{both}
 use Rattle.formula_core.proofs.Weakening.{both_true}
 use Rattle.well_defined.specs.Predicates.{conjunction}
 use Rattle.rule_table.specs.Shapes.{subset, product}
-use Rattle.rule_table.specs.SetLaws.{in_arrow, is_in, is_total, is_onto, goes_back, is_functional, member_of_relations, member_of_total_relations, member_of_surjective_relations, member_of_total_surjective_relations, member_of_partial_functions, member_of_total_functions, member_of_partial_injections, member_of_total_injections, member_of_partial_surjections, member_of_total_surjections, member_of_bijections}
+use Rattle.rule_table.specs.SetLaws.{in_arrow, is_in, totality, is_onto, goes_back, is_functional, member_of_relations, member_of_total_relations, member_of_surjective_relations, member_of_total_surjective_relations, member_of_partial_functions, member_of_total_functions, member_of_partial_injections, member_of_total_injections, member_of_partial_surjections, member_of_total_surjections, member_of_bijections}
 use Rattle.made_rules.proofs.Typed.{Env, Carried, Is}
 use Rattle.made_rules.proofs.Makers.{quantified_is, moved_is}
 use Rattle.made_rules.proofs.Operands.{of_relation_if}
@@ -31,7 +31,7 @@ module _ {env : Env} {bound : List Ty} {r s u : Formula} (α β : Ty) (v : is_va
   in_is : (o : Op) → row_of o ≡ Binary binary.RelationSet → Is env bound ty.Truth (is_in o r s u α β)
   in_is o e = mem (set_value (ty.Pair α β) (pair_value α β v w)) x (arrows α β v w y z o e)
 
-  total_is : Is env bound ty.Truth (is_total r s α)
+  total_is : Is env bound ty.Truth (totality r s α)
   total_is = eq (set_value α v) (dom α β v w x) y
 
   onto_is : Is env bound ty.Truth (is_onto r u β)
@@ -82,7 +82,7 @@ module _ (env : Env) (bound : List Ty) (t : Ty) (f : Formula) (h : Is env bound 
 
   pub total_relations_is : Kept (member_of_total_relations f)
   total_relations_is = arrow_is op.TotalRelations refl
-      (λ r s u α β. conjunction (is_in op.Relations r s u α β) (is_total r s α)) (λ r s u α β v w x y z. conj (in_is α β v w x y z op.Relations refl) (total_is α β v w x y z))
+      (λ r s u α β. conjunction (is_in op.Relations r s u α β) (totality r s α)) (λ r s u α β v w x y z. conj (in_is α β v w x y z op.Relations refl) (total_is α β v w x y z))
 
   pub surjective_relations_is : Kept (member_of_surjective_relations f)
   surjective_relations_is = arrow_is op.SurjectiveRelations refl
@@ -90,7 +90,7 @@ module _ (env : Env) (bound : List Ty) (t : Ty) (f : Formula) (h : Is env bound 
 
   pub total_surjective_relations_is : Kept (member_of_total_surjective_relations f)
   total_surjective_relations_is = arrow_is op.TotalSurjectiveRelations refl
-      (λ r s u α β. conjunction (conjunction (is_in op.Relations r s u α β) (is_total r s α)) (is_onto r u β))
+      (λ r s u α β. conjunction (conjunction (is_in op.Relations r s u α β) (totality r s α)) (is_onto r u β))
       (λ r s u α β v w x y z. conj (conj (in_is α β v w x y z op.Relations refl) (total_is α β v w x y z)) (onto_is α β v w x y z))
 
   pub partial_functions_is : Kept (member_of_partial_functions f)
@@ -99,7 +99,7 @@ module _ (env : Env) (bound : List Ty) (t : Ty) (f : Formula) (h : Is env bound 
 
   pub total_functions_is : Kept (member_of_total_functions f)
   total_functions_is = arrow_is op.TotalFunctions refl
-      (λ r s u α β. conjunction (is_in op.PartialFunctions r s u α β) (is_total r s α)) (λ r s u α β v w x y z. conj (in_is α β v w x y z op.PartialFunctions refl) (total_is α β v w x y z))
+      (λ r s u α β. conjunction (is_in op.PartialFunctions r s u α β) (totality r s α)) (λ r s u α β v w x y z. conj (in_is α β v w x y z op.PartialFunctions refl) (total_is α β v w x y z))
 
   pub partial_injections_is : Kept (member_of_partial_injections f)
   partial_injections_is = arrow_is op.PartialInjections refl

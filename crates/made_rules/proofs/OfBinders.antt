@@ -13,7 +13,7 @@ use Rattle.formula_core.specs.declared.Formula.TheVariants as formula
 use Rattle.formula_core.specs.declared.row.UnaryRow.TheVariants as unary
 use Rattle.formula_core.specs.declared.row.BinaryRow.TheVariants as binary
 use Rattle.formula_core.specs.Same.{same_formula}
-use Rattle.formula_core.specs.Schemes.{Scheme, alpha, truth, power, Letters, type_at, part_schemes, binder_scheme}
+use Rattle.formula_core.specs.Schemes.{Scheme, alpha, truth, power, Letters, type_of_scheme, part_schemes, binder_scheme}
 use Rattle.formula_core.specs.Shifting.{shifted}
 use Rattle.formula_core.specs.Types.{is_value_type}
 use Rattle.formula_core.specs.Wellness.{type_of}
@@ -36,19 +36,19 @@ record TwoParts (env : Env) (bound : List Ty) (s whole : Scheme) (types : List T
   letters : Letters
   value : is_value_type letters.alpha ≡ true
   predicate : Is env (reverse types ++ bound) ty.Truth p
-  term : Is env (reverse types ++ bound) (type_at letters s) q
-  is : t ≡ type_at letters whole
+  term : Is env (reverse types ++ bound) (type_of_scheme letters s) q
+  is : t ≡ type_of_scheme letters whole
 
 two_parts : {env : Env} {bound : List Ty} {types : List Ty} {p q : Formula} {t : Ty} (b : Binder) (s whole : Scheme) → part_schemes b ≡ truth ∷ s ∷ [] → binder_scheme b ≡ whole
     → OpenedBinder env bound b types (p ∷ q ∷ []) t → TwoParts env bound s whole types p q t
 two_parts {env} {bound} {types} {p} {q} {t} b s whole e k w =
-    let are : type_of p ∷ type_of q ∷ [] ≡ ty.Truth ∷ type_at w.fit.letters s ∷ [] = w.fit.operands_are ∙ ap (map (type_at w.fit.letters)) e in
+    let are : type_of p ∷ type_of q ∷ [] ≡ ty.Truth ∷ type_of_scheme w.fit.letters s ∷ [] = w.fit.operands_are ∙ ap (map (type_of_scheme w.fit.letters)) e in
     record {
       letters = w.fit.letters;
       value = w.fit.values.alpha;
       predicate = re (head_is _ _ _ _ are) w.inner.0;
       term = re (head_is _ _ _ _ (tail_is _ _ _ _ are)) w.inner.1.0;
-      is = w.fit.whole_is ∙ ap (type_at w.fit.letters) k;
+      is = w.fit.whole_is ∙ ap (type_of_scheme w.fit.letters) k;
     }
 
 -- the members of a set that is listed
@@ -59,14 +59,14 @@ record Listed (env : Env) (bound : List Ty) (parts : List Formula) (t : Ty) : Ty
   is : t ≡ ty.Pow part
 
 module _ (env : Env) (bound : List Ty) where
-  repeated : (l : Letters) (k : ℕ) (ts : List Ty) (parts : List Formula) → AreOf env bound ts parts → ts ≡ map (type_at l) (replicate k alpha) → AllByRecursion (Is env bound l.alpha) parts
+  repeated : (l : Letters) (k : ℕ) (ts : List Ty) (parts : List Formula) → AreOf env bound ts parts → ts ≡ map (type_of_scheme l) (replicate k alpha) → AllByRecursion (Is env bound l.alpha) parts
   repeated l k [] [] h e = tt
   repeated l k [] (p ∷ parts) h e = absurd h
   repeated l k (t ∷ ts) [] h e = absurd h
   repeated l zero (t ∷ ts) (p ∷ parts) h e = absurd (cc)
   repeated l (suc k) (t ∷ ts) (p ∷ parts) h e = (re (head_is _ _ _ _ e) h.0, repeated l k ts parts h.1 (tail_is _ _ _ _ e))
 
-  each_listed : (l : Letters) (k : ℕ) (ts : List Ty) (parts : List Formula) → AreOf env bound ts parts → ts ≡ map (type_at l) (alpha ∷ replicate k alpha) → AllByRecursion (Is env bound l.alpha) parts
+  each_listed : (l : Letters) (k : ℕ) (ts : List Ty) (parts : List Formula) → AreOf env bound ts parts → ts ≡ map (type_of_scheme l) (alpha ∷ replicate k alpha) → AllByRecursion (Is env bound l.alpha) parts
   each_listed l k ts parts h e = repeated l (suc k) ts parts h e
 
   listed : (parts : List Formula) (u t : Ty) → Is env bound t (formula.Node op.SetExtension parts u) → Listed env bound parts t

@@ -9,7 +9,7 @@ use Rattle.formula_core.specs.declared.Formula.{Formula}
 use Rattle.formula_core.specs.declared.row.NullaryRow.TheVariants as nullary
 use Rattle.formula_core.specs.declared.row.UnaryRow.TheVariants as unary
 use Rattle.formula_core.specs.declared.row.BinaryRow.TheVariants as binary
-use Rattle.formula_core.specs.Schemes.{type_at, part_schemes}
+use Rattle.formula_core.specs.Schemes.{type_of_scheme, part_schemes}
 use Rattle.rule_table.specs.LogicLaws.{double_negation, negated_and, negated_or, negated_implies, negated_equivalent, negated_for_all, negated_exists, bool_is_true, bool_is_false, equal_turned}
 use Rattle.rule_table.specs.Shapes.{negation}
 use Rattle.made_rules.proofs.Typed.{Env, Is}
@@ -20,7 +20,7 @@ use Rattle.made_rules.proofs.Operands.{on_none_if, on_one_if, on_two_if, under_b
 -- the body of a quantifier
 pub body_is : (env : Env) (bound : List Ty) (b : Binder) → part_schemes b ≡ part_schemes binder.ForAll → (types : List Ty) (p : Formula) (t : Ty)
     → OpenedBinder env bound b types (p ∷ []) t → Is env (reverse types ++ bound) ty.Truth p
-body_is env bound b s types p t w = retyped env (reverse types ++ bound) _ ty.Truth p (head_is _ _ _ _ (w.fit.operands_are ∙ ap (map (type_at w.fit.letters)) s)) w.inner.0
+body_is env bound b s types p t w = retyped env (reverse types ++ bound) _ ty.Truth p (head_is _ _ _ _ (w.fit.operands_are ∙ ap (map (type_of_scheme w.fit.letters)) s)) w.inner.0
 
 module _ (env : Env) (bound : List Ty) (t : Ty) (f : Formula) (h : Is env bound t f) where
   abbrev Kept : Option Formula → Type 0

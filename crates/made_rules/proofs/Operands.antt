@@ -18,7 +18,7 @@ use Rattle.formula_core.specs.declared.Formula.TheViews.{out-Formula, roll-Formu
 use Rattle.formula_core.specs.Numbers.{number_of, binder_number_of}
 use Rattle.formula_core.specs.Rows.{row_of}
 use Rattle.formula_core.specs.Same.{same_formula_step, same_formula}
-use Rattle.formula_core.specs.Schemes.{IsInstance, Letters, AreValues, type_at, operand_schemes, result_scheme, nullary_scheme, unary_scheme, binary_scheme}
+use Rattle.formula_core.specs.Schemes.{IsSchemeInstance, Letters, AreValues, type_of_scheme, operand_schemes, result_scheme, nullary_scheme, unary_scheme, binary_scheme}
 use Rattle.formula_core.specs.declared.row.Row.TheVariants.{Nullary, Unary, Binary}
 use Rattle.formula_core.specs.declared.row.NullaryRow.{NullaryRow}
 use Rattle.formula_core.specs.declared.row.UnaryRow.{UnaryRow}
@@ -28,7 +28,7 @@ use Rattle.formula_core.specs.Wellness.{type_of}
 use Rattle.formula_core.proofs.SameFormulas.{same_formula_exact}
 use Rattle.formula_core.proofs.Weakening.{both_true}
 use Rattle.formula_core.proofs.WholeSets.{same_type_refl}
-use Rattle.rule_table.specs.Shapes.{operands_at, operands, one_of, two_of, two_operands, on_one, on_none_of, on_none, bound_at, bound_of, one_bound, two_bound, of_set}
+use Rattle.rule_table.specs.Shapes.{operands_at, operands, one_of, two_of, two_operands, on_one, on_none_of, on_none, bound_at, parts_of_binder, one_bound, two_bound, of_set}
 use Rattle.made_rules.proofs.Typed.{Env, Is}
 use Rattle.made_rules.proofs.Forms.{opened, opened_binder, OpenedBinder}
 
@@ -78,7 +78,7 @@ operands_are o f parts e = go (out-Formula f) refl e
 abbrev with_types : List Ty → List Formula → List Ty × List Formula
 with_types ts ps = (ts, ps)
 
-bound_is : (b : Binder) (f : Formula) (types : List Ty) (parts : List Formula) → bound_of b f ≡ Some (types, parts) → (u : Ty) × (f ≡ Bind b types parts u)
+bound_is : (b : Binder) (f : Formula) (types : List Ty) (parts : List Formula) → parts_of_binder b f ≡ Some (types, parts) → (u : Ty) × (f ≡ Bind b types parts u)
 bound_is b f types parts e = go (out-Formula f) refl e
   where
     chosen : (a : Binder) (ts : List Ty) (ps : List Formula) (t : Ty) (c : Bool) → (binder_number_of a == binder_number_of b) ≡ c → out-Formula f ≡ BindF a ts ps t
@@ -136,20 +136,20 @@ tail_is a b rest more e = cc
 pub record OfNone (row : NullaryRow) (t : Ty) : Type 0 where
   pub letters : Letters
   pub values : AreValues letters
-  pub whole : t ≡ type_at letters (nullary_scheme row)
+  pub whole : t ≡ type_of_scheme letters (nullary_scheme row)
 
 pub record OfOne (env : Env) (bound : List Ty) (row : UnaryRow) (t : Ty) (p : Formula) : Type 0 where
   pub letters : Letters
   pub values : AreValues letters
-  pub part : Is env bound (type_at letters (unary_scheme row).0) p
-  pub whole : t ≡ type_at letters (unary_scheme row).1
+  pub part : Is env bound (type_of_scheme letters (unary_scheme row).0) p
+  pub whole : t ≡ type_of_scheme letters (unary_scheme row).1
 
 pub record OfTwo (env : Env) (bound : List Ty) (row : BinaryRow) (t : Ty) (p q : Formula) : Type 0 where
   pub letters : Letters
   pub values : AreValues letters
-  pub left : Is env bound (type_at letters (binary_scheme row).0) p
-  pub right : Is env bound (type_at letters (binary_scheme row).1) q
-  pub whole : t ≡ type_at letters (binary_scheme row).2
+  pub left : Is env bound (type_of_scheme letters (binary_scheme row).0) p
+  pub right : Is env bound (type_of_scheme letters (binary_scheme row).1) q
+  pub whole : t ≡ type_of_scheme letters (binary_scheme row).2
 
 module _ (env : Env) (bound : List Ty) where
   typed_as : (t u : Ty) (f : Formula) → type_of f ≡ u → Is env bound t f → Is env bound u f
@@ -157,15 +157,15 @@ module _ (env : Env) (bound : List Ty) where
 
   pub none_opened : (o : Op) (row : NullaryRow) → row_of o ≡ Nullary row → (t u : Ty) → Is env bound t (Node o [] u) → OfNone row t
   none_opened o row r t u h =
-      let is : IsInstance [] (nullary_scheme row) [] t =
-      subst (λ x. IsInstance (operand_schemes x 0) (result_scheme x) [] t) r (opened env bound o [] u t h).fit in
+      let is : IsSchemeInstance [] (nullary_scheme row) [] t =
+      subst (λ x. IsSchemeInstance (operand_schemes x 0) (result_scheme x) [] t) r (opened env bound o [] u t h).fit in
       record { letters = is.letters; values = is.values; whole = is.whole_is }
 
   pub one_opened : (o : Op) (row : UnaryRow) → row_of o ≡ Unary row → (p : Formula) (t u : Ty) → Is env bound t (Node o (p ∷ []) u) → OfOne env bound row t p
   one_opened o row r p t u h =
       let v = opened env bound o (p ∷ []) u t h in
-      let is : IsInstance ((unary_scheme row).0 ∷ []) (unary_scheme row).1 (type_of p ∷ []) t =
-      subst (λ x. IsInstance (operand_schemes x 1) (result_scheme x) (type_of p ∷ []) t) r v.fit in
+      let is : IsSchemeInstance ((unary_scheme row).0 ∷ []) (unary_scheme row).1 (type_of p ∷ []) t =
+      subst (λ x. IsSchemeInstance (operand_schemes x 1) (result_scheme x) (type_of p ∷ []) t) r v.fit in
       record {
         letters = is.letters;
         values = is.values;
@@ -176,8 +176,8 @@ module _ (env : Env) (bound : List Ty) where
   pub two_opened : (o : Op) (row : BinaryRow) → row_of o ≡ Binary row → (p q : Formula) (t u : Ty) → Is env bound t (Node o (p ∷ q ∷ []) u) → OfTwo env bound row t p q
   two_opened o row r p q t u h =
       let v = opened env bound o (p ∷ q ∷ []) u t h in
-      let is : IsInstance ((binary_scheme row).0 ∷ (binary_scheme row).1 ∷ []) (binary_scheme row).2 (type_of p ∷ type_of q ∷ []) t =
-      subst (λ x. IsInstance (operand_schemes x 2) (result_scheme x) (type_of p ∷ type_of q ∷ []) t) r v.fit in
+      let is : IsSchemeInstance ((binary_scheme row).0 ∷ (binary_scheme row).1 ∷ []) (binary_scheme row).2 (type_of p ∷ type_of q ∷ []) t =
+      subst (λ x. IsSchemeInstance (operand_schemes x 2) (result_scheme x) (type_of p ∷ type_of q ∷ []) t) r v.fit in
       record {
         letters = is.letters;
         values = is.values;
@@ -197,9 +197,9 @@ module _ (env : Env) (bound : List Ty) where
           two_opened o row r x.0 x.1 t is.0 (subst (Is env bound t) (is.1 ∙ ap (λ ps. Node o ps is.0) (two_is parts x.0 x.1 e)) h)
 
   pub binder_found : (t : Ty) (f : Formula) → Is env bound t f → (b : Binder) (x : List Ty × Formula) → one_bound b f ≡ Some x → OpenedBinder env bound b x.0 (x.1 ∷ []) t
-  binder_found t f h b x e = go (bound_of b f) refl e
+  binder_found t f h b x e = go (parts_of_binder b f) refl e
     where
-      at_one : (types : List Ty) (parts : List Formula) → bound_of b f ≡ Some (types, parts) → (o : Option Formula) → one_of parts ≡ o
+      at_one : (types : List Ty) (parts : List Formula) → parts_of_binder b f ≡ Some (types, parts) → (o : Option Formula) → one_of parts ≡ o
           → option_map (λ p. (types, p)) o ≡ Some x → OpenedBinder env bound b x.0 (x.1 ∷ []) t
       at_one types parts z None l e = absurd (cc)
       at_one types parts z (Some p) l e =
@@ -207,7 +207,7 @@ module _ (env : Env) (bound : List Ty) where
           subst (λ y. OpenedBinder env bound b y.0 (y.1 ∷ []) t) (some (types, p) x e)
           (opened_binder env bound b types (p ∷ []) is.0 t (subst (Is env bound t) (is.1 ∙ ap (λ ps. Bind b types ps is.0) (one_is parts p l)) h))
 
-      go : (ps : Option (List Ty × List Formula)) → bound_of b f ≡ ps → option_and_then (λ y. option_map (λ p. (y.0, p)) (one_of y.1)) ps ≡ Some x → OpenedBinder env bound b x.0 (x.1 ∷ []) t
+      go : (ps : Option (List Ty × List Formula)) → parts_of_binder b f ≡ ps → option_and_then (λ y. option_map (λ p. (y.0, p)) (one_of y.1)) ps ≡ Some x → OpenedBinder env bound b x.0 (x.1 ∷ []) t
       go None z e = absurd (cc)
       go (Some y) z e = at_one y.0 y.1 z (one_of y.1) refl e
 
@@ -240,9 +240,9 @@ module _ (env : Env) (bound : List Ty) where
 
     pub under_two_if : (b : Binder) (make : List Ty × Formula × Formula → Option X)
         → ((types : List Ty) (p q : Formula) → OpenedBinder env bound b types (p ∷ q ∷ []) t → IfSome (make (types, p, q)) Q) → IfSome (option_and_then make (two_bound b f)) Q
-    under_two_if b make k = then_if Q (two_bound b f) make (λ x e. go (bound_of b f) refl x e)
+    under_two_if b make k = then_if Q (two_bound b f) make (λ x e. go (parts_of_binder b f) refl x e)
       where
-        at_two : (types : List Ty) (parts : List Formula) → bound_of b f ≡ Some (types, parts) → (o : Option (Formula × Formula)) → two_of parts ≡ o
+        at_two : (types : List Ty) (parts : List Formula) → parts_of_binder b f ≡ Some (types, parts) → (o : Option (Formula × Formula)) → two_of parts ≡ o
             → (x : List Ty × Formula × Formula) → option_map (λ p. (types, p.0, p.1)) o ≡ Some x → IfSome (make x) Q
         at_two types parts z None l x e = absurd (cc)
         at_two types parts z (Some p) l x e =
@@ -250,7 +250,7 @@ module _ (env : Env) (bound : List Ty) where
             subst (λ y. IfSome (make y) Q) (some (types, p.0, p.1) x e)
             (k types p.0 p.1 (opened_binder env bound b types (p.0 ∷ p.1 ∷ []) is.0 t (subst (Is env bound t) (is.1 ∙ ap (λ ps. Bind b types ps is.0) (two_is parts p.0 p.1 l)) h)))
 
-        go : (ps : Option (List Ty × List Formula)) → bound_of b f ≡ ps → (x : List Ty × Formula × Formula)
+        go : (ps : Option (List Ty × List Formula)) → parts_of_binder b f ≡ ps → (x : List Ty × Formula × Formula)
             → option_and_then (λ y. option_map (λ p. (y.0, p.0, p.1)) (two_of y.1)) ps ≡ Some x → IfSome (make x) Q
         go None z x e = absurd (cc)
         go (Some y) z x e = at_two y.0 y.1 z (two_of y.1) refl x e

@@ -17,7 +17,7 @@ use Rattle.formula_core.specs.declared.row.UnaryRow.TheVariants as unary
 use Rattle.formula_core.specs.declared.row.BinaryRow.{BinaryRow}
 use Rattle.formula_core.specs.declared.row.BinaryRow.TheVariants as binary
 use Rattle.formula_core.specs.Rows.{row_of}
-use Rattle.formula_core.specs.Schemes.{Scheme, alpha, beta, gamma, delta, integer, boolean, truth, power, pair, nullary_scheme, unary_scheme, binary_scheme, result_scheme, binder_scheme, Letters, AreValues, type_at}
+use Rattle.formula_core.specs.Schemes.{Scheme, alpha, beta, gamma, delta, integer, boolean, truth, power, pair, nullary_scheme, unary_scheme, binary_scheme, result_scheme, binder_scheme, Letters, AreValues, type_of_scheme}
 use Rattle.formula_core.specs.Types.{is_value_step, is_value_type}
 use Rattle.formula_core.specs.Wellness.{is_well_in}
 use Rattle.formula_core.proofs.Equations.{type_fold}
@@ -40,7 +40,7 @@ has_values (power s) = has_values s
 has_values (pair s t) = has_values s && has_values t
 has_values _ = true
 
-values_at : (l : Letters) → AreValues l → (s : Scheme) → has_values s ≡ true → is_value_type (type_at l s) ≡ true
+values_at : (l : Letters) → AreValues l → (s : Scheme) → has_values s ≡ true → is_value_type (type_of_scheme l s) ≡ true
 values_at l v alpha h = v.alpha
 values_at l v beta h = v.beta
 values_at l v gamma h = v.gamma
@@ -48,9 +48,9 @@ values_at l v delta h = v.delta
 values_at l v integer h = value-Int
 values_at l v boolean h = value-Bool
 values_at l v truth h = absurd (cc)
-values_at l v (power s) h = value-Pow (type_at l s) ∙ values_at l v s h
+values_at l v (power s) h = value-Pow (type_of_scheme l s) ∙ values_at l v s h
 values_at l v (pair s t) h =
-    value-Pair (type_at l s) (type_at l t) ∙ both_true _ _ (values_at l v s (first_true _ _ h)) (values_at l v t (second_true (has_values s) _ h))
+    value-Pair (type_of_scheme l s) (type_of_scheme l t) ∙ both_true _ _ (values_at l v s (first_true _ _ h)) (values_at l v t (second_true (has_values s) _ h))
 
 abbrev IsPlain : Scheme → Type 0
 IsPlain s = (has_values s ≡ true) ⊎ (s ≡ truth)
@@ -116,8 +116,8 @@ binder_is binder.QuantifiedIntersection = inl refl
 abbrev pub IsSort : Ty → Type 0
 IsSort t = (is_value_type t ≡ true) ⊎ (t ≡ ty.Truth)
 
-sort_at : (l : Letters) → AreValues l → (s : Scheme) → IsPlain s → (t : Ty) → t ≡ type_at l s → IsSort t
-sort_at l v s p t e = elim p [ inl h ↦ inl (ap is_value_type e ∙ values_at l v s h) | inr h ↦ inr (e ∙ ap (type_at l) h) ]
+sort_at : (l : Letters) → AreValues l → (s : Scheme) → IsPlain s → (t : Ty) → t ≡ type_of_scheme l s → IsSort t
+sort_at l v s p t e = elim p [ inl h ↦ inl (ap is_value_type e ∙ values_at l v s h) | inr h ↦ inr (e ∙ ap (type_of_scheme l) h) ]
 
 module _ (env : Env) where
   abbrev HasSort : Formula → Type 0

@@ -14,12 +14,12 @@ use Rattle.math_grammar.specs.declared.symbols.Symbol.TheVariants as sign
 use Rattle.math_grammar.specs.Tokens.{Item}
 use Rattle.math_grammar.specs.Grammar.{Spells}
 use Rattle.math_grammar.specs.Actions.{ref, Targets, last_target, next_target, Values, last_value, next_value, SpellsAction, assigns, applies, chooses_in, chooses_such}
-use Rattle.math_parse.specs.Machine.{State, want, step, ended, is_ready}
+use Rattle.math_parse.specs.Machine.{ParseState, want, step, ended, is_ready}
 use Rattle.math_parse.specs.PrivateReaders.{ReadOutcome, found, refused}
 use Rattle.math_parse.proofs.Reach.{Stop, stop, reach}
 use Rattle.math_action.specs.declared.stages.Head.{Head}
 use Rattle.math_action.specs.declared.stages.Head.TheVariants as head
-use Rattle.math_action.specs.PrivateMachine.{target, named, formula, goal_of, ends_at, after_formula, whole}
+use Rattle.math_action.specs.PrivateMachine.{target, named, formula, hole_after, ends_at, after_formula, whole_action}
 use Rattle.math_action.proofs.Outcomes.{action_run}
 use Rattle.math_action.proofs.Formulas.{Separates, ready_stops, signed_ended, reads_reach, spelled_reach}
 
@@ -31,20 +31,20 @@ ends_separates _ _ e = cc
 module _ (limit : Option ℕ) where
   -- what is made of a formula where it stops
   abbrev pub after_stop : Head → Stop → ReadOutcome RawAction
-  after_stop h (stop o []) = option_map_or found (option_and_then (whole h) o) (refused [])
+  after_stop h (stop o []) = option_map_or found (option_and_then (whole_action h) o) (refused [])
   after_stop h (stop o (x ∷ rest)) =
       option_map_or (λ next. action_run limit next rest) (cond (ends_at h x.symbol) (after_formula h o) None) (refused (x ∷ rest))
 
-  pub formula_run : (h : Head) (st : State) (s : List Item) → action_run limit (formula h st) s ≡ after_stop h (reach limit (goal_of h) st s)
+  pub formula_run : (h : Head) (st : ParseState) (s : List Item) → action_run limit (formula h st) s ≡ after_stop h (reach limit (hole_after h) st s)
   formula_run h st [] = refl
-  formula_run h st (x ∷ s) = go (ends_at h x.symbol) refl (is_ready st) refl (step limit (goal_of h) st x) refl (λ next. formula_run h next s)
+  formula_run h st (x ∷ s) = go (ends_at h x.symbol) refl (is_ready st) refl (step limit (hole_after h) st x) refl (λ next. formula_run h next s)
     where
-      go : (a : Bool) → ends_at h x.symbol ≡ a → (b : Bool) → is_ready st ≡ b → (o : Option State) → step limit (goal_of h) st x ≡ o →
-          ((next : State) → action_run limit (formula h next) s ≡ after_stop h (reach limit (goal_of h) next s)) →
-          action_run limit (formula h st) (x ∷ s) ≡ after_stop h (reach limit (goal_of h) st (x ∷ s))
+      go : (a : Bool) → ends_at h x.symbol ≡ a → (b : Bool) → is_ready st ≡ b → (o : Option ParseState) → step limit (hole_after h) st x ≡ o →
+          ((next : ParseState) → action_run limit (formula h next) s ≡ after_stop h (reach limit (hole_after h) next s)) →
+          action_run limit (formula h st) (x ∷ s) ≡ after_stop h (reach limit (hole_after h) st (x ∷ s))
       go true e true r None d k = rw (e, r, d) (rw e refl)
-      go true e true r (Some next) d k = let none : step limit (goal_of h) st x ≡ None = ready_stops limit (goal_of h) st x (ends_separates h x.symbol e) r in cc
-      go true e false r None d k = let none : ended (goal_of h) st ≡ None = signed_ended (goal_of h) st r in rw (e, r, d, none) (rw e refl)
+      go true e true r (Some next) d k = let none : step limit (hole_after h) st x ≡ None = ready_stops limit (hole_after h) st x (ends_separates h x.symbol e) r in cc
+      go true e false r None d k = let none : ended (hole_after h) st ≡ None = signed_ended (hole_after h) st r in rw (e, r, d, none) (rw e refl)
       go true e false r (Some next) d k = rw (e, r, d) (k next)
       go false e b r None d k = rw (e, d) (rw e refl)
       go false e b r (Some next) d k = rw (e, d) (k next)
@@ -79,8 +79,8 @@ module _ (limit : Option ℕ) where
       ∙ rw more (complete_values targets same others)
 
   -- one formula up to the end
-  complete_last : (h : Head) {s : List Item} {e : Raw} (a : RawAction) → Spells limit (goal_of h) s e → whole h e ≡ Some a → action_run limit (formula h (want [])) s ≡ found a
-  complete_last h {s} {e} a sp is = formula_run h (want []) s ∙ ap (after_stop h) (spelled_reach limit (goal_of h) s e sp) ∙ rw is refl
+  complete_last : (h : Head) {s : List Item} {e : Raw} (a : RawAction) → Spells limit (hole_after h) s e → whole_action h e ≡ Some a → action_run limit (formula h (want [])) s ≡ found a
+  complete_last h {s} {e} a sp is = formula_run h (want []) s ∙ ap (after_stop h) (spelled_reach limit (hole_after h) s e sp) ∙ rw is refl
 
   pub complete_action : {s : List Item} {a : RawAction} → SpellsAction limit s a → action_run limit (target []) s ≡ found a
   complete_action (assigns {targets} {values} {p} {w} {s} {m} names es same) =

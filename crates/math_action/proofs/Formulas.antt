@@ -6,12 +6,12 @@ use Rattle.formula_core.specs.declared.raw.Raw.TheVariants as raw
 use Rattle.math_grammar.specs.declared.holes.Grade.{Grade}
 use Rattle.math_grammar.specs.declared.holes.Hole.{Hole}
 use Rattle.math_grammar.specs.declared.symbols.Symbol.{Symbol}
-use Rattle.math_grammar.specs.Levels.{fits, goes_on, binding_grade, is_closed}
+use Rattle.math_grammar.specs.Levels.{fits, goes_on, binding_grade, is_braced}
 use Rattle.math_grammar.specs.Tokens.{Item}
 use Rattle.math_grammar.specs.Grammar.{item, Reads, Spells}
 use Rattle.math_parse.specs.declared.frames.Frame.{Frame}
 use Rattle.math_parse.specs.declared.frames.Frame.TheVariants as frame
-use Rattle.math_parse.specs.Machine.{hole_of, State, want, have, finished, attach, step, complete, ended, is_open_ended, is_ready}
+use Rattle.math_parse.specs.Machine.{hole_of, ParseState, want, have, finished, attach, step, complete, ended, is_open_ended, is_ready}
 use Rattle.math_parse.proofs.Basics.{both, fits_reaches}
 use Rattle.math_parse.proofs.Readers.{option_ways}
 use Rattle.math_parse.proofs.Sound.{ways}
@@ -30,14 +30,14 @@ either_way false x = refl
 open_finished : (f : Frame) (t : Raw) → is_open_ended f ≡ true → (done : Grade × Raw) × (finished f t ≡ Some done)
 open_finished (frame.Between o l k a) t e = (_, refl)
 open_finished (frame.Prefixed q p) t e = (_, refl)
-open_finished (frame.Last c h b names parts p) t e = elim (ways (is_closed c)) [ inl closes ↦ (let e' = rw closes at e in cc) | inr on ↦ ((binding_grade c, raw.Bind b names (parts ++ t ∷ []) p), rw on refl) ]
+open_finished (frame.Last c h b names parts p) t e = elim (ways (is_braced c)) [ inl closes ↦ (let e' = rw closes at e in cc) | inr on ↦ ((binding_grade c, raw.Bind b names (parts ++ t ∷ []) p), rw on refl) ]
 open_finished _ t e = cc
 
 -- what needs a sign
 signed_unfinished : (f : Frame) (t : Raw) → is_open_ended f ≡ false → finished f t ≡ None
 signed_unfinished (frame.Between o l k a) t e = cc
 signed_unfinished (frame.Prefixed q p) t e = cc
-signed_unfinished (frame.Last c h b names parts p) t e = elim (ways (is_closed c)) [ inl closes ↦ rw closes refl | inr on ↦ (let e' = rw on at e in cc) ]
+signed_unfinished (frame.Last c h b names parts p) t e = elim (ways (is_braced c)) [ inl closes ↦ rw closes refl | inr on ↦ (let e' = rw on at e in cc) ]
 signed_unfinished _ t e = refl
 
 attach_separated : (limit : Option ℕ) (goal : Hole) (fs : List Frame) (g : Grade) (t : Raw) (x : Symbol) → Separates x → list_all is_open_ended fs ≡ true → attach limit goal fs g t x ≡ None
@@ -58,16 +58,16 @@ signed_incomplete goal (f ∷ fs) g t e = go (is_open_ended f) refl e (finished 
     go true a b None d k = rw d (either_way (fits (hole_of f) g) None)
     go true a b (Some done) d k = rw (d, k done.0 done.1 b) (either_way (fits (hole_of f) g) None)
 
-pub ready_stops : (limit : Option ℕ) (goal : Hole) (st : State) (x : Item) → Separates x.symbol → is_ready st ≡ true → step limit goal st x ≡ None
+pub ready_stops : (limit : Option ℕ) (goal : Hole) (st : ParseState) (x : Item) → Separates x.symbol → is_ready st ≡ true → step limit goal st x ≡ None
 ready_stops limit goal (have fs g t) x off e = attach_separated limit goal fs g t x.symbol off e
 ready_stops limit goal _ x off e = cc
 
-pub signed_ended : (goal : Hole) (st : State) → is_ready st ≡ false → ended goal st ≡ None
+pub signed_ended : (goal : Hole) (st : ParseState) → is_ready st ≡ false → ended goal st ≡ None
 signed_ended goal (have fs g t) e = signed_incomplete goal fs g t e
 signed_ended goal _ e = refl
 
 -- what is complete takes no such sign
-pub ended_stops : (limit : Option ℕ) (goal : Hole) (st : State) (t : Raw) (x : Item) → Separates x.symbol → ended goal st ≡ Some t → step limit goal st x ≡ None
+pub ended_stops : (limit : Option ℕ) (goal : Hole) (st : ParseState) (t : Raw) (x : Item) → Separates x.symbol → ended goal st ≡ Some t → step limit goal st x ≡ None
 ended_stops limit goal st t x off e =
     elim (ways (is_ready st)) [
       | inl ready ↦ ready_stops limit goal st x off ready
@@ -75,7 +75,7 @@ ended_stops limit goal st t x off e =
     ]
 
 -- what is complete at the end is complete before such a sign
-pub stops_before : (limit : Option ℕ) (goal : Hole) (st : State) (s : List Item) (t : Raw) (x : Item) (rest : List Item) → Separates x.symbol →
+pub stops_before : (limit : Option ℕ) (goal : Hole) (st : ParseState) (s : List Item) (t : Raw) (x : Item) (rest : List Item) → Separates x.symbol →
     reach limit goal st s ≡ stop (Some t) [] → reach limit goal st (s ++ x ∷ rest) ≡ stop (Some t) (x ∷ rest)
 stops_before limit goal st [] t x rest off e =
     let done : ended goal st ≡ Some t = cc in

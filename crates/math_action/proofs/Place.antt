@@ -15,7 +15,7 @@ use Rattle.math_grammar.specs.declared.symbols.Symbol.TheVariants as sign
 use Rattle.math_grammar.specs.Tokens.{Item}
 use Rattle.math_grammar.specs.Grammar.{item}
 use Rattle.math_grammar.specs.Actions.{SpellsAction}
-use Rattle.math_parse.specs.Machine.{State, want}
+use Rattle.math_parse.specs.Machine.{ParseState, want}
 use Rattle.math_parse.specs.PrivateReaders.{found}
 use Rattle.math_parse.proofs.Readers.{ReadsGrammar}
 use Rattle.math_parse.proofs.Reach.{Stop, stop, reach, outcome, run_reaches}
@@ -23,7 +23,7 @@ use Rattle.math_parse.proofs.Place as places
 use Rattle.math_parse.proofs.Sound as sounds
 use Rattle.math_action.specs.declared.stages.Head.{Head}
 use Rattle.math_action.specs.declared.stages.Head.TheVariants as head
-use Rattle.math_action.specs.PrivateMachine.{ActionState, formula, goal_of, action_reader}
+use Rattle.math_action.specs.PrivateMachine.{ActionState, formula, hole_after, action_reader}
 use Rattle.math_action.proofs.Outcomes.{action_run}
 use Rattle.math_action.proofs.Formulas.{stops_before}
 use Rattle.math_action.proofs.Complete.{after_stop, formula_run, complete_action}
@@ -55,12 +55,12 @@ module _ (limit : Option ℕ) where
   Leads st = (more : List Item) × (a : RawAction) × (action_run limit st more ≡ found a)
 
   -- a formula that can be completed
-  record IsCompletable (goal : Hole) (st : State) : Type 0 where
+  record IsCompletable (goal : Hole) (st : ParseState) : Type 0 where
     more : List Item
     tree : Raw
     stops : reach limit goal st more ≡ stop (Some tree) []
 
-  completable : (goal : Hole) {s0 rest : List Item} (st : State) → sounds.Sound limit goal s0 st rest → IsCompletable goal st
+  completable : (goal : Hole) {s0 rest : List Item} (st : ParseState) → sounds.Sound limit goal s0 st rest → IsCompletable goal st
   completable goal st ok =
       let a : places.Leads limit goal st = places.alive limit goal ok in
       record { more = a.0; tree = a.1; stops = outcome_found (reach limit goal st a.0) a.1 (sym (run_reaches limit goal st a.0) ∙ a.2) }
@@ -69,7 +69,7 @@ module _ (limit : Option ℕ) where
   name_stops = refl
 
   -- the expressions that are owed
-  pays : (targets : List Ref) (k : ℕ) (before : List Raw) (st : State) (s : List Item) (t : Raw) → reach limit hole.Expression st s ≡ stop (Some t) [] →
+  pays : (targets : List Ref) (k : ℕ) (before : List Raw) (st : ParseState) (s : List Item) (t : Raw) → reach limit hole.Expression st s ≡ stop (Some t) [] →
       length before + suc k ≡ length targets → (a : RawAction) × (action_run limit (formula (head.Assign targets before) st) (s ++ owed k) ≡ found a)
   pays targets zero before st s t e size =
       let full : nat_eq (length targets) (length (before ++ t ∷ [])) ≡ true = (let l = length-append before (t ∷ []) in grind (arith, nat_tests)) in (
@@ -87,7 +87,7 @@ module _ (limit : Option ℕ) where
             ∙ rw more others.1,
       )
 
-  alive_formula : {s0 m : List Item} (h : Head) (st : State) → Headed limit s0 h m → IsCompletable (goal_of h) st → Leads (formula h st)
+  alive_formula : {s0 m : List Item} (h : Head) (st : ParseState) → Headed limit s0 h m → IsCompletable (hole_after h) st → Leads (formula h st)
   alive_formula (head.Assign targets before) st (assigning less k) c =
       let p = pays targets (length targets - suc (length before)) before st c.more c.tree c.stops (omega (arith, less)) in
       (c.more ++ owed (length targets - suc (length before)), p.0, p.1)
@@ -108,7 +108,7 @@ module _ (limit : Option ℕ) where
   pub alive : {s0 rest : List Item} {st : ActionState} → Sound limit s0 st rest → Leads st
   alive (wanting {before} k first) = (a_name ∷ item sign.BecomesSuch 0 [] ∷ a_truth ∷ [], _, refl)
   alive (holding {before} {n} {p} is k first) = (item sign.BecomesSuch 0 [] ∷ a_truth ∷ [], _, refl)
-  alive (reading {h} {st} hd ok) = alive_formula h st hd (completable (goal_of h) st ok)
+  alive (reading {h} {st} hd ok) = alive_formula h st hd (completable (hole_after h) st ok)
   alive (argued {n} {p = p} {a = a} is whole_is reads fit) = (item sign.Becomes 0 [] ∷ a_name ∷ [], _, refl)
 
 -- the reader reads the grammar

@@ -9,12 +9,12 @@ use Rattle.math_grammar.specs.declared.symbols.Symbol.TheVariants as sign
 use Rattle.math_grammar.specs.Tokens.{Item}
 use Rattle.math_grammar.specs.Actions.{ref}
 use Rattle.math_parse.specs.Limits.{most_parts}
-use Rattle.math_parse.specs.Machine.{State, want, step, ended, is_ready, is_full}
+use Rattle.math_parse.specs.Machine.{ParseState, want, step, ended, is_ready, is_full}
 use Rattle.math_parse.proofs.Readers.{unless_full}
 use Rattle.math_parse.proofs.Small.{small_step}
 use Rattle.math_action.specs.declared.stages.Head.{Head}
 use Rattle.math_action.specs.declared.stages.Head.TheVariants as head
-use Rattle.math_action.specs.PrivateMachine.{ActionState, target, named, formula, applied, goal_of, ends_at, begin_target, if_first, after_target, separated, after_formula, read_on, after_argument, action_step, is_full_action}
+use Rattle.math_action.specs.PrivateMachine.{ActionState, target, named, formula, applied, hole_after, ends_at, begin_target, if_first, after_target, comma_taken, after_formula, read_on, after_argument, action_step, is_full_action}
 
 -- what is left of a step within the limit
 abbrev pub small_action : Option ActionState → Option ActionState
@@ -48,7 +48,7 @@ lean_argument : (r : Ref) (a : Raw) (x : Symbol) → IsLean (after_argument r a 
 lean_argument r a sign.Becomes = refl
 lean_argument r a _ = refl
 
-lean_separated : (h : Head) (e : Raw) → IsLean (separated h e)
+lean_separated : (h : Head) (e : Raw) → IsLean (comma_taken h e)
 lean_separated (head.Assign targets before) e =
     lean_cond (nat_lt (length (before ++ e ∷ [])) (length targets)) (formula (head.Assign targets (before ++ e ∷ [])) (want [])) refl
 lean_separated (head.Argument r) e = refl
@@ -60,7 +60,7 @@ lean_formula : (h : Head) (o : Option Raw) → IsLean (after_formula h o)
 lean_formula h None = refl
 lean_formula h (Some e) = lean_separated h e
 
-small_read : (h : Head) (o : Option State) → read_on h (unless_full is_full o) ≡ small_action (read_on h o)
+small_read : (h : Head) (o : Option ParseState) → read_on h (unless_full is_full o) ≡ small_action (read_on h o)
 small_read h None = refl
 small_read h (Some next) = go (is_full next)
   where
@@ -77,6 +77,6 @@ pub small_action_step : (st : ActionState) (x : Item) → action_step most_parts
 small_action_step (target before) x = lean_target before x.from x.text x.symbol
 small_action_step (named before r) x = lean_named before r x.symbol
 small_action_step (formula h st) x =
-    small_cond (ends_at h x.symbol && is_ready st) (after_formula h (ended (goal_of h) st)) (read_on h (step most_parts (goal_of h) st x)) (read_on h (step None (goal_of h) st x))
-    (lean_formula h (ended (goal_of h) st)) (ap (read_on h) (small_step (goal_of h) st x) ∙ small_read h (step None (goal_of h) st x))
+    small_cond (ends_at h x.symbol && is_ready st) (after_formula h (ended (hole_after h) st)) (read_on h (step most_parts (hole_after h) st x)) (read_on h (step None (hole_after h) st x))
+    (lean_formula h (ended (hole_after h) st)) (ap (read_on h) (small_step (hole_after h) st x) ∙ small_read h (step None (hole_after h) st x))
 small_action_step (applied r a) x = lean_argument r a x.symbol

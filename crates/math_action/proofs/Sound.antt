@@ -16,13 +16,13 @@ use Rattle.math_grammar.specs.Levels.{fits}
 use Rattle.math_grammar.specs.Tokens.{Item}
 use Rattle.math_grammar.specs.Grammar.{item, Reads, Spells}
 use Rattle.math_grammar.specs.Actions.{ref, Targets, last_target, next_target, Values, last_value, next_value, SpellsAction, assigns, applies, chooses_in, chooses_such}
-use Rattle.math_parse.specs.Machine.{State, want, step, ended, is_ready}
+use Rattle.math_parse.specs.Machine.{ParseState, want, step, ended, is_ready}
 use Rattle.math_parse.proofs.Basics.{both, chosen}
 use Rattle.math_parse.proofs.Sound as formulas
 use Rattle.math_action.proofs.Complete.{ends_separates}
 use Rattle.math_action.specs.declared.stages.Head.{Head}
 use Rattle.math_action.specs.declared.stages.Head.TheVariants as head
-use Rattle.math_action.specs.PrivateMachine.{ActionState, target, named, formula, applied, goal_of, ends_at, begin_target, after_target, separated, after_formula, read_on, after_argument, action_step, whole, action_ended}
+use Rattle.math_action.specs.PrivateMachine.{ActionState, target, named, formula, applied, hole_after, ends_at, begin_target, after_target, comma_taken, after_formula, read_on, after_argument, action_step, whole_action, action_ended}
 
 module _ (limit : Option ℕ) where
   -- The tokens s0 up to m spell what stands before a formula.
@@ -48,7 +48,7 @@ module _ (limit : Option ℕ) where
         ((all : List Ref) (after : List Item) → Targets before (item sign.Word p n ∷ rest) all after → Targets [] s0 all after) →
         (before ≡ [] → s0 ≡ item sign.Word p n ∷ rest) →
         Sound s0 (named before (ref n p)) rest
-    reading : {h : Head} {st : State} {m rest : List Item} → Headed s0 h m → formulas.Sound limit (goal_of h) m st rest → Sound s0 (formula h st) rest
+    reading : {h : Head} {st : ParseState} {m rest : List Item} → Headed s0 h m → formulas.Sound limit (hole_after h) m st rest → Sound s0 (formula h st) rest
     argued : {n u v : List ℕ} {o p q : ℕ} {g : Grade} {a : Raw} {m rest : List Item} → is_name n ≡ true →
         s0 ≡ item sign.Word p n ∷ item (sign.Open bracket.Round) o u ∷ m → Reads limit g m a (item (sign.Close bracket.Round) q v ∷ rest) → fits hole.Expression g ≡ true →
         Sound s0 (applied (ref n p) a) rest
@@ -91,7 +91,7 @@ module _ (limit : Option ℕ) where
 
   -- a formula with the sign that ends it
   sound_separated : {s0 m rest : List Item} (h : Head) (e : Raw) (x : Symbol) (q : ℕ) (w : List ℕ) (st : ActionState) → Headed s0 h m → ends_at h x ≡ true →
-      formulas.IsComplete limit (goal_of h) m e (item x q w ∷ rest) → separated h e ≡ Some st → Sound s0 st rest
+      formulas.IsComplete limit (hole_after h) m e (item x q w ∷ rest) → comma_taken h e ≡ Some st → Sound s0 st rest
   sound_separated (head.Assign targets before) e sign.Comma q w st (assigning less k) at c i =
       elim (chosen (nat_lt (length (before ++ e ∷ [])) (length targets)) i) [
         | inl y ↦ (
@@ -102,21 +102,21 @@ module _ (limit : Option ℕ) where
   sound_separated (head.Argument r) e (sign.Close bracket.Round) q w st (opening is whole_is) at c i = along i (argued is whole_is c.reads c.fit)
   sound_separated _ e _ q w st hd at c i = cc
 
-  sound_formula : {s0 m rest : List Item} (h : Head) (st : State) (x : Item) (new : ActionState) → Headed s0 h m → formulas.Sound limit (goal_of h) m st (x ∷ rest) →
+  sound_formula : {s0 m rest : List Item} (h : Head) (st : ParseState) (x : Item) (new : ActionState) → Headed s0 h m → formulas.Sound limit (hole_after h) m st (x ∷ rest) →
       action_step limit (formula h st) x ≡ Some new → Sound s0 new rest
   sound_formula {s0} {m} {rest} h st x new hd ok e =
       elim (chosen (ends_at h x.symbol && is_ready st) e) [
-        | inl y ↦ ended_here (both (ends_at h x.symbol) (is_ready st) y.0).0 (ended (goal_of h) st) refl y.1
-        | inr n ↦ read_here (step limit (goal_of h) st x) refl n.1
+        | inl y ↦ ended_here (both (ends_at h x.symbol) (is_ready st) y.0).0 (ended (hole_after h) st) refl y.1
+        | inr n ↦ read_here (step limit (hole_after h) st x) refl n.1
       ]
     where
-      ended_here : ends_at h x.symbol ≡ true → (o : Option Raw) → ended (goal_of h) st ≡ o → after_formula h o ≡ Some new → Sound s0 new rest
+      ended_here : ends_at h x.symbol ≡ true → (o : Option Raw) → ended (hole_after h) st ≡ o → after_formula h o ≡ Some new → Sound s0 new rest
       ended_here at None d i = cc
-      ended_here at (Some t) d i = sound_separated h t x.symbol x.from x.text new hd at (formulas.sound_stop limit (goal_of h) st t (ends_separates h x.symbol at) ok d) i
+      ended_here at (Some t) d i = sound_separated h t x.symbol x.from x.text new hd at (formulas.sound_stop limit (hole_after h) st t (ends_separates h x.symbol at) ok d) i
 
-      read_here : (o : Option State) → step limit (goal_of h) st x ≡ o → read_on h o ≡ Some new → Sound s0 new rest
+      read_here : (o : Option ParseState) → step limit (hole_after h) st x ≡ o → read_on h o ≡ Some new → Sound s0 new rest
       read_here None d i = cc
-      read_here (Some next) d i = along i (reading hd (formulas.sound_step limit (goal_of h) st x next ok d))
+      read_here (Some next) d i = along i (reading hd (formulas.sound_step limit (hole_after h) st x next ok d))
 
   sound_argued : {s0 m rest : List Item} {g : Grade} {n u v : List ℕ} {o p q : ℕ} {a : Raw} (r : ℕ) (w : List ℕ) (x : Symbol) (st : ActionState) → is_name n ≡ true →
       s0 ≡ item sign.Word p n ∷ item (sign.Open bracket.Round) o u ∷ m → Reads limit g m a (item (sign.Close bracket.Round) q v ∷ item x r w ∷ rest) → fits hole.Expression g ≡ true →
@@ -132,7 +132,7 @@ module _ (limit : Option ℕ) where
   sound_step st x new (reading {h} {st = inner} hd ok) e = sound_formula h inner x new hd ok e
   sound_step st x new (argued is whole_is reads fit) e = sound_argued x.from x.text x.symbol new is whole_is reads fit e
 
-  sound_whole : {s0 m : List Item} (h : Head) (e : Raw) (a : RawAction) → Headed s0 h m → Spells limit (goal_of h) m e → whole h e ≡ Some a → SpellsAction limit s0 a
+  sound_whole : {s0 m : List Item} (h : Head) (e : Raw) (a : RawAction) → Headed s0 h m → Spells limit (hole_after h) m e → whole_action h e ≡ Some a → SpellsAction limit s0 a
   sound_whole {s0} (head.Assign targets before) e a (assigning less k) sp i =
       elim (chosen (nat_eq (length targets) (length (before ++ e ∷ []))) i) [
         | inl y ↦ (
@@ -149,11 +149,11 @@ module _ (limit : Option ℕ) where
   sound_whole (head.Argument r) e a hd sp i = cc
 
   pub sound_end : {s0 : List Item} (st : ActionState) (a : RawAction) → Sound s0 st [] → action_ended st ≡ Some a → SpellsAction limit s0 a
-  sound_end {s0} st a (reading {h} {st = inner} {m} hd ok) e = go (ended (goal_of h) inner) refl e
+  sound_end {s0} st a (reading {h} {st = inner} {m} hd ok) e = go (ended (hole_after h) inner) refl e
     where
-      go : (o : Option Raw) → ended (goal_of h) inner ≡ o → option_and_then (whole h) o ≡ Some a → SpellsAction limit s0 a
+      go : (o : Option Raw) → ended (hole_after h) inner ≡ o → option_and_then (whole_action h) o ≡ Some a → SpellsAction limit s0 a
       go None d i = cc
-      go (Some t) d i = sound_whole h t a hd (formulas.sound_end limit (goal_of h) inner t ok d) i
+      go (Some t) d i = sound_whole h t a hd (formulas.sound_end limit (hole_after h) inner t ok d) i
   sound_end st a (wanting k first) e = cc
   sound_end st a (holding is k first) e = cc
   sound_end st a (argued is whole_is reads fit) e = cc

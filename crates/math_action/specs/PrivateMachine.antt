@@ -12,7 +12,7 @@ use Rattle.math_grammar.specs.declared.symbols.Symbol.{Symbol}
 use Rattle.math_grammar.specs.declared.symbols.Symbol.TheVariants as sym
 use Rattle.math_grammar.specs.Tokens.{Item}
 use Rattle.math_grammar.specs.Actions.{ref}
-use Rattle.math_parse.specs.Machine.{State, want, step, ended, is_ready, is_full}
+use Rattle.math_parse.specs.Machine.{ParseState, want, step, ended, is_ready, is_full}
 use Rattle.math_parse.specs.PrivateReaders.{TokenReader}
 use Rattle.math_action.specs.declared.stages.Head.{Head}
 use Rattle.math_action.specs.declared.stages.Head.TheVariants.{Assign, Argument, Apply, ChooseIn, ChooseSuch}
@@ -22,13 +22,13 @@ pub data ActionState : Type 0 where
   target : (before : List Ref) → ActionState
   named : (before : List Ref) (r : Ref) → ActionState
   -- a formula is read
-  formula : (h : Head) (st : State) → ActionState
+  formula : (h : Head) (st : ParseState) → ActionState
   -- ≔ is wanted behind a name with its argument
   applied : (r : Ref) (a : Raw) → ActionState
 
-abbrev pub goal_of : Head → Hole
-goal_of (ChooseSuch targets) = hole.Predicate
-goal_of _ = hole.Expression
+abbrev pub hole_after : Head → Hole
+hole_after (ChooseSuch targets) = hole.Predicate
+hole_after _ = hole.Expression
 
 -- the sign may end the formula
 abbrev pub ends_at : Head → Symbol → Bool
@@ -55,17 +55,17 @@ after_target before r (sym.Open bracket.Round) = if_first before (formula (Argum
 after_target before r _ = None
 
 -- a formula with a sign that ends it
-abbrev pub separated : Head → Raw → Option ActionState
-separated (Assign targets before) e =
+abbrev pub comma_taken : Head → Raw → Option ActionState
+comma_taken (Assign targets before) e =
     cond (nat_lt (length (before ++ e ∷ [])) (length targets)) (Some (formula (Assign targets (before ++ e ∷ [])) (want []))) None
-separated (Argument r) a = Some (applied r a)
-separated _ e = None
+comma_taken (Argument r) a = Some (applied r a)
+comma_taken _ e = None
 
 abbrev pub after_formula : Head → Option Raw → Option ActionState
 after_formula h None = None
-after_formula h (Some e) = separated h e
+after_formula h (Some e) = comma_taken h e
 
-abbrev pub read_on : Head → Option State → Option ActionState
+abbrev pub read_on : Head → Option ParseState → Option ActionState
 read_on h None = None
 read_on h (Some st) = Some (formula h st)
 
@@ -78,21 +78,21 @@ abbrev pub action_step : Option ℕ → ActionState → Item → Option ActionSt
 action_step limit (target before) x = begin_target before x.from x.text x.symbol
 action_step limit (named before r) x = after_target before r x.symbol
 action_step limit (formula h st) x =
-    cond (ends_at h x.symbol && is_ready st) (after_formula h (ended (goal_of h) st)) (read_on h (step limit (goal_of h) st x))
+    cond (ends_at h x.symbol && is_ready st) (after_formula h (ended (hole_after h) st)) (read_on h (step limit (hole_after h) st x))
 action_step limit (applied r a) x = after_argument r a x.symbol
 
 -- the last formula
-abbrev pub whole : Head → Raw → Option RawAction
-whole (Assign targets before) e =
+abbrev pub whole_action : Head → Raw → Option RawAction
+whole_action (Assign targets before) e =
     cond (nat_eq (length targets) (length (before ++ e ∷ []))) (Some (action.Assign targets (before ++ e ∷ []))) None
-whole (Argument r) a = None
-whole (Apply r a) e = Some (action.Apply r a e)
-whole (ChooseIn r) e = Some (action.ChooseIn r e)
-whole (ChooseSuch targets) t = Some (action.ChooseSuch targets t)
+whole_action (Argument r) a = None
+whole_action (Apply r a) e = Some (action.Apply r a e)
+whole_action (ChooseIn r) e = Some (action.ChooseIn r e)
+whole_action (ChooseSuch targets) t = Some (action.ChooseSuch targets t)
 
 -- the end of the tokens
 abbrev pub action_ended : ActionState → Option RawAction
-action_ended (formula h st) = option_and_then (whole h) (ended (goal_of h) st)
+action_ended (formula h st) = option_and_then (whole_action h) (ended (hole_after h) st)
 action_ended _ = None
 
 -- a part behind the last one allowed is wanted

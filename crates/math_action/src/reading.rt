@@ -3,7 +3,7 @@
 ghost use Rattle.std.specs.Prelude.{◌≡◌, IfOk, IfErr};
 ghost use Rattle.formula_core.specs.declared.raw.RawAction.{RawAction};
 ghost use Rattle.math_grammar.specs.Tokens.{items_of};
-ghost use Rattle.math_parse.specs.Limits.{Finds};
+ghost use Rattle.math_parse.specs.Limits.{FindsFormula};
 ghost use Rattle.math_parse.specs.PrivateReaders.{ReadsTokens};
 ghost use Rattle.math_action.specs.Limits.{IsAction, IsActionFault};
 ghost use Rattle.math_action.specs.PrivateMachine.{is_full_action, action_reader};
@@ -60,7 +60,7 @@ pub fn action(alloc: Global, text: &str, tokens: &[Token]) -> Result<RawAction, 
     // What is found is spelled so, within the limits.
     ensures found { IfOk result (λ a. IsAction (items_of text.now tokens.now) a) }
     // What is spelled so is found, unless memory runs out.
-    ensures only { (a : RawAction) → IsAction (items_of text.now tokens.now) a → Finds result a }
+    ensures only { (a : RawAction) → IsAction (items_of text.now tokens.now) a → FindsFormula result a }
     // Else the place is that of the first token that no action within the limits has there.
     ensures fault { IfErr result (λ fault. IsActionFault (items_of text.now tokens.now) fault) }
 {

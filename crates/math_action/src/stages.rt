@@ -1,7 +1,7 @@
 //! What is read of an action.
 
 ghost use Rattle.std.specs.Prelude.{◌≡◌};
-ghost use Rattle.math_action.specs.PrivateMachine.{goal_of, ends_at};
+ghost use Rattle.math_action.specs.PrivateMachine.{hole_after, ends_at};
 
 use formula_core::{List, Raw, Ref};
 use math_grammar::{Bracket, Hole, Symbol};
@@ -36,7 +36,7 @@ pub enum Stage {
 impl Head {
     /// What the formula behind it is.
     pub fn goal(&self) -> Hole
-        ensures { result ≡ goal_of self.now }
+        ensures { result ≡ hole_after self.now }
     {
         match self {
             Head::ChooseSuch(_) => Hole::Predicate,

@@ -1,7 +1,7 @@
 //! The reader of actions: it reads token by token.
 
 ghost use Rattle.std.specs.Prelude.{◌≡◌, ◌∷◌, ◌++◌, [], None, Some, IfOk};
-ghost use Rattle.math_action.specs.PrivateMachine.{begin_target, if_first, after_target, separated, after_argument, formula, action_step, whole, action_ended};
+ghost use Rattle.math_action.specs.PrivateMachine.{begin_target, if_first, after_target, comma_taken, after_argument, formula, action_step, whole_action, action_ended};
 ghost use Rattle.math_action.specs.declared.stages.Stage.TheVariants as stage;
 ghost use Rattle.math_action.specs.PrivateView.{action_state, ActionSteps, CompletesAction};
 ghost use Rattle.math_grammar.specs.Grammar.{item};
@@ -85,7 +85,7 @@ fn after_target(
 
 /// A formula with the sign that ends it.
 fn separated(alloc: Global, head: Head, formula: Raw) -> Result<Stage, StepFault>
-    ensures { ActionSteps result (separated head formula) }
+    ensures { ActionSteps result (comma_taken head formula) }
 {
     match head {
         Head::Assign(targets, before) => {
@@ -158,7 +158,7 @@ pub fn step(
 
 /// The action with its last formula.
 fn whole(head: Head, formula: Raw) -> Result<RawAction, StepFault>
-    ensures { CompletesAction result (whole head formula) }
+    ensures { CompletesAction result (whole_action head formula) }
 {
     match head {
         Head::Assign(targets, before) => {

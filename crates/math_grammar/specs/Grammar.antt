@@ -25,7 +25,7 @@ use Rattle.math_grammar.specs.declared.levels.Binding.TheVariants as binding
 use Rattle.math_grammar.specs.declared.symbols.Symbol.{Symbol}
 use Rattle.math_grammar.specs.declared.symbols.Symbol.TheVariants as sym
 use Rattle.math_grammar.specs.declared.shapes.Shape.{Shape}
-use Rattle.math_grammar.specs.Levels.{suffix_of, level, right_of, takes_left, fits, goes_on, grouped, suffixes, infix_of, prefix_of, prefix_hole, prefix_grade, prefix_op, call_hole, call_grade, call_parts, has_room, opens, binding_grade, binder_of, implicit_of, is_quantified, takes_names, takes_shape, is_closed}
+use Rattle.math_grammar.specs.Levels.{suffix_of, level, right_of, takes_left, fits, goes_on, grouped, suffixes, infix_of, prefix_of, prefix_hole, prefix_grade, prefix_op, call_hole, call_grade, call_parts, has_room, opens, binding_grade, binder_of, implicit_of, is_quantified, takes_names, takes_shape, is_braced}
 use Rattle.math_grammar.specs.Tokens.{Item}
 
 abbrev pub item : Symbol → ℕ → List ℕ → Item
@@ -58,9 +58,9 @@ abbrev pub lone : List ℕ → ℕ → Option Raw → Shape
 lone n p t = record { names = bound n p t ∷ []; tree = raw.Name n p }
 
 -- ↦ in a pattern reads from left to right
-abbrev pub joined : Option Shape → Shape → Shape
-joined None a = a
-joined (Some b) a = record { names = b.names ++ a.names; tree = between (rawop.Plain op.Maplet) b.tree a.tree }
+abbrev pub joined_shape : Option Shape → Shape → Shape
+joined_shape None a = a
+joined_shape (Some b) a = record { names = b.names ++ a.names; tree = between (rawop.Plain op.Maplet) b.tree a.tree }
 
 -- What stands on the right of a sign reaches as far as it can: the next token doesn't go on with it.
 abbrev pub Ends : Hole → Grade → List Item → Type 0
@@ -161,17 +161,17 @@ mutual
   -- the last part of a form: up to its brace, or as far as it reaches
   pub data LastPart (limit : Option ℕ) : Binding → Hole → List Item → Raw → List Item → Type 0 where
     up_to_brace : {c : Binding} {h : Hole} {g : Grade} {p : ℕ} {w : List ℕ} {s rest : List Item} {t : Raw} →
-        is_closed c ≡ true → Reads limit g s t (item (sym.Close bracket.Brace) p w ∷ rest) → fits h g ≡ true →
+        is_braced c ≡ true → Reads limit g s t (item (sym.Close bracket.Brace) p w ∷ rest) → fits h g ≡ true →
         LastPart limit c h s t rest
     reaching : {c : Binding} {h : Hole} {g : Grade} {s rest : List Item} {t : Raw} →
-        is_closed c ≡ false → Reads limit g s t rest → fits h g ≡ true → Ends h g rest → LastPart limit c h s t rest
+        is_braced c ≡ false → Reads limit g s t rest → fits h g ≡ true → Ends h g rest → LastPart limit c h s t rest
 
   -- a pattern of λ, behind what stands before its last ↦
   pub data Pattern (limit : Option ℕ) : Option Shape → List Item → Shape → List Item → Type 0 where
     last_atom : {before : Option Shape} {a : Shape} {s rest : List Item} →
-        Atom limit s a rest → Pattern limit before s (joined before a) rest
+        Atom limit s a rest → Pattern limit before s (joined_shape before a) rest
     next_atom : {before : Option Shape} {a shape : Shape} {o : RawOp} {p : ℕ} {w : List ℕ} {s m rest : List Item} →
-        Atom limit s a (item (sym.Infix lev.Maplet o) p w ∷ m) → Pattern limit (Some (joined before a)) m shape rest →
+        Atom limit s a (item (sym.Infix lev.Maplet o) p w ∷ m) → Pattern limit (Some (joined_shape before a)) m shape rest →
         Pattern limit before s shape rest
 
   -- a name, with or without a type, or a pattern in parentheses

@@ -271,6 +271,6 @@ takes_shape (binding.Reaching b) = true
 takes_shape _ = false
 
 -- a bracket ends it
-abbrev pub is_closed : Binding → Bool
-is_closed binding.Set = true
-is_closed _ = false
+abbrev pub is_braced : Binding → Bool
+is_braced binding.Set = true
+is_braced _ = false

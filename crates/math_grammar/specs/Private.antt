@@ -3,5 +3,5 @@ use Rattle.std.specs.Prelude.{ℕ, List, map}
 use Rattle.std.specs.Borrow.{Bor}
 use Rattle.math_grammar.specs.declared.symbols.Symbol.{Symbol}
 
-abbrev pub entries : List (Bor (List ℕ) × Symbol) → List (List ℕ × Symbol)
-entries table = map (λ e. (e.0.now, e.1)) table
+abbrev pub table_entries : List (Bor (List ℕ) × Symbol) → List (List ℕ × Symbol)
+table_entries table = map (λ e. (e.0.now, e.1)) table

@@ -1,7 +1,7 @@
 //! The levels of operators, and the forms that have words or brackets of their own.
 
 ghost use Rattle.std.specs.Prelude.{◌≡◌, None};
-ghost use Rattle.math_grammar.specs.Levels.{level, right_of, takes_left, left_of, agrees, prefix_hole, prefix_grade, prefix_op, call_hole, call_grade, call_parts, has_room, binding_grade, binder_of, implicit_of, is_quantified, is_closed};
+ghost use Rattle.math_grammar.specs.Levels.{level, right_of, takes_left, left_of, agrees, prefix_hole, prefix_grade, prefix_op, call_hole, call_grade, call_parts, has_room, binding_grade, binder_of, implicit_of, is_quantified, is_braced};
 
 use crate::holes::{Grade, Hole};
 use formula_core::{Binder, Op, RawBinder, RawOp};
@@ -242,7 +242,7 @@ impl Binding {
 
     /// Whether a bracket ends it.
     pub fn is_closed(self) -> bool
-        ensures { result ≡ is_closed self }
+        ensures { result ≡ is_braced self }
     {
         matches!(self, Binding::Set)
     }

@@ -2,7 +2,7 @@
 
 ghost use Rattle.std.specs.Prelude.{◌≡◌};
 ghost use Rattle.math_grammar.specs.Tokens.{word_in, sign_at, symbol_of};
-ghost use Rattle.math_grammar.specs.Private.{entries};
+ghost use Rattle.math_grammar.specs.Private.{table_entries};
 
 use crate::levels::Call;
 use crate::symbols::{SYMBOLS, Symbol};
@@ -53,7 +53,7 @@ pub const WORDS: [(&str, Symbol); 18] = [
 ];
 
 fn word_in(table: &[(&str, Symbol)], word: &[u8]) -> Option<Symbol>
-    ensures { result ≡ word_in (entries table.now) word.now }
+    ensures { result ≡ word_in (table_entries table.now) word.now }
 {
     for (text, symbol) in table {
         if text.as_bytes() == word {

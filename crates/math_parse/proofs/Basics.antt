@@ -27,13 +27,13 @@ use Rattle.math_grammar.specs.Levels.{rank, typed, level, left_of, agrees, takes
 use Rattle.math_grammar.specs.Grammar.{between, bound, place_of}
 use Rattle.math_parse.specs.declared.frames.Frame.{Frame}
 use Rattle.math_parse.specs.declared.frames.Frame.TheVariants.{Between, Prefixed, Suffixed}
-use Rattle.math_parse.specs.Machine.{want, name_at, name_of, with_type, typed_name_at, typed_name_of, declares, bound_of, with_bound, with_declared, bounds_of, opened, begin, extend_infix, extend_suffix, extend}
+use Rattle.math_parse.specs.Machine.{want, plain_name_at, plain_name_of, with_type, typed_name_at, typed_name_of, declares, bound_from, with_bound, with_declared, bounds_from, binding_opened, begin, extend_infix, extend_suffix, extend}
 
-pub name_of-name : (n : List ℕ) (p : ℕ) → name_of (raw.Name n p) ≡ Some (n, p)
-name_of-name n p = ap name_at (outs-Name n p)
+pub name_of-name : (n : List ℕ) (p : ℕ) → plain_name_of (raw.Name n p) ≡ Some (n, p)
+name_of-name n p = ap plain_name_at (outs-Name n p)
 
-pub name_of-between : (o : RawOp) (a b : Raw) → name_of (between o a b) ≡ None
-name_of-between o a b = ap name_at (outs-Node o (a ∷ b ∷ []) (place_of a))
+pub name_of-between : (o : RawOp) (a b : Raw) → plain_name_of (between o a b) ≡ None
+name_of-between o a b = ap plain_name_at (outs-Node o (a ∷ b ∷ []) (place_of a))
 
 pub typed_name_of-between : (o : RawOp) (n : List ℕ) (p : ℕ) (t : Raw) → typed_name_of (between o (raw.Name n p) t) ≡ Some (n, p, t)
 typed_name_of-between o n p t = ap typed_name_at (outs-Node o (raw.Name n p ∷ t ∷ []) (place_of (raw.Name n p))) ∙ ap (λ m. with_type m t) (name_of-name n p)
@@ -41,17 +41,17 @@ typed_name_of-between o n p t = ap typed_name_at (outs-Node o (raw.Name n p ∷ 
 pub typed_name_of-name : (n : List ℕ) (p : ℕ) → typed_name_of (raw.Name n p) ≡ None
 typed_name_of-name n p = ap typed_name_at (outs-Name n p)
 
-pub bound_of-name : (n : List ℕ) (p : ℕ) → bound_of (raw.Name n p) ≡ Some (bound n p None)
+pub bound_of-name : (n : List ℕ) (p : ℕ) → bound_from (raw.Name n p) ≡ Some (bound n p None)
 bound_of-name n p = ap (λ o. declares o (typed_name_of (raw.Name n p))) (name_of-name n p)
 
-pub bound_of-between : (o : RawOp) (n : List ℕ) (p : ℕ) (t : Raw) → bound_of (between o (raw.Name n p) t) ≡ Some (bound n p (Some t))
+pub bound_of-between : (o : RawOp) (n : List ℕ) (p : ℕ) (t : Raw) → bound_from (between o (raw.Name n p) t) ≡ Some (bound n p (Some t))
 bound_of-between o n p t =
     ap (λ m. declares m (typed_name_of (between o (raw.Name n p) t))) (name_of-between o (raw.Name n p) t)
     ∙ ap (declares None) (typed_name_of-between o n p t)
 
 -- one declaration more
-pub bounds_of-more : (rs : List Raw) (r : Raw) (bs : List RawBound) (b : RawBound) → bounds_of rs ≡ Some bs → bound_of r ≡ Some b → bounds_of (rs ++ r ∷ []) ≡ Some (bs ++ b ∷ [])
-bounds_of-more rs r bs b e f = fold-append with_declared (Some []) rs (r ∷ []) ∙ ap (λ o. with_bound o (bound_of r)) e ∙ ap (with_bound (Some bs)) f
+pub bounds_of-more : (rs : List Raw) (r : Raw) (bs : List RawBound) (b : RawBound) → bounds_from rs ≡ Some bs → bound_from r ≡ Some b → bounds_from (rs ++ r ∷ []) ≡ Some (bs ++ b ∷ [])
+bounds_of-more rs r bs b e f = fold-append with_declared (Some []) rs (r ∷ []) ∙ ap (λ o. with_bound o (bound_from r)) e ∙ ap (with_bound (Some bs)) f
 
 pub both : (a b : Bool) → (a && b) ≡ true → (a ≡ true) × (b ≡ true)
 both true b h = (refl, h)
@@ -246,7 +246,7 @@ prefix_begins h fs p w sign.Minus pre.Minus e r = rw r refl
 prefix_begins h fs p w sign.Minus pre.Not e r = cc
 prefix_begins h fs p w _ q e r = cc
 
-pub binding_begins : (h : Hole) (fs : List Frame) (p : ℕ) (w : List ℕ) (x : Symbol) (c : Binding) → opens x ≡ Some c → reaches h (binding_grade c) ≡ true → begin h fs p w x ≡ Some (opened c fs p)
+pub binding_begins : (h : Hole) (fs : List Frame) (p : ℕ) (w : List ℕ) (x : Symbol) (c : Binding) → opens x ≡ Some c → reaches h (binding_grade c) ≡ true → begin h fs p w x ≡ Some (binding_opened c fs p)
 binding_begins h fs p w (sign.Binder b) c e r = let same : b ≡ c = cc in rw (same, r) refl
-binding_begins h fs p w (sign.Open bracket.Brace) c e r = let same : binding.Set ≡ c = cc in let r' : reaches h (binding_grade binding.Set) ≡ true = subst (λ d. reaches h (binding_grade d) ≡ true) (sym same) r in rw r' (ap (λ d. Some (opened d fs p)) same)
+binding_begins h fs p w (sign.Open bracket.Brace) c e r = let same : binding.Set ≡ c = cc in let r' : reaches h (binding_grade binding.Set) ≡ true = subst (λ d. reaches h (binding_grade d) ≡ true) (sym same) r in rw r' (ap (λ d. Some (binding_opened d fs p)) same)
 binding_begins h fs p w _ c e r = cc

@@ -6,7 +6,7 @@ use Rattle.math_grammar.specs.Tokens.{Item, item_of, items_of}
 use Rattle.math_parse.specs.declared.fault.ParseFault.{ParseFault}
 use Rattle.math_parse.specs.declared.fault.ParseFault.TheVariants as fault
 use Rattle.math_parse.specs.Faults.{BeginsOne}
-use Rattle.math_parse.specs.Limits.{most_parts, passes, open_after, first_large_from, SpellsWithin, Finds, IsFaultOf}
+use Rattle.math_parse.specs.Limits.{most_parts, passes, open_after, first_large_from, SpellsWithin, FindsFormula, IsFaultOf}
 use Rattle.math_parse.specs.PrivateReaders.{TokenReader, found, refused, outcome_by, LimitedReading, read_whole, stopped, passed, at_end, next_reading, reading, ReadsTokens}
 use Rattle.math_parse.proofs.Basics.{chosen}
 use Rattle.math_parse.proofs.Readers.{unless_full, ReadsGrammar, found_one, unexpected}
@@ -209,7 +209,7 @@ module _ {S T : Type 0} {r : TokenReader S T} {IsOne : Option ℕ → List Item 
     answer_found (Ok t) p = whole_now t p
     answer_found (Err e) p = tt
 
-    pub answer_only : (z : Result T ParseFault) → ReadsTokens r text tokens z → (t : T) → SpellsWithin IsOne items t → Finds z t
+    pub answer_only : (z : Result T ParseFault) → ReadsTokens r text tokens z → (t : T) → SpellsWithin IsOne items t → FindsFormula z t
     answer_only (Ok u) p t sp =
         let w = whole_reading text 0 0 r.start tokens u p in
         let f : outcome_by r most_parts r.start items ≡ found t = d.finds most_parts items t sp.0 in

@@ -27,12 +27,12 @@ use Rattle.math_grammar.specs.declared.levels.Binding.TheVariants as binding
 use Rattle.math_grammar.specs.declared.symbols.Symbol.{Symbol}
 use Rattle.math_grammar.specs.declared.symbols.Symbol.TheVariants as sign
 use Rattle.math_grammar.specs.declared.shapes.Shape.{Shape}
-use Rattle.math_grammar.specs.Levels.{rank, least, most, right_of, reaches, fits, grouped, goes_on, prefix_hole, prefix_grade, prefix_op, call_hole, call_grade, binding_grade, binder_of, implicit_of, is_quantified, is_closed}
+use Rattle.math_grammar.specs.Levels.{rank, least, most, right_of, reaches, fits, grouped, goes_on, prefix_hole, prefix_grade, prefix_op, call_hole, call_grade, binding_grade, binder_of, implicit_of, is_quantified, is_braced}
 use Rattle.math_grammar.specs.Tokens.{Item}
-use Rattle.math_grammar.specs.Grammar.{item, bound, between, type_with, lone, joined, Ends, Reads, Spells}
+use Rattle.math_grammar.specs.Grammar.{item, bound, between, type_with, lone, joined_shape, Ends, Reads, Spells}
 use Rattle.math_parse.specs.declared.frames.Frame.{Frame}
 use Rattle.math_parse.specs.declared.frames.Frame.TheVariants as frame
-use Rattle.math_parse.specs.Machine.{hole_of, place, State, want, have, shape_want, shape_name, shape_have, name_of, body_of, finished, shape_next, closed}
+use Rattle.math_parse.specs.Machine.{hole_of, hole_wanted, ParseState, want, have, shape_want, shape_name, shape_have, plain_name_of, binding_body, finished, shape_next, closed}
 use Rattle.math_parse.specs.PrivateReaders.{found, formula_reader, run}
 use Rattle.math_parse.proofs.Basics.{name_of-name, both, fits_reaches, rank_most, level_rank, left_most, reached, name_reaches, group_fits}
 use Rattle.math_parse.proofs.Complete.{Stops, attach_infix, suffix_closes}
@@ -128,7 +128,7 @@ module _ (limit : Option ℕ) where
   Quiet (x ∷ rest) = (h : Hole) (g : Grade) → fits h g ≡ true → IsSorted h → goes_on h g x.symbol ≡ false
 
   -- some tokens lead to a sentence
-  record Alive (goal : Hole) (st : State) : Type 0 where
+  record Alive (goal : Hole) (st : ParseState) : Type 0 where
     more : List Item
     tree : Raw
     quiet : Quiet more
@@ -152,7 +152,7 @@ module _ (limit : Option ℕ) where
   }
 
   -- a form that takes a sign
-  alive_sign : (goal : Hole) (f : Frame) (fs : List Frame) (g : Grade) (t : Raw) (x : Symbol) (st : State) → fits (hole_of f) g ≡ true →
+  alive_sign : (goal : Hole) (f : Frame) (fs : List Frame) (g : Grade) (t : Raw) (x : Symbol) (st : ParseState) → fits (hole_of f) g ≡ true →
       ((k : Hole) (l : Grade) → goes_on k l x ≡ false) → finished f t ≡ None → closed limit fs f g t x ≡ Some st → Alive goal st → Alive goal (have (f ∷ fs) g t)
   alive_sign goal f fs g t x st fit off e c a = record {
     more = item x 0 [] ∷ a.more;
@@ -170,20 +170,20 @@ module _ (limit : Option ℕ) where
   alive_name goal fs a = record { more = item sign.Word 0 a_word ∷ a.more; tree = a.tree; quiet = λ _ _ _ _. refl; done = name_begins goal fs a_word 0 a.more word_is_name ∙ a.done }
 
   -- what completes each formula that a place takes completes each that it may begin with: an expression where a predicate stands goes on by = and a name
-  alive_any : (goal : Hole) (fs : List Frame) → ((g : Grade) (t : Raw) → fits (place goal fs) g ≡ true → Holds g t → Alive goal (have fs g t)) →
-      (g : Grade) (t : Raw) → reaches (place goal fs) g ≡ true → Holds g t → Alive goal (have fs g t)
-  alive_any goal fs k g t low holds = go (nat_le (rank g) (most (place goal fs))) refl
+  alive_any : (goal : Hole) (fs : List Frame) → ((g : Grade) (t : Raw) → fits (hole_wanted goal fs) g ≡ true → Holds g t → Alive goal (have fs g t)) →
+      (g : Grade) (t : Raw) → reaches (hole_wanted goal fs) g ≡ true → Holds g t → Alive goal (have fs g t)
+  alive_any goal fs k g t low holds = go (nat_le (rank g) (most (hole_wanted goal fs))) refl
     where
-      go : (v : Bool) → nat_le (rank g) (most (place goal fs)) ≡ v → Alive goal (have fs g t)
+      go : (v : Bool) → nat_le (rank g) (most (hole_wanted goal fs)) ≡ v → Alive goal (have fs g t)
       go true e = k g t (rw (low, e) refl) holds
       go false e =
           let top : rank g ≤ 16 = rank_most g in
-          let above : most (place goal fs) < rank g = grind (arith, nat_tests) in
-          let three : (most (place goal fs) ≡ 3) × (least (place goal fs) ≤ 3) = low_most (place goal fs) (omega arith) in
+          let above : most (hole_wanted goal fs) < rank g = grind (arith, nat_tests) in
+          let three : (most (hole_wanted goal fs) ≡ 3) × (least (hole_wanted goal fs) ≤ 3) = low_most (hole_wanted goal fs) (omega arith) in
           let four : 4 ≤ rank g = omega arith in
           let whole : Raw = between (rawop.Plain op.Equal) t (raw.Name a_word 0) in
-          let low' : reaches (place goal fs) grade.Literal ≡ true = reached (place goal fs) grade.Literal three.1 in
-          let high : nat_le 3 (most (place goal fs)) ≡ true = rw three.0 refl in
+          let low' : reaches (hole_wanted goal fs) grade.Literal ≡ true = reached (hole_wanted goal fs) grade.Literal three.1 in
+          let high : nat_le 3 (most (hole_wanted goal fs)) ≡ true = rw three.0 refl in
           let a : Alive goal (have fs grade.Literal whole) = k grade.Literal whole (rw (low', high) refl) (low_holds grade.Literal whole (omega arith)) in
           record {
             more = item (sign.Infix lev.Relation (rawop.Plain op.Equal)) 0 [] ∷ item sign.Word 0 a_word ∷ a.more;
@@ -199,27 +199,27 @@ module _ (limit : Option ℕ) where
           }
 
   -- a formula is wanted
-  alive_want : (goal : Hole) (fs : List Frame) → reaches (place goal fs) grade.Name ≡ true → ((g : Grade) (t : Raw) → fits (place goal fs) g ≡ true → Holds g t → Alive goal (have fs g t)) → Alive goal (want fs)
+  alive_want : (goal : Hole) (fs : List Frame) → reaches (hole_wanted goal fs) grade.Name ≡ true → ((g : Grade) (t : Raw) → fits (hole_wanted goal fs) g ≡ true → Holds g t → Alive goal (have fs g t)) → Alive goal (want fs)
   alive_want goal fs r k = alive_name goal fs (alive_any goal fs k grade.Name (raw.Name a_word 0) r (λ e. (a_word, 0, refl)))
 
-  module _ (goal : Hole) (fs : List Frame) (up : (g : Grade) (t : Raw) → reaches (place goal fs) g ≡ true → Holds g t → Alive goal (have fs g t)) where
-    from_last : (c : Binding) (h : Hole) (b : RawBinder) (names : List RawBound) (parts : List Raw) (p : ℕ) → reaches (place goal fs) (binding_grade c) ≡ true → (h ≡ hole.Predicate) ⊎ (h ≡ hole.Expression) →
+  module _ (goal : Hole) (fs : List Frame) (up : (g : Grade) (t : Raw) → reaches (hole_wanted goal fs) g ≡ true → Holds g t → Alive goal (have fs g t)) where
+    from_last : (c : Binding) (h : Hole) (b : RawBinder) (names : List RawBound) (parts : List Raw) (p : ℕ) → reaches (hole_wanted goal fs) (binding_grade c) ≡ true → (h ≡ hole.Predicate) ⊎ (h ≡ hole.Expression) →
         (g : Grade) (t : Raw) → fits h g ≡ true → Alive goal (have (frame.Last c h b names parts p ∷ fs) g t)
     from_last c h b names parts p room sort g t fit =
         let whole : Raw = raw.Bind b names (parts ++ t ∷ []) p in
         let above : Alive goal (have fs (binding_grade c) whole) = up (binding_grade c) whole room (low_holds (binding_grade c) whole (binding_low c)) in
-        elim (ways (is_closed c)) [
+        elim (ways (is_braced c)) [
           | inl closes ↦ alive_sign goal (frame.Last c h b names parts p) fs g t (sign.Close bracket.Brace) (have fs (binding_grade c) whole) fit (λ _ _. refl) (rw closes refl) refl above
           | inr on ↦ alive_finished goal (frame.Last c h b names parts p) fs g (binding_grade c) t whole fit (sorted_part h sort) (rw on refl) above
         ]
 
-    from_given : (c : Binding) (names : List RawBound) (parts : List Raw) (p : ℕ) → reaches (place goal fs) (binding_grade c) ≡ true →
+    from_given : (c : Binding) (names : List RawBound) (parts : List Raw) (p : ℕ) → reaches (hole_wanted goal fs) (binding_grade c) ≡ true →
         (g : Grade) (t : Raw) → fits hole.Predicate g ≡ true → Alive goal (have (frame.Given c names parts p ∷ fs) g t)
     from_given c names parts p room g t fit =
         alive_sign goal (frame.Given c names parts p) fs g t sign.Bar (want (frame.Last c hole.Expression (binder_of c) names (parts ++ t ∷ []) p ∷ fs)) fit (λ _ _. refl) refl refl
         (alive_want goal (frame.Last c hole.Expression (binder_of c) names (parts ++ t ∷ []) p ∷ fs) refl (λ h u f _. from_last c hole.Expression (binder_of c) names (parts ++ t ∷ []) p room (inr refl) h u f))
 
-    from_body : (c : Binding) (names : List RawBound) (parts : List Raw) (p : ℕ) → reaches (place goal fs) (binding_grade c) ≡ true → Alive goal (want (body_of c names parts p ∷ fs))
+    from_body : (c : Binding) (names : List RawBound) (parts : List Raw) (p : ℕ) → reaches (hole_wanted goal fs) (binding_grade c) ≡ true → Alive goal (want (binding_body c names parts p ∷ fs))
     from_body c names parts p room = go (is_quantified c)
       where
         go : (v : Bool) → Alive goal (want (cond v (frame.Last c hole.Predicate (binder_of c) names parts p) (frame.Given c names parts p) ∷ fs))
@@ -227,22 +227,22 @@ module _ (limit : Option ℕ) where
         go false = alive_want goal (frame.Given c names parts p ∷ fs) refl (λ h u f _. from_given c names parts p room h u f)
 
     -- a part of a word's parentheses
-    alive_part : (c : Call) (o : RawOp) (before : List Raw) (p : ℕ) → reaches (place goal fs) (call_grade c) ≡ true →
+    alive_part : (c : Call) (o : RawOp) (before : List Raw) (p : ℕ) → reaches (hole_wanted goal fs) (call_grade c) ≡ true →
         (g : Grade) (t : Raw) → fits (call_hole c) g ≡ true → Holds g t → Alive goal (have (frame.Parts c o before p ∷ fs) g t)
     alive_part c o before p room g t fit _ =
         let whole : Raw = raw.Node o (before ++ t ∷ []) p in
         alive_sign goal (frame.Parts c o before p) fs g t (sign.Close bracket.Round) (have fs (call_grade c) whole) fit (λ _ _. refl) refl refl
         (up (call_grade c) whole room (low_holds (call_grade c) whole (call_low c)))
 
-  wanted_name : (goal : Hole) {s0 m : List Item} (fs : List Frame) → reads_formula fs ≡ true → Spelled limit goal s0 fs m → reaches (place goal fs) grade.Name ≡ true
-  wanted_name goal fs top sp = name_reaches (place goal fs)
+  wanted_name : (goal : Hole) {s0 m : List Item} (fs : List Frame) → reads_formula fs ≡ true → Spelled limit goal s0 fs m → reaches (hole_wanted goal fs) grade.Name ≡ true
+  wanted_name goal fs top sp = name_reaches (hole_wanted goal fs)
 
   rw_name : (goal : Hole) (fs : List Frame) (n : List ℕ) (p : ℕ) (rest : List Item) → is_name n ≡ true →
       run limit goal (shape_want fs) (item sign.Word p n ∷ rest) ≡ run limit goal (shape_name fs n p) rest
   rw_name goal fs n p rest e = rw e refl
 
   mutual
-    alive_fit : (goal : Hole) {s0 m : List Item} (fs : List Frame) → Spelled limit goal s0 fs m → reads_formula fs ≡ true → (g : Grade) (t : Raw) → fits (place goal fs) g ≡ true → Holds g t → Alive goal (have fs g t)
+    alive_fit : (goal : Hole) {s0 m : List Item} (fs : List Frame) → Spelled limit goal s0 fs m → reads_formula fs ≡ true → (g : Grade) (t : Raw) → fits (hole_wanted goal fs) g ≡ true → Holds g t → Alive goal (have fs g t)
     alive_fit goal fs nothing top g t fit holds = record { more = []; tree = t; quiet = tt; done = rw fit }
     alive_fit goal (f ∷ fs) (left_side {g = j} {k = k} {l = l} {o = o} {a = a} sp room left is takes lv) top g t fit holds =
         let low : rank k ≤ 15 = omega (arith, level_rank l j, left_most l, ap rank lv) in
@@ -254,7 +254,7 @@ module _ (limit : Option ℕ) where
         (alive_any goal fs (alive_fit goal fs sp (room_top goal fs (prefix_grade q) room (prefix_low q))) (prefix_grade q) whole room (low_holds (prefix_grade q) whole (prefix_low q)))
     alive_fit goal (f ∷ fs) (group_open sp room i) top g t fit holds =
         alive_sign goal f fs g t (sign.Close bracket.Round) (have fs (grouped g) t) fit (λ _ _. refl) refl refl
-        (alive_any goal fs (alive_fit goal fs sp (room_top goal fs grade.Primary room (omega arith))) (grouped g) t (group_fits (place goal fs) g room (rw i fit)) (low_holds (grouped g) t (grouped_low g)))
+        (alive_any goal fs (alive_fit goal fs sp (room_top goal fs grade.Primary room (omega arith))) (grouped g) t (group_fits (hole_wanted goal fs) g room (rw i fit)) (low_holds (grouped g) t (grouped_low g)))
     alive_fit goal (f ∷ fs) (parts_so_far {c = c} {o = o} {before = before} {p = p} sp room k) top g t fit holds =
         let whole : Raw = raw.Node o (before ++ t ∷ []) p in
         alive_sign goal f fs g t (sign.Close bracket.Round) (have fs (call_grade c) whole) fit (λ _ _. refl) refl refl
@@ -264,19 +264,19 @@ module _ (limit : Option ℕ) where
         (alive_any goal fs (alive_fit goal fs sp (room_top goal fs grade.Suffixed room (omega arith))) grade.Suffixed (between o u t) room (low_holds grade.Suffixed (between o u t) (omega arith)))
     alive_fit goal (f ∷ fs) (names_so_far {c = c} {before = before} {p = p} sp room is takes k) top g t fit holds =
         let n = holds (fits_name g fit) in
-        let same : name_of t ≡ Some (n.0, n.1) = ap name_of n.2 ∙ name_of-name n.0 n.1 in
-        alive_sign goal f fs g t sign.Dot (want (body_of c (before ++ bound n.0 n.1 None ∷ []) [] p ∷ fs)) fit (λ _ _. refl) refl (rw same refl)
+        let same : plain_name_of t ≡ Some (n.0, n.1) = ap plain_name_of n.2 ∙ name_of-name n.0 n.1 in
+        alive_sign goal f fs g t sign.Dot (want (binding_body c (before ++ bound n.0 n.1 None ∷ []) [] p ∷ fs)) fit (λ _ _. refl) refl (rw same refl)
         (from_body goal fs (alive_any goal fs (alive_fit goal fs sp (room_top goal fs (binding_grade c) room (binding_low c)))) c (before ++ bound n.0 n.1 None ∷ []) [] p room)
     alive_fit goal (f ∷ fs) (type_so_far {c = c} {before = before} {n = n} {pn = pn} {p = p} {side = side} sp room is takes k kt) top g t fit holds =
-        alive_sign goal f fs g t sign.Dot (want (body_of c (before ++ bound n pn (Some (type_with side t)) ∷ []) [] p ∷ fs)) fit (λ _ _. refl) refl refl
+        alive_sign goal f fs g t sign.Dot (want (binding_body c (before ++ bound n pn (Some (type_with side t)) ∷ []) [] p ∷ fs)) fit (λ _ _. refl) refl refl
         (from_body goal fs (alive_any goal fs (alive_fit goal fs sp (room_top goal fs (binding_grade c) room (binding_low c)))) c (before ++ bound n pn (Some (type_with side t)) ∷ []) [] p room)
     alive_fit goal (f ∷ fs) (listed_so_far {c = c} {before = before} {p = p} sp room is takes kp kn first none) top g t fit holds =
         let up = alive_any goal fs (alive_fit goal fs sp (room_top goal fs (binding_grade c) room (binding_low c))) in
-        elim (ways (is_closed c)) [
+        elim (ways (is_braced c)) [
           | inl closes ↦ (
               let whole : Raw = raw.Node (rawop.Plain op.SetExtension) (before ++ t ∷ []) p in
               alive_sign goal f fs g t (sign.Close bracket.Brace) (have fs grade.Primary whole) fit (λ _ _. refl) refl (rw closes refl)
-              (up grade.Primary whole (subst (λ k. reaches (place goal fs) (binding_grade k) ≡ true) (closed_set c closes) room) (low_holds grade.Primary whole (omega arith))))
+              (up grade.Primary whole (subst (λ k. reaches (hole_wanted goal fs) (binding_grade k) ≡ true) (closed_set c closes) room) (low_holds grade.Primary whole (omega arith))))
           | inr on ↦
               alive_sign goal f fs g t sign.Bar (want (frame.Last c hole.Predicate (implicit_of c) [] (t ∷ []) p ∷ fs)) fit (λ _ _. refl) refl (ap (λ l. shape_next fs c l t p) (none on))
               (alive_want goal (frame.Last c hole.Predicate (implicit_of c) [] (t ∷ []) p ∷ fs) refl (λ h u z _. from_last goal fs up c hole.Predicate (implicit_of c) [] (t ∷ []) p room (inl refl) h u z))
@@ -291,25 +291,25 @@ module _ (limit : Option ℕ) where
         alive_shape goal fs refl sp (lone n pn (Some t)) (have (f ∷ fs) g t) (λ x rest off. rw (off.0 hole.Arrow g, fit) refl)
 
     -- a pattern is held
-    alive_shape : (goal : Hole) {s0 m : List Item} (fs : List Frame) → reads_formula fs ≡ false → Spelled limit goal s0 fs m → (a : Shape) (st : State) →
+    alive_shape : (goal : Hole) {s0 m : List Item} (fs : List Frame) → reads_formula fs ≡ false → Spelled limit goal s0 fs m → (a : Shape) (st : ParseState) →
         ((x : Symbol) (rest : List Item) → Stops limit x → run limit goal st (item x 0 [] ∷ rest) ≡ run limit goal (shape_have fs a) (item x 0 [] ∷ rest)) → Alive goal st
     alive_shape goal (frame.Pattern inner before p ∷ fs) pat (pattern_so_far sp room k) a st same =
-        let b : Alive goal (want (frame.Given binding.Lambda (joined before a).names ((joined before a).tree ∷ []) p ∷ fs)) =
-        from_body goal fs (alive_any goal fs (alive_fit goal fs sp (room_top goal fs grade.Reaching room (omega arith)))) binding.Lambda (joined before a).names ((joined before a).tree ∷ []) p room in
+        let b : Alive goal (want (frame.Given binding.Lambda (joined_shape before a).names ((joined_shape before a).tree ∷ []) p ∷ fs)) =
+        from_body goal fs (alive_any goal fs (alive_fit goal fs sp (room_top goal fs grade.Reaching room (omega arith)))) binding.Lambda (joined_shape before a).names ((joined_shape before a).tree ∷ []) p room in
         record { more = item sign.Dot 0 [] ∷ b.more; tree = b.tree; quiet = λ _ _ _ _. refl; done = same sign.Dot b.more (λ _ _. refl, refl) ∙ b.done }
     alive_shape goal (frame.Pattern inner before p ∷ fs) pat (inner_so_far sp k) a st same =
-        let b : Alive goal (shape_have fs (joined before a)) = alive_shape goal fs refl sp (joined before a) (shape_have fs (joined before a)) (λ x rest off. refl) in
+        let b : Alive goal (shape_have fs (joined_shape before a)) = alive_shape goal fs refl sp (joined_shape before a) (shape_have fs (joined_shape before a)) (λ x rest off. refl) in
         record { more = item (sign.Close bracket.Round) 0 [] ∷ b.more; tree = b.tree; quiet = λ _ _ _ _. refl; done = same (sign.Close bracket.Round) b.more (λ _ _. refl, refl) ∙ b.done }
     alive_shape goal _ pat sp a st same = cc
 
-  abbrev pub Leads : Hole → State → Type 0
+  abbrev pub Leads : Hole → ParseState → Type 0
   Leads goal st = (more : List Item) × (tree : Raw) × (run limit goal st more ≡ found tree)
 
-  leads : (goal : Hole) (st : State) → Alive goal st → Leads goal st
+  leads : (goal : Hole) (st : ParseState) → Alive goal st → Leads goal st
   leads goal st a = (a.more, a.tree, a.done)
 
   -- from each state that is met a sentence can be reached
-  pub alive : (goal : Hole) {s0 rest : List Item} {st : State} → Sound limit goal s0 st rest → Leads goal st
+  pub alive : (goal : Hole) {s0 rest : List Item} {st : ParseState} → Sound limit goal s0 st rest → Leads goal st
   alive goal (wanting {fs} top sp) = leads goal (want fs) (alive_want goal fs (wanted_name goal fs top sp) (alive_fit goal fs sp top))
   alive goal (having {fs} {g} {t} top sp low r) = leads goal (have fs g t) (alive_any goal fs (alive_fit goal fs sp top) g t low (reads_holds g t r))
   alive goal (word_read {fs} {c} {o} {p} sp room) =

@@ -14,9 +14,9 @@ use Rattle.math_parse.specs.declared.fault.ParseFault.TheVariants as fault
 abbrev pub most_parts : Option ℕ
 most_parts = Some 25
 
-abbrev pub is_open : Symbol → Bool
-is_open (sym.Open b) = true
-is_open _ = false
+abbrev pub is_opening : Symbol → Bool
+is_opening (sym.Open b) = true
+is_opening _ = false
 
 -- how many brackets are open behind a token
 abbrev pub open_after : ℕ → Symbol → ℕ
@@ -26,7 +26,7 @@ open_after n _ = n
 
 -- the token at i, with so many brackets open before it, is the 513th or the 129th open bracket
 abbrev pub passes : ℕ → ℕ → Symbol → Bool
-passes i n x = nat_le 512 i || (is_open x && nat_le 128 n)
+passes i n x = nat_le 512 i || (is_opening x && nat_le 128 n)
 
 abbrev pub first_large_from : ℕ → ℕ → List Item → Option ℕ
 first_large_from i n [] = None
@@ -41,10 +41,10 @@ abbrev pub SpellsWithin : {T : Type 0} → (Option ℕ → List Item → T → T
 SpellsWithin IsOne tokens t = IsOne most_parts tokens t × (first_large tokens ≡ None)
 
 -- it is found, unless memory runs out
-abbrev pub Finds : {T : Type 0} → Result T ParseFault → T → Type 0
-Finds (Ok u) t = u ≡ t
-Finds (Err fault.OutOfMemory) t = Unit {0}
-Finds (Err _) t = ⊥
+abbrev pub FindsFormula : {T : Type 0} → Result T ParseFault → T → Type 0
+FindsFormula (Ok u) t = u ≡ t
+FindsFormula (Err fault.OutOfMemory) t = Unit {0}
+FindsFormula (Err _) t = ⊥
 
 -- The token at i passes a limit: of tokens, of open brackets, or it is a comma with which only larger partitions go on.
 abbrev pub IsTooLargeIn : {T : Type 0} → (Option ℕ → List Item → T → Type 0) → List Item → ℕ → Type 0

@@ -8,7 +8,7 @@ use Rattle.math_grammar.specs.Tokens.{Item, item_of}
 use Rattle.math_parse.specs.declared.fault.ParseFault.{ParseFault}
 use Rattle.math_parse.specs.declared.fault.ParseFault.TheVariants as fault
 use Rattle.math_parse.specs.Limits.{passes, open_after}
-use Rattle.math_parse.specs.Machine.{State, want, step, ended, is_full}
+use Rattle.math_parse.specs.Machine.{ParseState, want, step, ended, is_full}
 
 -- It takes token by token, with at most so many parts of a partition as the limit says, if there is one, and gives what it read at their end.
 pub record TokenReader (S T : Type 0) : Type 0 where
@@ -56,8 +56,8 @@ ReadsTokens r text tokens (Err (fault.TooLarge i)) = reading r text 0 0 r.start 
 ReadsTokens r text tokens (Err fault.OutOfMemory) = Unit {0}
 
 -- the parser of formulas is one
-abbrev pub formula_reader : Hole → TokenReader State Raw
+abbrev pub formula_reader : Hole → TokenReader ParseState Raw
 formula_reader goal = record { start = want []; step = λ limit. step limit goal; ended = ended goal; is_full = is_full }
 
-abbrev pub run : Option ℕ → Hole → State → List Item → ReadOutcome Raw
+abbrev pub run : Option ℕ → Hole → ParseState → List Item → ReadOutcome Raw
 run limit goal = outcome_by (formula_reader goal) limit

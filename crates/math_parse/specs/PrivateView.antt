@@ -16,17 +16,17 @@ Fills (Ok (filled.Open frame u)) f t = (finished f t ≡ None) × (frame ≡ f) 
 Fills (Err fault.Refused) f t = ⊥
 Fills (Err fault.OutOfMemory) f t = Unit {0}
 
-abbrev pub Names : Option Ref → Option (List ℕ × ℕ) → Type 0
-Names (Some r) o = o ≡ Some (r.name, r.place)
-Names None o = o ≡ None
+abbrev pub MatchesName : Option Ref → Option (List ℕ × ℕ) → Type 0
+MatchesName (Some r) o = o ≡ Some (r.name, r.place)
+MatchesName None o = o ≡ None
 
 abbrev pub ref_of : Option Ref → Option (List ℕ × ℕ)
 ref_of (Some r) = Some (r.name, r.place)
 ref_of None = None
 
-abbrev pub Types : Option TypedName → Option (List ℕ × ℕ × Raw) → Type 0
-Types (Some r) o = o ≡ Some (r.name, r.place, r.ty)
-Types None o = o ≡ None
+abbrev pub MatchesTypedName : Option TypedName → Option (List ℕ × ℕ × Raw) → Type 0
+MatchesTypedName (Some r) o = o ≡ Some (r.name, r.place, r.ty)
+MatchesTypedName None o = o ≡ None
 
 -- the two elements of a list of two
 abbrev pub Two : Option (Raw × Raw) → List Raw → Type 0

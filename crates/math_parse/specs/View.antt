@@ -7,13 +7,13 @@ use Rattle.math_parse.specs.declared.frames.Phase.{Phase}
 use Rattle.math_parse.specs.declared.frames.Phase.TheVariants as phase
 use Rattle.math_parse.specs.declared.fault.StepFault.{StepFault}
 use Rattle.math_parse.specs.declared.fault.StepFault.TheVariants as fault
-use Rattle.math_parse.specs.Machine.{State, want, have, calling, shape_want, shape_name, shape_have}
+use Rattle.math_parse.specs.Machine.{ParseState, want, have, calling, shape_want, shape_name, shape_have}
 
 -- the top of the stack is the last element of the vector
 abbrev pub forms : List Frame → List Frame
 forms fs = reverse fs
 
-abbrev pub state_of : Phase → State
+abbrev pub state_of : Phase → ParseState
 state_of (phase.Want stack) = want (forms stack.items)
 state_of (phase.Have stack g t) = have (forms stack.items) g t
 state_of (phase.Calling stack c o p) = calling (forms stack.items) c o p
@@ -22,7 +22,7 @@ state_of (phase.ShapeName stack n p) = shape_name (forms stack.items) n p
 state_of (phase.ShapeHave stack a) = shape_have (forms stack.items) a
 
 -- what a step gave, unless memory ran out
-abbrev pub Steps : Result Phase StepFault → Option State → Type 0
+abbrev pub Steps : Result Phase StepFault → Option ParseState → Type 0
 Steps (Ok st) o = o ≡ Some (state_of st)
 Steps (Err fault.Refused) o = o ≡ None
 Steps (Err fault.OutOfMemory) o = Unit {0}
@@ -33,6 +33,6 @@ Completes (Err fault.Refused) o = o ≡ None
 Completes (Err fault.OutOfMemory) o = Unit {0}
 
 -- the name that the bytes are
-abbrev pub IsRead : Option (List ℕ) → List ℕ → Type 0
-IsRead (Some n) word = (n ≡ word) × (is_name word ≡ true)
-IsRead None word = is_name word ≡ false
+abbrev pub IsReadName : Option (List ℕ) → List ℕ → Type 0
+IsReadName (Some n) word = (n ≡ word) × (is_name word ≡ true)
+IsReadName None word = is_name word ≡ false

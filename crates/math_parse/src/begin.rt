@@ -6,8 +6,8 @@ ghost use Rattle.formula_core.specs.declared.raw.RawOp.TheVariants as rawop;
 ghost use Rattle.formula_core.specs.Names.{is_name};
 ghost use Rattle.math_grammar.specs.declared.holes.Grade.TheVariants as grade;
 ghost use Rattle.math_grammar.specs.Levels.{reaches, call_grade};
-ghost use Rattle.math_parse.specs.Machine.{begin, begin_prefix, begin_binding, begin_shape, call_word, only_if, have, calling, opened};
-ghost use Rattle.math_parse.specs.View.{forms, Steps, IsRead};
+ghost use Rattle.math_parse.specs.Machine.{begin, begin_prefix, begin_binding, begin_shape, call_word, only_if, have, calling, binding_opened};
+ghost use Rattle.math_parse.specs.View.{forms, Steps, IsReadName};
 
 use crate::fault::StepFault;
 use crate::frames::{Frame, Phase, held_if, open, open_if, push};
@@ -19,7 +19,7 @@ use std::alloc::Global;
 /// The name that the bytes are.
 #[tactic(auto, using(crate::proofs::Words::no_name))]
 pub fn read_name(alloc: Global, word: &[u8]) -> Result<Option<Name>, OutOfMemory>
-    ensures { IfOk result (λ read. IsRead read word.now) }
+    ensures { IfOk result (λ read. IsReadName read word.now) }
 {
     let Ok(text) = std::str::from_utf8(word) else {
         return Ok(None);
@@ -70,7 +70,7 @@ fn opened(
     binding: Binding,
     from: u32,
 ) -> Result<Phase, StepFault>
-    ensures { Steps result (Some (opened binding (forms stack.items) from)) }
+    ensures { Steps result (Some (binding_opened binding (forms stack.items) from)) }
 {
     match binding {
         Binding::Set | Binding::Reaching(_) => {

@@ -1,9 +1,9 @@
 //! Names that are bound.
 
 ghost use Rattle.std.specs.Prelude.{◌≡◌, ◌∷◌, ◌++◌, [], IfOk, Some, None};
-ghost use Rattle.math_grammar.specs.Grammar.{bound, lone, joined};
-ghost use Rattle.math_parse.specs.Machine.{name_of, with_type, typed_name_of, bound_of, with_declared, bounds_of};
-ghost use Rattle.math_parse.specs.PrivateView.{Names, Types, Two, ref_of};
+ghost use Rattle.math_grammar.specs.Grammar.{bound, lone, joined_shape};
+ghost use Rattle.math_parse.specs.Machine.{plain_name_of, with_type, typed_name_of, bound_from, with_declared, bounds_from};
+ghost use Rattle.math_parse.specs.PrivateView.{MatchesName, MatchesTypedName, Two, ref_of};
 
 use crate::nodes::{alone, between, with};
 use formula_core::{Boxed, List, Name, Op, OutOfMemory, Raw, RawBound, RawOp, Ref};
@@ -20,7 +20,7 @@ pub struct TypedName {
 
 /// The name that a formula is.
 pub fn name_of(formula: Raw) -> Option<Ref>
-    ensures { Names result (name_of formula) }
+    ensures { MatchesName result (plain_name_of formula) }
 {
     match formula {
         Raw::Name(name, place) => Some(Ref { name, place }),
@@ -43,7 +43,7 @@ fn two(parts: List<Raw>) -> Option<(Raw, Raw)>
 }
 
 fn with_type(name: Option<Ref>, ty: Raw) -> Option<TypedName>
-    ensures { Types result (with_type (ref_of name) ty) }
+    ensures { MatchesTypedName result (with_type (ref_of name) ty) }
 {
     match name {
         Some(Ref { name, place }) => Some(TypedName { name, place, ty }),
@@ -53,7 +53,7 @@ fn with_type(name: Option<Ref>, ty: Raw) -> Option<TypedName>
 
 /// The name with a type that a formula is.
 pub fn typed_name_of(formula: Raw) -> Option<TypedName>
-    ensures { Types result (typed_name_of formula) }
+    ensures { MatchesTypedName result (typed_name_of formula) }
 {
     match formula {
         Raw::Node(_, parts, _) => match two(parts) {
@@ -87,7 +87,7 @@ pub fn typed(alloc: Global, name: Name, place: u32, ty: Raw) -> Result<RawBound,
 
 /// What a formula declares.
 pub fn bound_of(alloc: Global, formula: Raw) -> Result<Option<RawBound>, AllocError>
-    ensures { IfOk result (λ b. b ≡ bound_of formula) }
+    ensures { IfOk result (λ b. b ≡ bound_from formula) }
 {
     match formula {
         Raw::Name(name, place) => Ok(Some(untyped(name, place))),
@@ -113,7 +113,7 @@ fn with_declared(
 
 /// What the formulas of a list declare.
 pub fn bounds_of(alloc: Global, formulas: List<Raw>) -> Result<Option<List<RawBound>>, AllocError>
-    ensures { IfOk result (λ bs. bs ≡ bounds_of formulas) }
+    ensures { IfOk result (λ bs. bs ≡ bounds_from formulas) }
 {
     let mut bounds = Some(List::of(Vec::new(alloc)));
     for formula in formulas.into_vec() {
@@ -139,7 +139,7 @@ pub fn lone(alloc: Global, name: Name, place: u32, ty: Option<Raw>) -> Result<Sh
 
 /// A pattern behind what stands before it.
 pub fn joined(alloc: Global, before: Option<Shape>, shape: Shape) -> Result<Shape, AllocError>
-    ensures { IfOk result (λ a. a ≡ joined before shape) }
+    ensures { IfOk result (λ a. a ≡ joined_shape before shape) }
 {
     match before {
         None => Ok(shape),

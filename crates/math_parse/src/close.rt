@@ -3,7 +3,7 @@
 ghost use Rattle.std.specs.Prelude.{◌≡◌, ◌∷◌, ◌++◌, [], cond, None, Some};
 ghost use Rattle.formula_core.specs.declared.raw.Raw.TheVariants as raw;
 ghost use Rattle.math_grammar.specs.Levels.{binding_grade};
-ghost use Rattle.math_parse.specs.Machine.{body_of, after_names, then_want, after_name, second_side, after_type, names_next, type_next, shape_next, after_member, after_shape, pattern_of, shape_step, closed, name_of, typed_name_of, bounds_of, have};
+ghost use Rattle.math_parse.specs.Machine.{binding_body, after_names, then_want, after_name, second_side, after_type, names_next, type_next, shape_next, after_member, after_shape, pattern_of, shape_step, closed, plain_name_of, typed_name_of, bounds_from, have};
 ghost use Rattle.math_parse.specs.View.{forms, Steps};
 ghost use Rattle.math_parse.specs.declared.frames.Frame.TheVariants as frame;
 
@@ -17,7 +17,7 @@ use std::alloc::Global;
 
 /// What follows the names of a form.
 fn body_of(binding: Binding, names: List<RawBound>, before: List<Raw>, place: u32) -> Frame
-    ensures { result ≡ body_of binding names before place }
+    ensures { result ≡ binding_body binding names before place }
 {
     if binding.is_quantified() {
         Frame::Last(
@@ -68,7 +68,7 @@ fn close_names(
     formula: Raw,
     symbol: Symbol,
 ) -> Result<Phase, StepFault>
-    ensures { Steps result (after_name (forms stack.items) binding before place symbol (name_of formula)) }
+    ensures { Steps result (after_name (forms stack.items) binding before place symbol (plain_name_of formula)) }
 {
     let Some(Ref { name, place: at }) = name_of(formula) else {
         return Err(StepFault::Refused);
@@ -136,7 +136,7 @@ fn names_next(
     place: u32,
     symbol: Symbol,
 ) -> Result<Phase, StepFault>
-    ensures { Steps result (cond are_names (names_next (forms stack.items) binding (bounds_of all) place symbol) None) }
+    ensures { Steps result (cond are_names (names_next (forms stack.items) binding (bounds_from all) place symbol) None) }
 {
     if !are_names {
         return Err(StepFault::Refused);
@@ -157,7 +157,7 @@ fn type_next(
     place: u32,
 ) -> Result<Phase, StepFault>
     ensures { Steps result
-        (cond are_names (type_next (forms stack.items) binding (bounds_of before) (typed_name_of formula) place) None) }
+        (cond are_names (type_next (forms stack.items) binding (bounds_from before) (typed_name_of formula) place) None) }
 {
     if !are_names {
         return Err(StepFault::Refused);

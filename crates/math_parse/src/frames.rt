@@ -2,7 +2,7 @@
 
 ghost use Rattle.std.specs.Prelude.{◌≡◌, ◌∷◌, [], Some, OnOk, IfSome, IfNone};
 ghost use Rattle.std.specs.List.{list_all};
-ghost use Rattle.math_parse.specs.Machine.{hole_of, place, want, have, only_if, is_open_ended, is_ready};
+ghost use Rattle.math_parse.specs.Machine.{hole_of, hole_wanted, want, have, only_if, is_open_ended, is_ready};
 ghost use Rattle.math_parse.specs.View.{forms, state_of, Steps};
 
 use crate::fault::StepFault;
@@ -81,7 +81,7 @@ pub fn hole_of(frame: &Frame) -> Hole
 
 /// The place at the top of the stack.
 pub fn place(goal: Hole, stack: &Vec<Frame>) -> Hole
-    ensures { result ≡ place goal (forms stack.now.items) }
+    ensures { result ≡ hole_wanted goal (forms stack.now.items) }
 {
     match stack.last() {
         None => goal,

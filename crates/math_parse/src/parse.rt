@@ -5,7 +5,7 @@ ghost use Rattle.formula_core.specs.declared.raw.Raw.{Raw};
 ghost use Rattle.math_grammar.specs.declared.holes.Hole.TheVariants as hole;
 ghost use Rattle.math_grammar.specs.Tokens.{bytes_of, items_of};
 ghost use Rattle.math_parse.specs.Machine.{is_full};
-ghost use Rattle.math_parse.specs.Limits.{passes, open_after, IsSentence, Finds, IsFault};
+ghost use Rattle.math_parse.specs.Limits.{passes, open_after, IsSentence, FindsFormula, IsFault};
 ghost use Rattle.math_parse.specs.PrivateReaders.{ReadsTokens, formula_reader};
 ghost use Rattle.math_parse.specs.View.{state_of};
 
@@ -102,7 +102,7 @@ pub fn predicate(alloc: Global, text: &str, tokens: &[Token]) -> Result<Raw, Par
     // What is found is spelled so, within the limits.
     ensures found { IfOk result (λ t. IsSentence hole.Predicate (items_of text.now tokens.now) t) }
     // What is spelled so is found, unless memory runs out.
-    ensures only { (t : Raw) → IsSentence hole.Predicate (items_of text.now tokens.now) t → Finds result t }
+    ensures only { (t : Raw) → IsSentence hole.Predicate (items_of text.now tokens.now) t → FindsFormula result t }
     // Else the place is that of the first token that no sentence within the limits has there.
     ensures fault { IfErr result (λ fault. IsFault hole.Predicate (items_of text.now tokens.now) fault) }
 {
@@ -112,7 +112,7 @@ pub fn predicate(alloc: Global, text: &str, tokens: &[Token]) -> Result<Raw, Par
 /// The expression that the tokens of a text spell.
 pub fn expression(alloc: Global, text: &str, tokens: &[Token]) -> Result<Raw, ParseFault>
     ensures found { IfOk result (λ t. IsSentence hole.Expression (items_of text.now tokens.now) t) }
-    ensures only { (t : Raw) → IsSentence hole.Expression (items_of text.now tokens.now) t → Finds result t }
+    ensures only { (t : Raw) → IsSentence hole.Expression (items_of text.now tokens.now) t → FindsFormula result t }
     ensures fault { IfErr result (λ fault. IsFault hole.Expression (items_of text.now tokens.now) fault) }
 {
     parse(alloc, Hole::Expression, text, tokens)

@@ -18,7 +18,7 @@ use Rattle.math_grammar.specs.declared.shapes.Shape.{Shape}
 use Rattle.math_grammar.specs.Levels.{has_room, prefix_op, right_of, binder_of, implicit_of}
 use Rattle.math_grammar.specs.Tokens.{Item}
 use Rattle.math_grammar.specs.Grammar as grammar
-use Rattle.math_grammar.specs.Grammar.{item, place_of, bound, between, lone, type_with, joined, Ends, Reads, Parts, TypeOf, Bound, Declares, Body, LastPart, Pattern, Atom, Spells}
+use Rattle.math_grammar.specs.Grammar.{item, place_of, bound, between, lone, type_with, joined_shape, Ends, Reads, Parts, TypeOf, Bound, Declares, Body, LastPart, Pattern, Atom, Spells}
 use Rattle.math_places.specs.Places.{unplaced, AlikeTokens}
 use Rattle.math_places.proofs.Equations.{unplaced-Int, unplaced-Name, unplaced-Node, unplaced-Bind, unplaced_bound}
 use Rattle.math_places.proofs.Tokens.{Alike, none, next, one_by_one, at_end}
@@ -71,7 +71,7 @@ SameFront None None = Unit {0}
 SameFront (Some a) (Some b) = SameShape a b
 SameFront _ _ = ⊥
 
-same_joined : (front before : Option Shape) (a b : Shape) → SameFront front before → SameShape a b → SameShape (joined front a) (joined before b)
+same_joined : (front before : Option Shape) (a b : Shape) → SameFront front before → SameShape a b → SameShape (joined_shape front a) (joined_shape before b)
 same_joined None None a b e d = d
 same_joined None (Some y) a b e d = absurd e
 same_joined (Some x) None a b e d = absurd e
@@ -263,10 +263,10 @@ module _ (limit : Option ℕ) where
     pattern_again : {before : Option Shape} {shape : Shape} {s rest others : List Item} (front : Option Shape) → Pattern limit before s shape rest → SameFront front before → Alike s others → Again (Pattern limit front others) (λ u. SameShape u shape) rest
     pattern_again front (grammar.last_atom {before = before} {a = atom} r) e a =
         let u = atom_again r a in
-        record { tree = joined front u.tree; after = u.after; reads = grammar.last_atom u.reads; same = same_joined front before u.tree atom e u.same; alike = u.alike }
+        record { tree = joined_shape front u.tree; after = u.after; reads = grammar.last_atom u.reads; same = same_joined front before u.tree atom e u.same; alike = u.alike }
     pattern_again front (grammar.next_atom {before = before} {a = atom} r r') e a =
         let u = up_to (atom_again r a) in
-        let v = pattern_again (Some (joined front u.tree)) r' (same_joined front before u.tree atom e u.same) u.alike in
+        let v = pattern_again (Some (joined_shape front u.tree)) r' (same_joined front before u.tree atom e u.same) u.alike in
         record { tree = v.tree; after = v.after; reads = grammar.next_atom u.reads v.reads; same = v.same; alike = v.alike }
 
     atom_again : {s rest others : List Item} {shape : Shape} → Atom limit s shape rest → Alike s others → Again (Atom limit others) (λ u. SameShape u shape) rest

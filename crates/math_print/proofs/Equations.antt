@@ -12,11 +12,11 @@ use Rattle.formula_core.specs.declared.formula.Formula.TheFolds.{map-Formula}
 use Rattle.formula_core.specs.Sizes.{greatest}
 use Rattle.formula_core.proofs.Equations.{formula_fold, formula_para}
 use Rattle.math_print.specs.Depths.{deepest_step, deepest}
-use Rattle.math_print.specs.Printing.{Printed, Part, printed_step, printed, name_at, node_text, bind_text}
+use Rattle.math_print.specs.Printing.{Printed, PartWithText, printed_step, printed, name_at, node_text, bind_text}
 use Rattle.math_print.specs.Private.{with_texts}
 
 at : (names : List (List ℕ)) (x : Formula-F Formula) (f : Formula) → roll-Formula x ≡ f → (denied : Bool) (depth : ℕ)
-    → printed names f denied depth ≡ printed_step names (map-Formula Formula Part (λ y. (y, printed names y)) x) denied depth
+    → printed names f denied depth ≡ printed_step names (map-Formula Formula PartWithText (λ y. (y, printed names y)) x) denied depth
 at names x f e denied depth = ap (λ (p : Printed). p denied depth) (formula_para (printed_step names) x f e)
 
 pub printed-Int : (names : List (List ℕ)) (n : ℤ) (denied : Bool) (depth : ℕ) → printed names (Int n) denied depth ≡ signed_decimal n

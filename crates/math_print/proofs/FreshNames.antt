@@ -10,7 +10,7 @@ use Rattle.std.proofs.lemmas.List.Filters.{length-filter_both}
 use Rattle.std.proofs.lemmas.Map.Made.{is_member-filter, length-le_from_is_member}
 use Rattle.std.proofs.lemmas.Cmp.{nat_list_eq_equiv}
 use Rattle.std.proofs.lemmas.Slice.Eq.{bytes_eq-Decides}
-use Rattle.math_print.specs.Names.{numbered, numbered_names, unused}
+use Rattle.math_print.specs.Names.{generated_name, numbered_names, unused}
 use Rattle.math_print.proofs.NumberedNames.{read_on, own, both_true}
 
 -- names that are as many as asked for, all different, and none of them taken
@@ -26,14 +26,14 @@ false_unless false h = refl
 number_of : (n : ℕ) → n < 2 ^ 64 → read_on 0 (decimal n) ≡ n
 number_of n small = digits_value-decimal own n small
 
-apart : (i j : ℕ) → i < j → j < 2 ^ 64 → bytes_eq (numbered i) (numbered j) ≡ false
+apart : (i j : ℕ) → i < j → j < 2 ^ 64 → bytes_eq (generated_name i) (generated_name j) ≡ false
 apart i j less small = false_unless _ (λ t. (
-    let same : numbered i ≡ numbered j = (bytes_eq-Decides (numbered i) (numbered j)).0 t in
+    let same : generated_name i ≡ generated_name j = (bytes_eq-Decides (generated_name i) (generated_name j)).0 t in
     let digits : decimal i ≡ decimal j = cc in
     let numbers : i ≡ j = sym (number_of i (omega arith)) ∙ ap (read_on 0) digits ∙ number_of j small in
     absurd (omega (arith, numbers))))
 
-later_apart : (i from count : ℕ) → i < from → from + count ≤ 2 ^ 64 → AllByRecursion (λ y. bytes_eq (numbered i) y ≡ false) (numbered_names from count)
+later_apart : (i from count : ℕ) → i < from → from + count ≤ 2 ^ 64 → AllByRecursion (λ y. bytes_eq (generated_name i) y ≡ false) (numbered_names from count)
 later_apart i from zero less small = tt
 later_apart i from (suc count) less small = (apart i from less (omega arith), later_apart i (from + 1) count (omega arith) (omega arith))
 

@@ -10,7 +10,7 @@ use Rattle.formula_core.specs.declared.ty.Ty.TheOpen.{Pow as PowF, Pair as PairF
 use Rattle.formula_core.specs.declared.ty.Ty.TheVariants as ty
 use Rattle.formula_core.specs.declared.ty.Ty.TheViews.{out-Ty, outs-Pow, outs-Pair}
 use Rattle.formula_core.specs.Rows.{row_of}
-use Rattle.formula_core.specs.Schemes.{Scheme, alpha, beta, gamma, delta, integer, boolean, truth, power, pair, Letters, type_at, operand_schemes, result_scheme, part_schemes, binder_scheme, IsInstance}
+use Rattle.formula_core.specs.Schemes.{Scheme, alpha, beta, gamma, delta, integer, boolean, truth, power, pair, Letters, type_of_scheme, operand_schemes, result_scheme, part_schemes, binder_scheme, IsSchemeInstance}
 
 data Letter : Type 0 where
   first : Letter
@@ -67,27 +67,27 @@ and_right true b h = h
 and_right false b h = cc
 
 module _ (k l : Letters) where
-  from_scheme : (x : Letter) (s : Scheme) → type_at k s ≡ type_at l s → occurs x s ≡ true → letter x k ≡ letter x l
+  from_scheme : (x : Letter) (s : Scheme) → type_of_scheme k s ≡ type_of_scheme l s → occurs x s ≡ true → letter x k ≡ letter x l
   from_scheme first alpha e h = e
   from_scheme second beta e h = e
   from_scheme third gamma e h = e
   from_scheme fourth delta e h = e
-  from_scheme x (power s) e h = from_scheme x s (pow_injective (type_at k s) (type_at l s) e) h
+  from_scheme x (power s) e h = from_scheme x s (pow_injective (type_of_scheme k s) (type_of_scheme l s) e) h
   from_scheme x (pair s u) e h =
       elim (either (occurs x s) (occurs x u) h) [
-        | inl a ↦ from_scheme x s (pair_left (type_at k s) (type_at k u) (type_at l s) (type_at l u) e) a
-        | inr b ↦ from_scheme x u (pair_right (type_at k s) (type_at k u) (type_at l s) (type_at l u) e) b
+        | inl a ↦ from_scheme x s (pair_left (type_of_scheme k s) (type_of_scheme k u) (type_of_scheme l s) (type_of_scheme l u) e) a
+        | inr b ↦ from_scheme x u (pair_right (type_of_scheme k s) (type_of_scheme k u) (type_of_scheme l s) (type_of_scheme l u) e) b
       ]
   from_scheme _ _ e h = cc
 
-  from_any : (x : Letter) (ss : List Scheme) → map (type_at k) ss ≡ map (type_at l) ss → list_any (occurs x) ss ≡ true → letter x k ≡ letter x l
+  from_any : (x : Letter) (ss : List Scheme) → map (type_of_scheme k) ss ≡ map (type_of_scheme l) ss → list_any (occurs x) ss ≡ true → letter x k ≡ letter x l
   from_any x [] e h = cc
   from_any x (s ∷ ss) e h =
-      let head : type_at k s ≡ type_at l s = cc in
-      let tail : map (type_at k) ss ≡ map (type_at l) ss = cc in
+      let head : type_of_scheme k s ≡ type_of_scheme l s = cc in
+      let tail : map (type_of_scheme k) ss ≡ map (type_of_scheme l) ss = cc in
       elim (either (occurs x s) (list_any (occurs x) ss) h) [ inl a ↦ from_scheme x s head a | inr b ↦ from_any x ss tail b ]
 
-  whole : (s : Scheme) → ((x : Letter) → occurs x s ≡ true → letter x k ≡ letter x l) → type_at k s ≡ type_at l s
+  whole : (s : Scheme) → ((x : Letter) → occurs x s ≡ true → letter x k ≡ letter x l) → type_of_scheme k s ≡ type_of_scheme l s
   whole alpha same = same first refl
   whole beta same = same second refl
   whole gamma same = same third refl
@@ -97,8 +97,8 @@ module _ (k l : Letters) where
   whole truth same = refl
   whole (power s) same = ap ty.Pow (whole s same)
   whole (pair s u) same =
-      let left : type_at k s ≡ type_at l s = whole s (λ x h. same x (or_left (occurs x s) (occurs x u) h)) in
-      let right : type_at k u ≡ type_at l u = whole u (λ x h. same x (or_right (occurs x s) (occurs x u) h)) in
+      let left : type_of_scheme k s ≡ type_of_scheme l s = whole s (λ x h. same x (or_left (occurs x s) (occurs x u) h)) in
+      let right : type_of_scheme k u ≡ type_of_scheme l u = whole u (λ x h. same x (or_right (occurs x s) (occurs x u) h)) in
       λ i. ty.Pair (left i) (right i)
 
 abbrev is_covered : List Scheme → Scheme → Letter → Bool
@@ -127,7 +127,7 @@ covered operands s c x = covered_one (occurs x s) (list_any (occurs x) operands)
     at third = and_left (is_covered operands s third) _ last
     at fourth = and_right (is_covered operands s third) _ last
 
-one_type : (operands : List Scheme) (s : Scheme) (ts : List Ty) (t u : Ty) → covers operands s ≡ true → IsInstance operands s ts t → IsInstance operands s ts u → t ≡ u
+one_type : (operands : List Scheme) (s : Scheme) (ts : List Ty) (t u : Ty) → covers operands s ≡ true → IsSchemeInstance operands s ts t → IsSchemeInstance operands s ts u → t ≡ u
 one_type operands s ts t u c a b =
     a.whole_is
     ∙ whole a.letters b.letters s (λ x h. from_any a.letters b.letters x operands (sym a.operands_are ∙ b.operands_are) (covered operands s c x h))
@@ -157,9 +157,9 @@ binder_covers binder.QuantifiedIntersection = refl
 
 -- an operator's type is one
 pub operator_type : (o : Op) (k : ℕ) (ts : List Ty) (t u : Ty) → is_typed o ≡ false
-    → IsInstance (operand_schemes (row_of o) k) (result_scheme (row_of o)) ts t → IsInstance (operand_schemes (row_of o) k) (result_scheme (row_of o)) ts u → t ≡ u
+    → IsSchemeInstance (operand_schemes (row_of o) k) (result_scheme (row_of o)) ts t → IsSchemeInstance (operand_schemes (row_of o) k) (result_scheme (row_of o)) ts u → t ≡ u
 operator_type o k ts t u h = one_type (operand_schemes (row_of o) k) (result_scheme (row_of o)) ts t u (operator_covers o k h)
 
 -- and a binder's
-pub binder_type : (b : Binder) (ts : List Ty) (t u : Ty) → IsInstance (part_schemes b) (binder_scheme b) ts t → IsInstance (part_schemes b) (binder_scheme b) ts u → t ≡ u
+pub binder_type : (b : Binder) (ts : List Ty) (t u : Ty) → IsSchemeInstance (part_schemes b) (binder_scheme b) ts t → IsSchemeInstance (part_schemes b) (binder_scheme b) ts u → t ≡ u
 binder_type b ts t u = one_type (part_schemes b) (binder_scheme b) ts t u (binder_covers b)

@@ -21,7 +21,7 @@ use Rattle.formula_core.specs.Identifiers.{carriers}
 use Rattle.formula_core.proofs.Equations.{type_fold, carriers-Given, carriers-Pow, carriers-Pair}
 use Rattle.formula_core.proofs.Types.{type_induction}
 use Rattle.formula_core.proofs.WholeSets.{same_type_refl, value-Pow, value-Pair}
-use Rattle.type_core.specs.Bare.{Bounds, unbound, typed}
+use Rattle.type_core.specs.Bare.{BareBounds, unbound, typed}
 use Rattle.type_core.specs.Scopes.{Scope, one_further, position_of, with_names, has_name}
 use Rattle.type_core.specs.TypeExpressions.{is_carrier, denoted, power_of, pair_of}
 use Rattle.type_core.specs.CoreForms.{core_form, core_of_form, bounds}
@@ -29,7 +29,7 @@ use Rattle.type_core.specs.PrivateViews.{bound_part, in_a_row}
 use Rattle.type_core.specs.Typings.{AreBound}
 use Rattle.type_core.proofs.CoreEquations.{core_form-Name, read_node}
 use Rattle.math_print.specs.Printing.{name_at}
-use Rattle.math_print.specs.Written.{type_raw_step, type_raw, declared}
+use Rattle.math_print.specs.Written.{type_raw_step, type_raw, declared_with_types}
 
 pub all_left : {X : Type 0} (P : X → Type 0) (xs ys : List X) → AllByRecursion P (xs ++ ys) → AllByRecursion P xs
 all_left P [] ys all = tt
@@ -169,11 +169,11 @@ found (e ∷ env) x t is = go (bytes_eq x e.0) refl is (found env x t)
     go false same is later = let l : (k : ℕ) × (position_of x env ≡ Some (k, t)) = later is in (suc l.0, tail x e.0 e.1 env (nat_list_eq_equiv.symm e.0 x ∙ same) ∙ ap one_further l.1)
 
 -- the bound identifiers of a binder, in core form
-abbrev pub core_bounds : List (List ℕ) → List Ty → ℕ → Bounds
+abbrev pub core_bounds : List (List ℕ) → List Ty → ℕ → BareBounds
 core_bounds names [] depth = unbound
 core_bounds names (t ∷ types) depth = typed (name_at names depth) (core_form (type_raw t)) (core_bounds names types (depth + 1))
 
-pub bounds-declared : (names : List (List ℕ)) (types : List Ty) (depth : ℕ) → bounds (map bound_part (declared names types depth)) ≡ core_bounds names types depth
+pub bounds-declared : (names : List (List ℕ)) (types : List Ty) (depth : ℕ) → bounds (map bound_part (declared_with_types names types depth)) ≡ core_bounds names types depth
 bounds-declared names [] depth = refl
 bounds-declared names (t ∷ types) depth = ap (typed (name_at names depth) (core_form (type_raw t))) (bounds-declared names types (depth + 1))
 

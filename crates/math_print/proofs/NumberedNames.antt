@@ -19,7 +19,7 @@ use Rattle.std.specs.BTreeMap.{is_at}
 use Rattle.std.specs.Ordering.{nat_cmp}
 use Rattle.std.specs.Cmp.Lexicographic.{slice_cmp}
 use Rattle.formula_core.specs.declared.ty.Ty.{Ty}
-use Rattle.math_print.specs.Names.{numbered, numbered_names}
+use Rattle.math_print.specs.Names.{generated_name, numbered_names}
 
 pub both_true : (a b : Bool) → (a && b) ≡ true → (a ≡ true) × (b ≡ true)
 both_true true b h = (refl, h)
@@ -73,18 +73,18 @@ identifier word w r = ap (λ b. b && not (is_reserved word)) w ∙ ap not r
 named : (ds : List ℕ) → all_ascii_digits ds ≡ true → length ds ≤ 20 → is_name (120 ∷ ds) ≡ true
 named ds digits few = ap is_identifier (unprimed-x ds digits) ∙ identifier (120 ∷ ds) (word-x ds digits few) (unreserved ds)
 
-pub numbered-is_name : (n : ℕ) → n < 2 ^ 64 → is_name (numbered n) ≡ true
+pub numbered-is_name : (n : ℕ) → n < 2 ^ 64 → is_name (generated_name n) ≡ true
 numbered-is_name n small = named (decimal n) (decimal_digits n small) (length-decimal-le 20 n (omega arith) (omega arith) small)
 
-next_numbered : (i tries : ℕ) → i < tries → numbered_names (i + 1) (tries - i) ≡ numbered (i + 1) ∷ numbered_names (i + 1 + 1) (tries - (i + 1))
+next_numbered : (i tries : ℕ) → i < tries → numbered_names (i + 1) (tries - i) ≡ generated_name (i + 1) ∷ numbered_names (i + 1 + 1) (tries - (i + 1))
 next_numbered i tries h = let e : tries - i ≡ suc (tries - (i + 1)) = omega arith in rw e refl
 
 module _ (may_be_used : List ℕ → Bool) (names : List (List ℕ)) (i tries : ℕ) (h : i < tries) where
-  pub takes_next : may_be_used (numbered (i + 1)) ≡ true
-      → names ++ filter may_be_used (numbered_names (i + 1) (tries - i)) ≡ (names ++ numbered (i + 1) ∷ []) ++ filter may_be_used (numbered_names (i + 1 + 1) (tries - (i + 1)))
-  takes_next allowed = rw (next_numbered i tries h) (rw allowed (sym (append_assoc names (numbered (i + 1) ∷ []) _)))
+  pub takes_next : may_be_used (generated_name (i + 1)) ≡ true
+      → names ++ filter may_be_used (numbered_names (i + 1) (tries - i)) ≡ (names ++ generated_name (i + 1) ∷ []) ++ filter may_be_used (numbered_names (i + 1 + 1) (tries - (i + 1)))
+  takes_next allowed = rw (next_numbered i tries h) (rw allowed (sym (append_assoc names (generated_name (i + 1) ∷ []) _)))
 
-  pub skips_next : may_be_used (numbered (i + 1)) ≡ false
+  pub skips_next : may_be_used (generated_name (i + 1)) ≡ false
       → filter may_be_used (numbered_names (i + 1) (tries - i)) ≡ filter may_be_used (numbered_names (i + 1 + 1) (tries - (i + 1)))
   skips_next refused = rw (next_numbered i tries h) (rw refused refl)
 

@@ -8,7 +8,7 @@ use Rattle.formula_core.specs.declared.ty.Ty.TheFolds.{map-Ty, para-roll-Ty}
 use Rattle.std.proofs.Common.{◌∙◌, sym, ap, append_assoc}
 use Rattle.std.proofs.lemmas.List.{append-nil}
 use Rattle.math_print.specs.Characters.{bytes}
-use Rattle.math_print.specs.Types.{type_text_step, type_text, right_side}
+use Rattle.math_print.specs.Types.{type_text_step, type_text, right_side_text}
 
 at : (x : Ty-F Ty) (t : Ty) → roll-Ty x ≡ t → type_text t ≡ type_text_step (map-Ty Ty (Ty × List ℕ) (λ u. (u, type_text u)) x)
 at x t e = ap type_text (sym e) ∙ para-roll-Ty (List ℕ) type_text_step x
@@ -25,7 +25,7 @@ type_text-Given name = at (GivenF name) (Given name) (rolls-Given name)
 pub type_text-Pow : (t : Ty) → type_text (Pow t) ≡ bytes "ℙ(" ++ (type_text t ++ bytes ")")
 type_text-Pow t = at (PowF t) (Pow t) (rolls-Pow t)
 
-pub type_text-Pair : (t u : Ty) → type_text (Pair t u) ≡ type_text t ++ (bytes " × " ++ right_side (u, type_text u))
+pub type_text-Pair : (t u : Ty) → type_text (Pair t u) ≡ type_text t ++ (bytes " × " ++ right_side_text (u, type_text u))
 type_text-Pair t u = at (PairF t u) (Pair t u) (rolls-Pair t u)
 
 pub type_text-Truth : type_text Truth ≡ []

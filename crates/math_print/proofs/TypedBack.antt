@@ -26,9 +26,9 @@ use Rattle.formula_core.specs.declared.raw.Raw.TheOpen.{Raw-F, Node as RawNode}
 use Rattle.formula_core.specs.declared.raw.Raw.TheViews.{out-Raw, roll-Raw, roll-out-Raw, rolls-Node as raws-Node}
 use Rattle.formula_core.specs.Formulas.{joined}
 use Rattle.formula_core.specs.Types.{same_type, is_value_step, is_value_type}
-use Rattle.formula_core.specs.TypeTable.{fits, binder_fits}
+use Rattle.formula_core.specs.TypeTable.{row_fits, binder_fits}
 use Rattle.formula_core.specs.Rows.{row_of}
-use Rattle.formula_core.specs.Schemes.{Scheme, alpha, beta, gamma, delta, integer, boolean, truth, power, pair, Letters, AreValues, type_at, operand_schemes, result_scheme, part_schemes, binder_scheme, IsInstance}
+use Rattle.formula_core.specs.Schemes.{Scheme, alpha, beta, gamma, delta, integer, boolean, truth, power, pair, Letters, AreValues, type_of_scheme, operand_schemes, result_scheme, part_schemes, binder_scheme, IsSchemeInstance}
 use Rattle.formula_core.specs.Env.{type_in}
 use Rattle.formula_core.specs.Identifiers.{carriers, identifiers}
 use Rattle.formula_core.specs.Sizes.{greatest}
@@ -50,7 +50,7 @@ use Rattle.math_print.specs.Depths.{deepest}
 use Rattle.math_print.specs.Names.{bound_names}
 use Rattle.math_print.proofs.FreshNames.{AreFresh}
 use Rattle.math_print.specs.Printing.{name_at}
-use Rattle.math_print.specs.Written.{constant, type_raw, denied_at, denied, typed_raw, operator_raw, declared, written_step, written, raw_of, IsTypedBack}
+use Rattle.math_print.specs.Written.{constant, type_raw, denied_at, denied, typed_raw, operator_raw, declared_with_types, written_step, written, raw_of, IsTypedBack}
 use Rattle.math_print.proofs.Equations.{deepest-Node, deepest-Bind}
 use Rattle.math_print.proofs.Letters.{is_typed, operator_type, binder_type}
 use Rattle.math_print.proofs.NamedScopes.{all_left, all_right, core_node, AreKnown, denotes, Scoped, Differ, IsOutside, all_at, differ_from, position, not_bound, found, core_bounds, bounds-declared, scoped_further, AllDenoted, declared_types, only_types}
@@ -104,7 +104,7 @@ typed_operator _ t h = cc
 core_typed : (o : Op) (t : Ty) → core_form (typed_raw o t) ≡ Ascribed (Form o nothing) (core_form (type_raw t))
 core_typed o t = core_node rawop.OfType (constant o ∷ type_raw t ∷ []) ∙ ap (λ b. Ascribed b (core_form (type_raw t))) (core_node (rawop.Plain o) [])
 
-no_operands : (o : Op) (parts : List Formula) (t : Ty) → is_typed o ≡ true → fits (row_of o) (map type_of parts) t ≡ true → parts ≡ []
+no_operands : (o : Op) (parts : List Formula) (t : Ty) → is_typed o ≡ true → row_fits (row_of o) (map type_of parts) t ≡ true → parts ≡ []
 no_operands o [] t h k = refl
 no_operands op.EmptySet (p ∷ parts) t h k = cc
 no_operands op.Identity (p ∷ parts) t h k = cc
@@ -119,7 +119,7 @@ is_of_values (power s) = is_of_values s
 is_of_values (pair s u) = is_of_values s && is_of_values u
 is_of_values _ = true
 
-values_at : (l : Letters) → AreValues l → (s : Scheme) → is_of_values s ≡ true → is_value_type (type_at l s) ≡ true
+values_at : (l : Letters) → AreValues l → (s : Scheme) → is_of_values s ≡ true → is_value_type (type_of_scheme l s) ≡ true
 values_at l v alpha h = v.alpha
 values_at l v beta h = v.beta
 values_at l v gamma h = v.gamma
@@ -127,9 +127,9 @@ values_at l v delta h = v.delta
 values_at l v integer h = type_fold is_value_step IntT ty.Int of_type.rolls-Int
 values_at l v boolean h = type_fold is_value_step BoolT ty.Bool of_type.rolls-Bool
 values_at l v truth h = cc
-values_at l v (power s) h = value-Pow (type_at l s) ∙ values_at l v s h
+values_at l v (power s) h = value-Pow (type_of_scheme l s) ∙ values_at l v s h
 values_at l v (pair s u) h =
-    value-Pair (type_at l s) (type_at l u)
+    value-Pair (type_of_scheme l s) (type_of_scheme l u)
     ∙ both_true _ _ (values_at l v s (first_true (is_of_values s) (is_of_values u) h)) (values_at l v u (second_true (is_of_values s) (is_of_values u) h))
 
 typed_value : (o : Op) → is_typed o ≡ true → is_of_values (result_scheme (row_of o)) ≡ true
@@ -265,10 +265,10 @@ module _ (env : List (List ℕ × Ty)) (names : List (List ℕ)) (differ : Diffe
 
   module _ (o : Op) (parts : List Formula) (t : Ty) (all : AllByRecursion IsBack parts) (bound : List Ty) (values : AreAllValues bound)
       (few : length bound + deepest (Node o parts t) ≤ length names) (well : is_well_in (Node o parts t) bound ≡ true) (reached : Reached (identifiers (Node o parts t))) where
-    tests : (list_all (λ f. is_well_in f bound) parts && fits (row_of o) (map type_of parts) t) ≡ true
+    tests : (list_all (λ f. is_well_in f bound) parts && row_fits (row_of o) (map type_of parts) t) ≡ true
     tests = sym (well-Node o parts t bound) ∙ well
 
-    fitting : fits (row_of o) (map type_of parts) t ≡ true
+    fitting : row_fits (row_of o) (map type_of parts) t ≡ true
     fitting = second_true (list_all (λ f. is_well_in f bound) parts) _ tests
 
     split : Reached (joined (map identifiers parts) ++ carriers t)
@@ -284,17 +284,17 @@ module _ (env : List (List ℕ × Ty)) (names : List (List ℕ)) (differ : Diffe
     untyped_node h =
         let k : ℕ = part_count (in_a_row (map bare parts)) in
         let inner : AllByRecursion (λ f. IsOnly bound (bare f) f (type_of f)) parts
-        = each bound values parts all (omega (arith, deepest-Node o parts t, few)) (first_true _ (fits (row_of o) (map type_of parts) t) tests) (all_left IsReached (joined (map identifiers parts)) (carriers t) split) in
+        = each bound values parts all (omega (arith, deepest-Node o parts t, few)) (first_true _ (row_fits (row_of o) (map type_of parts) t) tests) (all_left IsReached (joined (map identifiers parts)) (carriers t) split) in
         let row : AllTyped env (Scoped names bound) env (in_a_row (map bare parts)) parts (map type_of parts)
         × ((gs : List Formula) (ts : List Ty) → AllTyped env (Scoped names bound) env (in_a_row (map bare parts)) gs ts → (gs ≡ parts) × (ts ≡ map type_of parts)) = all_only bound bare parts inner in
-        let I : ℕ → Type 0 = λ n. IsInstance (operand_schemes (row_of o) n) (result_scheme (row_of o)) (map type_of parts) t in
+        let I : ℕ → Type 0 = λ n. IsSchemeInstance (operand_schemes (row_of o) n) (result_scheme (row_of o)) (map type_of parts) t in
         let instance : I k = subst I (sym (counted bare parts)) ((fits_exactly (row_of o) (map type_of parts) t).0 fitting) in
         moved bound (Form o (in_a_row (map bare parts))) _ (Node o parts t) t _
         (core ∙ core_operator o _ t h ∙ ap (λ bs. Form o (in_a_row bs)) (at_depth (written names) parts (length bound))) (ap type_of_step (outs-Node o parts t)) (
           (parts, map type_of parts, row.0, instance, refl),
           (λ g u h'.
               let same : (h'.0 ≡ parts) × (h'.1 ≡ map type_of parts) = row.1 h'.0 h'.1 h'.2 in
-              let J : List Ty → Type 0 = λ ts. IsInstance (operand_schemes (row_of o) k) (result_scheme (row_of o)) ts u in
+              let J : List Ty → Type 0 = λ ts. IsSchemeInstance (operand_schemes (row_of o) k) (result_scheme (row_of o)) ts u in
               let one : u ≡ t = operator_type o k (map type_of parts) u t h (subst J same.1 h'.3) instance in
               (h'.4 ∙ (λ i. Node o (same.0 i) (one i)), one)),
         )
@@ -304,8 +304,8 @@ module _ (env : List (List ℕ × Ty)) (names : List (List ℕ)) (differ : Diffe
         let none : parts ≡ [] = no_operands o parts t h fitting in
         let alone : core_form (operator_raw o (map (λ (p : ℕ → Raw). p (length bound)) (map (written names) parts)) t) ≡ Ascribed (Form o nothing) (core_form (type_raw t))
         = ap (λ ps. core_form (operator_raw o (map (λ (p : ℕ → Raw). p (length bound)) (map (written names) ps)) t)) none ∙ ap core_form (typed_operator o t h) ∙ core_typed o t in
-        let F : List Formula → Type 0 = λ ps. fits (row_of o) (map type_of ps) t ≡ true in
-        let instance : IsInstance (operand_schemes (row_of o) 0) (result_scheme (row_of o)) [] t = (fits_exactly (row_of o) [] t).0 (subst F none fitting) in
+        let F : List Formula → Type 0 = λ ps. row_fits (row_of o) (map type_of ps) t ≡ true in
+        let instance : IsSchemeInstance (operand_schemes (row_of o) 0) (result_scheme (row_of o)) [] t = (fits_exactly (row_of o) [] t).0 (subst F none fitting) in
         let value : is_value_type t ≡ true = ap is_value_type instance.whole_is ∙ values_at instance.letters instance.values (result_scheme (row_of o)) (typed_value o h) in
         let written_type : denoted env (Scoped names bound) (core_form (type_raw t)) ≡ Some t
         = denotes env (Scoped names bound) t value (known bound (omega (arith, few)) (carriers t) (all_right IsReached (joined (map identifiers parts)) (carriers t) split)) in
@@ -343,7 +343,7 @@ module _ (env : List (List ℕ × Ty)) (names : List (List ℕ)) (differ : Diffe
         (second_true (may_be_bound types && binder_fits b (map type_of parts) t) _ tests) (all_right IsReached (joined (map carriers types)) (joined (map identifiers parts)) front) in
         let row : AllTyped env (Scoped names deeper) env (in_a_row (map bare parts)) parts (map type_of parts)
         × ((gs : List Formula) (ts : List Ty) → AllTyped env (Scoped names deeper) env (in_a_row (map bare parts)) gs ts → (gs ≡ parts) × (ts ≡ map type_of parts)) = all_only deeper bare parts inner in
-        let instance : IsInstance (part_schemes b) (binder_scheme b) (map type_of parts) t = (binder_fits_exactly b (map type_of parts) t).0 (second_true (may_be_bound types) _ head) in
+        let instance : IsSchemeInstance (part_schemes b) (binder_scheme b) (map type_of parts) t = (binder_fits_exactly b (map type_of parts) t).0 (second_true (may_be_bound types) _ head) in
         let denoted_all : AllDenoted env names (Scoped names bound) types = all_denoted types typed_values (all_left IsReached (joined (map carriers types)) (joined (map identifiers parts)) front) in
         let S : Scope Ty → Type 0 = λ s. AllTyped env s env (in_a_row (map bare parts)) parts (map type_of parts) in
         moved bound (Binding b (core_bounds names types (length bound)) (in_a_row (map bare parts))) _ (Bind b types parts t) t _ (core deep) (ap type_of_step (outs-Bind b types parts t)) (
@@ -362,7 +362,7 @@ module _ (env : List (List ℕ × Ty)) (names : List (List ℕ)) (differ : Diffe
               let R : Scope Ty → Type 0 = λ s. AllTyped env s env (in_a_row (map bare parts)) h.3 h.4 in
               let same : (h.3 ≡ parts) × (h.4 ≡ map type_of parts)
               = row.1 h.3 h.4 (subst R (ap (λ ts. with_names (core_bounds names types (length bound)) ts (Scoped names bound)) same_types ∙ scoped_further names types bound) h.5) in
-              let J : List Ty → Type 0 = λ ts. IsInstance (part_schemes b) (binder_scheme b) ts u in
+              let J : List Ty → Type 0 = λ ts. IsSchemeInstance (part_schemes b) (binder_scheme b) ts u in
               let one : u ≡ t = binder_type b (map type_of parts) u t (subst J same.1 h.6) instance in
               (h.7 ∙ (λ i. Bind b (same_types i) (same.0 i) (one i)), one)),
         )
@@ -378,9 +378,9 @@ module _ (env : List (List ℕ × Ty)) (names : List (List ℕ)) (differ : Diffe
             ≡ Binding b (core_bounds names types (length bound)) (in_a_row (map (λ f. core_form (written names f (length deeper))) parts))
         core deep =
             ap core_form (written-at (BindF b types parts t) (Bind b types parts t) (rolls-Bind b types parts t) (length bound))
-            ∙ sym (read_plain (raw.Bind (rawbinder.Plain b) (declared names types (length bound)) (map (λ (p : ℕ → Raw). p (length bound + length types)) (map (written names) parts)) 0)
-            (rawbinder.Plain b) (declared names types (length bound)) (map (λ (p : ℕ → Raw). p (length bound + length types)) (map (written names) parts)) 0 refl
-            (bounds (map bound_part (declared names types (length bound)))) refl b
+            ∙ sym (read_plain (raw.Bind (rawbinder.Plain b) (declared_with_types names types (length bound)) (map (λ (p : ℕ → Raw). p (length bound + length types)) (map (written names) parts)) 0)
+            (rawbinder.Plain b) (declared_with_types names types (length bound)) (map (λ (p : ℕ → Raw). p (length bound + length types)) (map (written names) parts)) 0 refl
+            (bounds (map bound_part (declared_with_types names types (length bound)))) refl b
             (in_a_row (map core_form (map (λ (p : ℕ → Raw). p (length bound + length types)) (map (written names) parts)))) refl refl)
             ∙ (λ i. Binding b (bounds-declared names types (length bound) i) (in_a_row (at_depth (written names) parts (sym deep i) i)))
 

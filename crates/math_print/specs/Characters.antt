@@ -7,14 +7,14 @@ use Rattle.math_grammar.specs.Characters.{bytes as encoded}
 abbrev pub bytes : String → List ℕ
 bytes text = encoded text
 
-abbrev pub comma_after : ℕ → List ℕ
-comma_after zero = []
-comma_after (suc before) = bytes ", "
+abbrev pub comma_text : ℕ → List ℕ
+comma_text zero = []
+comma_text (suc before) = bytes ", "
 
 -- texts behind so many others, with a comma and a blank between all of them
-abbrev pub separated_after : ℕ → List (List ℕ) → List ℕ
-separated_after before [] = []
-separated_after before (text ∷ texts) = comma_after before ++ (text ++ separated_after (before + 1) texts)
+abbrev pub texts_behind : ℕ → List (List ℕ) → List ℕ
+texts_behind before [] = []
+texts_behind before (text ∷ texts) = comma_text before ++ (text ++ texts_behind (before + 1) texts)
 
-abbrev pub separated : List (List ℕ) → List ℕ
-separated texts = separated_after 0 texts
+abbrev pub separated_texts : List (List ℕ) → List ℕ
+separated_texts texts = texts_behind 0 texts

@@ -30,10 +30,10 @@ abbrev pub HasNames : Formula → Type 0
 HasNames f = AllByRecursion (λ x. is_name x.0 ≡ true) (identifiers f)
 
 -- its identifiers are so few that numbers of 64 bits count the names of those that it binds
-abbrev pub IsCounted : Formula → Type 0
-IsCounted f = deepest f + length (identifiers f) < 2 ^ 64
+abbrev pub HasFewNames : Formula → Type 0
+HasFewNames f = deepest f + length (identifiers f) < 2 ^ 64
 
 pub record IsHeld (f : Formula) : Type 0 where
   pub names : HasNames f
-  pub counted : IsCounted f
+  pub counted : HasFewNames f
   pub narrow : HasNarrowNumbers f

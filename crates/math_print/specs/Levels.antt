@@ -18,21 +18,21 @@ use Rattle.math_print.specs.declared.levels.Side.{Side}
 use Rattle.math_print.specs.declared.levels.Side.TheVariants as side
 
 -- loosest first
-abbrev pub rank : Level → ℕ
-rank lev.Quantified = 0
-rank lev.Implication = 1
-rank lev.Junction = 2
-rank lev.Relation = 3
-rank lev.Reaching = 4
-rank lev.Maplet = 5
-rank lev.Arrow = 6
-rank lev.SetOperator = 7
-rank lev.Interval = 8
-rank lev.Additive = 9
-rank lev.Multiplicative = 10
-rank lev.Power = 11
-rank lev.Postfix = 12
-rank lev.Closed = 13
+abbrev pub rank_of : Level → ℕ
+rank_of lev.Quantified = 0
+rank_of lev.Implication = 1
+rank_of lev.Junction = 2
+rank_of lev.Relation = 3
+rank_of lev.Reaching = 4
+rank_of lev.Maplet = 5
+rank_of lev.Arrow = 6
+rank_of lev.SetOperator = 7
+rank_of lev.Interval = 8
+rank_of lev.Additive = 9
+rank_of lev.Multiplicative = 10
+rank_of lev.Power = 11
+rank_of lev.Postfix = 12
+rank_of lev.Closed = 13
 
 -- the level of an operator between two operands (⦂ stands in no formula)
 abbrev pub infix_level : Sort → Level
@@ -108,9 +108,9 @@ goes_on_at o (Node left parts t) = goes_on_with o left
 goes_on_at o _ = false
 
 -- the operator goes on with a formula of its own level on this side
-abbrev pub goes_on : Op → Side → Formula → Bool
-goes_on o side.Left f = goes_on_at o (out-Formula f)
-goes_on o side.Right f = false
+abbrev pub goes_on_left : Op → Side → Formula → Bool
+goes_on_left o side.Left f = goes_on_at o (out-Formula f)
+goes_on_left o side.Right f = false
 
 abbrev pub is_relation : Level → Bool
 is_relation lev.Relation = true
@@ -118,8 +118,10 @@ is_relation _ = false
 
 -- the operand of this rank is in parentheses, where the operator goes on with it or not
 abbrev pub is_enclosed : Level → Level → Bool → Bool
-is_enclosed own operand goes_on = nat_lt (rank operand) (rank own) || ((rank operand == rank own) && not goes_on)
+is_enclosed own operand goes_on =
+    nat_lt (rank_of operand) (rank_of own) || ((rank_of operand == rank_of own) && not goes_on)
 
 -- Whether an operand is in parentheses: unless it is tighter than its operator, or the operator goes on with it. Those of relations have none.
 abbrev pub needs_parentheses : Op → Side → Formula → Bool
-needs_parentheses o s f = not (is_relation (level_of o)) && is_enclosed (level_of o) (formula_level f) (goes_on o s f)
+needs_parentheses o s f =
+    not (is_relation (level_of o)) && is_enclosed (level_of o) (formula_level f) (goes_on_left o s f)

@@ -9,13 +9,13 @@ use Rattle.math_print.specs.Characters.{bytes}
 use Rattle.math_print.specs.Depths.{deepest}
 
 -- x and a number
-abbrev pub numbered : ℕ → List ℕ
-numbered number = bytes "x" ++ decimal number
+abbrev pub generated_name : ℕ → List ℕ
+generated_name number = bytes "x" ++ decimal number
 
 -- so many numbered names, from this number on
 abbrev pub numbered_names : ℕ → ℕ → List (List ℕ)
 numbered_names number zero = []
-numbered_names number (suc more) = numbered number ∷ numbered_names (number + 1) more
+numbered_names number (suc more) = generated_name number ∷ numbered_names (number + 1) more
 
 -- the first so many of x1, x2, .. that may be used, of which only so many are looked at
 abbrev pub first_allowed : (List ℕ → Bool) → ℕ → ℕ → List (List ℕ)

@@ -7,8 +7,8 @@ use Rattle.formula_core.specs.Types.{components}
 use Rattle.math_print.specs.Characters.{bytes}
 
 -- the text of the right side of a product
-abbrev pub right_side : Ty × List ℕ → List ℕ
-right_side t = if is_some (components t.0) then (bytes "(" ++ (t.1 ++ bytes ")")) else t.1
+abbrev pub right_side_text : Ty × List ℕ → List ℕ
+right_side_text t = if is_some (components t.0) then (bytes "(" ++ (t.1 ++ bytes ")")) else t.1
 
 -- One level. Each part stands beside its text.
 abbrev pub type_text_step : Ty-F (Ty × List ℕ) → List ℕ
@@ -16,7 +16,7 @@ type_text_step Integer = bytes "ℤ"
 type_text_step Boolean = bytes "BOOL"
 type_text_step (Given name) = name
 type_text_step (Pow part) = bytes "ℙ(" ++ (part.1 ++ bytes ")")
-type_text_step (Pair left right) = left.1 ++ (bytes " × " ++ right_side right)
+type_text_step (Pair left right) = left.1 ++ (bytes " × " ++ right_side_text right)
 type_text_step Truth = []
 
 -- the text of a type: × to the left, with parentheses only round a right side that is a product (the sort of predicates is never printed)

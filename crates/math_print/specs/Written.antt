@@ -60,9 +60,9 @@ operator_raw op.FirstProjection [] t = typed_raw op.FirstProjection t
 operator_raw op.SecondProjection [] t = typed_raw op.SecondProjection t
 operator_raw o parts t = raw.Node (rawop.Plain o) parts 0
 
-abbrev pub declared : List (List ℕ) → List Ty → ℕ → List RawBound
-declared names [] depth = []
-declared names (t ∷ types) depth = record { name = name_at names depth; ty = Some (type_raw t); place = 0 } ∷ declared names types (depth + 1)
+abbrev pub declared_with_types : List (List ℕ) → List Ty → ℕ → List RawBound
+declared_with_types names [] depth = []
+declared_with_types names (t ∷ types) depth = record { name = name_at names depth; ty = Some (type_raw t); place = 0 } ∷ declared_with_types names types (depth + 1)
 
 -- One level, below so many bound identifiers.
 abbrev pub written_step : List (List ℕ) → Formula-F (ℕ → Raw) → ℕ → Raw
@@ -70,7 +70,7 @@ written_step names (Int n) depth = raw.Int n 0
 written_step names (Free name t) depth = raw.Name name 0
 written_step names (Bound at t) depth = raw.Name (name_at names (depth - 1 - at)) 0
 written_step names (Node o parts t) depth = operator_raw o (map (λ p. p depth) parts) t
-written_step names (Bind b types parts t) depth = raw.Bind (rawbinder.Plain b) (declared names types depth) (map (λ p. p (depth + length types)) parts) 0
+written_step names (Bind b types parts t) depth = raw.Bind (rawbinder.Plain b) (declared_with_types names types depth) (map (λ p. p (depth + length types)) parts) 0
 
 -- a formula as it is written, where its bound identifiers have these names, from the outermost one on
 abbrev pub written : List (List ℕ) → Formula → ℕ → Raw

@@ -1,6 +1,6 @@
 //! How tightly printed forms hold together, and which operands are in parentheses.
 ghost use Rattle.std.specs.Prelude.{◌≡◌};
-ghost use Rattle.math_print.specs.Levels.{rank, infix_level, form_level, level_of, binder_level_of, formula_level, is_chained, is_same_connective, is_negative, goes_on_with, goes_on, is_relation, is_enclosed, needs_parentheses};
+ghost use Rattle.math_print.specs.Levels.{rank_of, infix_level, form_level, level_of, binder_level_of, formula_level, is_chained, is_same_connective, is_negative, goes_on_with, goes_on_left, is_relation, is_enclosed, needs_parentheses};
 
 use formula_core::{Binder, Formula, Op};
 use math_grammar::{Bracket, Form, op_form};
@@ -40,7 +40,7 @@ pub enum Side {
 
 impl Level {
     fn rank(self) -> u8
-        ensures { result ≡ rank self }
+        ensures { result ≡ rank_of self }
     {
         match self {
             Level::Quantified => 0,
@@ -158,7 +158,7 @@ fn goes_on_with(op: Op, left: Op) -> bool
 }
 
 fn goes_on(op: Op, side: Side, formula: &Formula) -> bool
-    ensures { result ≡ goes_on op side formula.now }
+    ensures { result ≡ goes_on_left op side formula.now }
 {
     match side {
         Side::Left => match formula {

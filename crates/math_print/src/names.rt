@@ -8,7 +8,7 @@ ghost use Rattle.std.specs.Cmp.Lexicographic.{slice_cmp};
 ghost use Rattle.formula_core.specs.Identifiers.{identifiers};
 ghost use Rattle.formula_core.specs.Names.{is_name};
 ghost use Rattle.math_print.specs.Held.{IsHeld};
-ghost use Rattle.math_print.specs.Names.{numbered, first_allowed, bound_names};
+ghost use Rattle.math_print.specs.Names.{generated_name, first_allowed, bound_names};
 
 use crate::depths::deepest;
 use formula_core::{Formula, Name, NameFault, OutOfMemory, Ty};
@@ -17,7 +17,7 @@ use std::collections::BTreeSet;
 
 /// x and a number.
 fn numbered(alloc: Global, number: u64) -> Result<Name, OutOfMemory>
-    ensures { IfOk result (λ name. name ≡ numbered number) }
+    ensures { IfOk result (λ name. name ≡ generated_name number) }
 {
     let text = format!(in alloc; "x{number}")?;
     match Name::read(alloc, text.as_str()) {

@@ -3,11 +3,11 @@ ghost use Rattle.std.specs.Prelude.{◌≡◌, ◌++◌, ◌+◌, ◌<◌, ◌^�
 ghost use Rattle.std.specs.Fmt.{signed_decimal};
 ghost use Rattle.math_print.specs.declared.levels.Side.TheVariants as side;
 ghost use Rattle.formula_core.specs.Wellness.{is_well};
-ghost use Rattle.math_print.specs.Characters.{bytes, comma_after, separated};
+ghost use Rattle.math_print.specs.Characters.{bytes, comma_text, separated_texts};
 ghost use Rattle.math_print.specs.Types.{type_text};
 ghost use Rattle.math_print.specs.Held.{IsHeld};
 ghost use Rattle.math_print.specs.Written.{IsTypedBack};
-ghost use Rattle.math_print.specs.Printing.{operand, typed_text, constant_text, unary_text, second_text, members_text, operator_text, node_text, name_at, declarations, binder_end_of, body_text, binder_text, bind_text, printed, text_of};
+ghost use Rattle.math_print.specs.Printing.{operand_text, typed_text, constant_text, unary_text, second_text, members_text, operator_text, node_text, name_at, declaration_texts, binder_end_of, body_text, binder_text, bind_text, printed, formula_text};
 ghost use Rattle.math_print.specs.Private.{with_texts};
 
 use crate::levels::{Side, needs_parentheses};
@@ -21,7 +21,7 @@ use std::alloc::Global;
 /// The printed text of a formula.
 pub fn text(alloc: Global, formula: &Formula) -> Result<String, OutOfMemory>
     requires { IsTrue (is_well formula.now) }
-    ensures exact { IfOk result (λ text. string_bytes text ≡ text_of formula.now) }
+    ensures exact { IfOk result (λ text. string_bytes text ≡ formula_text formula.now) }
     // What is written of the formula is typed as the formula.
     ensures typed { OnOk result (IsTypedBack formula.now) }
     ensures held { OnOk result (IsHeld formula.now) }
@@ -227,7 +227,7 @@ fn print_operand(
     depth: usize,
     out: &mut String,
 ) -> Result<(), OutOfMemory>
-    ensures { OnOk result (string_bytes out.new ≡ string_bytes out.old ++ operand op side (part.now, printed names.now part.now) depth) }
+    ensures { OnOk result (string_bytes out.new ≡ string_bytes out.old ++ operand_text op side (part.now, printed names.now part.now) depth) }
 {
     if needs_parentheses(op, side, part) {
         print_inside(part, "(", ")", names, depth, out)
@@ -277,7 +277,7 @@ fn print_separated(
     depth: usize,
     out: &mut String,
 ) -> Result<(), OutOfMemory>
-    ensures { OnOk result (string_bytes out.new ≡ string_bytes out.old ++ separated (map (λ f. printed names.now f false depth) items.now)) }
+    ensures { OnOk result (string_bytes out.new ≡ string_bytes out.old ++ separated_texts (map (λ f. printed names.now f false depth) items.now)) }
 {
     for (index, item) in items.iter().enumerate() {
         print_comma(index, out)?;
@@ -288,7 +288,7 @@ fn print_separated(
 
 /// Adds a comma behind so many texts, if there are any.
 fn print_comma(before: usize, out: &mut String) -> Result<(), OutOfMemory>
-    ensures { OnOk result (string_bytes out.new ≡ string_bytes out.old ++ comma_after before) }
+    ensures { OnOk result (string_bytes out.new ≡ string_bytes out.old ++ comma_text before) }
 {
     if before > 0 {
         out.push_str(", ")?;
@@ -380,7 +380,7 @@ fn print_declarations(
     out: &mut String,
 ) -> Result<(), OutOfMemory>
     requires { depth + length types.now < 2 ^ 64 }
-    ensures { OnOk result (string_bytes out.new ≡ string_bytes out.old ++ separated (declarations names.now types.now depth)) }
+    ensures { OnOk result (string_bytes out.new ≡ string_bytes out.old ++ separated_texts (declaration_texts names.now types.now depth)) }
 {
     for (index, ty) in types.iter().enumerate() {
         print_comma(index, out)?;

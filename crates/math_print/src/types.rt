@@ -1,6 +1,6 @@
 //! How types are printed.
 ghost use Rattle.std.specs.Prelude.{◌≡◌, ◌++◌, OnOk, string_bytes};
-ghost use Rattle.math_print.specs.Types.{type_text, right_side};
+ghost use Rattle.math_print.specs.Types.{type_text, right_side_text};
 
 use formula_core::{OutOfMemory, Ty};
 
@@ -32,7 +32,7 @@ pub(crate) fn print_type(ty: &Ty, out: &mut String) -> Result<(), OutOfMemory>
 #[cycle(type_text)]
 #[tactic(auto, using(crate::proofs::TypeTexts::equations))]
 fn print_right_side(ty: &Ty, out: &mut String) -> Result<(), OutOfMemory>
-    ensures { OnOk result (string_bytes out.new ≡ string_bytes out.old ++ right_side (ty.now, type_text ty.now)) }
+    ensures { OnOk result (string_bytes out.new ≡ string_bytes out.old ++ right_side_text (ty.now, type_text ty.now)) }
 {
     if ty.components().is_none() {
         return print_type(ty, out);

@@ -28,9 +28,9 @@ use Rattle.formula_core.specs.declared.raw.Raw.TheViews.{outs-Int as raw_outs-In
 use Rattle.formula_core.specs.Formulas.{joined}
 use Rattle.formula_core.specs.Identifiers.{carriers, identifiers}
 use Rattle.formula_core.specs.Rows.{row_of}
-use Rattle.formula_core.specs.Schemes.{alpha, power, type_at, part_schemes, binder_scheme, IsInstance}
+use Rattle.formula_core.specs.Schemes.{alpha, power, type_of_scheme, part_schemes, binder_scheme, IsSchemeInstance}
 use Rattle.formula_core.specs.Sizes.{greatest}
-use Rattle.formula_core.specs.TypeTable.{fits as is_fit, binder_fits}
+use Rattle.formula_core.specs.TypeTable.{row_fits as is_fit, binder_fits}
 use Rattle.formula_core.specs.Types.{same_type, is_value_step, is_value_type}
 use Rattle.formula_core.specs.Wellness.{type_of_step, type_of, may_be_bound, is_well_in, is_well}
 use Rattle.formula_core.proofs.Equations.{formula_fold, formula_para, type_fold, identifiers-Free, identifiers-Node, identifiers-Bind}
@@ -55,14 +55,14 @@ use Rattle.math_print.specs.Names.{bound_names, numbered_names}
 use Rattle.math_print.proofs.FreshNames.{fresh, AreFresh}
 use Rattle.math_print.proofs.NumberedNames.{numbered-is_name}
 use Rattle.math_print.specs.Printing.{name_at}
-use Rattle.math_print.specs.Written.{denied_at, denied, declared, written_step, written, raw_of}
+use Rattle.math_print.specs.Written.{denied_at, denied, declared_with_types, written_step, written, raw_of}
 use Rattle.math_print.proofs.Equations.{deepest-Node, deepest-Bind}
 use Rattle.math_print.proofs.NamedScopes.{all_left, all_right, all_at}
-use Rattle.math_reread.specs.Items.{Part, Items, word, dot, bar, close_brace, not_sign, open_round, close_round, separated, declarations, binder_items, items_step, items, items_of_formula}
+use Rattle.math_reread.specs.Items.{PartWithItems, Items, word, dot, bar, close_brace, not_sign, open_round, close_round, separated, declarations, binder_items, items_step, items, items_of_formula}
 use Rattle.math_reread.proofs.ItemParts.{with_items}
 use Rattle.math_reread.specs.Grades.{IsSpelled}
 use Rattle.math_reread.proofs.Grades.{grade_at, grade_of, binder_grade}
-use Rattle.math_print.specs.Held.{HasNames, IsCounted}
+use Rattle.math_print.specs.Held.{HasNames, HasFewNames}
 use Rattle.math_reread.proofs.Tables.{Quiet, quiet, ends, zero_le, quieter, quiet_at}
 use Rattle.math_reread.proofs.Readings.{Whole}
 use Rattle.math_reread.proofs.Infixes.{IsRead}
@@ -130,7 +130,7 @@ module _ (names : List (List ℕ)) (named : (i : ℕ) → i < length names → i
       (subst (λ s. P x s (items names f true d) (written names f d)) (back es) (subst (λ u. P x s u (written names f d)) (back eu) (subst (λ t. P x s u t) (back et) r))) in
       record { sorted = q.sorted; starts = q.starts; plain = q.plain; denied_too = q.denied_too }
 
-  items-at : (x : Formula-F Formula) (f : Formula) → roll-Formula x ≡ f → (denied : Bool) (d : ℕ) → items names f denied d ≡ items_step names (map-Formula Formula Part (λ y. (y, items names y)) x) denied d
+  items-at : (x : Formula-F Formula) (f : Formula) → roll-Formula x ≡ f → (denied : Bool) (d : ℕ) → items names f denied d ≡ items_step names (map-Formula Formula PartWithItems (λ y. (y, items names y)) x) denied d
   items-at x f e denied d = ap (λ (p : Items). p denied d) (formula_para (items_step names) x f e)
 
   written-at : (x : Formula-F Formula) (f : Formula) → roll-Formula x ≡ f → (d : ℕ) → written names f d ≡ written_step names (map-Formula Formula (ℕ → Raw) (written names) x) d
@@ -184,11 +184,11 @@ module _ (names : List (List ℕ)) (named : (i : ℕ) → i < length names → i
   module _ (d : ℕ) where
     names_form : (c : Binding) (x : Symbol) (w : List ℕ) → opens x ≡ Some c → takes_names c ≡ true → (t : Ty) (types : List Ty) → IsTypeRead t → AreTypesRead types → d + suc (length types) ≤ length names → (s rest : List Item) (parts : List Raw)
         → Body None c [] (s ++ rest) parts rest
-        → Reads None (binding_grade c) ((item x 0 w ∷ (separated (declarations names (t ∷ types) d) ++ (dot ∷ s))) ++ rest) (raw.Bind (binder_of c) (declared names (t ∷ types) d) parts 0) rest
+        → Reads None (binding_grade c) ((item x 0 w ∷ (separated (declarations names (t ∷ types) d) ++ (dot ∷ s))) ++ rest) (raw.Bind (binder_of c) (declared_with_types names (t ∷ types) d) parts 0) rest
     names_form c x w is takes t types read all few s rest parts body =
         let l : List Item = separated (declarations names (t ∷ types) d) in
-        let heads : Declares None [] (l ++ (dot ∷ (s ++ rest))) (declared names (t ∷ types) d) (s ++ rest) = declares names named [] 0 t types d read all few (s ++ rest) in
-        let P : List Item → Type 0 = λ m. Reads None (binding_grade c) (item x 0 w ∷ m) (raw.Bind (binder_of c) (declared names (t ∷ types) d) parts 0) rest in
+        let heads : Declares None [] (l ++ (dot ∷ (s ++ rest))) (declared_with_types names (t ∷ types) d) (s ++ rest) = declares names named [] 0 t types d read all few (s ++ rest) in
+        let P : List Item → Type 0 = λ m. Reads None (binding_grade c) (item x 0 w ∷ m) (raw.Bind (binder_of c) (declared_with_types names (t ∷ types) d) parts 0) rest in
         subst P (back (append_assoc l (dot ∷ s) rest)) (by_names is takes heads body refl)
 
     abbrev body_tokens : Formula → ℕ → List Item
@@ -224,7 +224,7 @@ module _ (names : List (List ℕ)) (named : (i : ℕ) → i < length names → i
         subst P (back (append_assoc (body_tokens p deep) (bar ∷ body_tokens e deep) rest) ∙ ap (λ l. l ++ rest) (back (append-nil (body_tokens p deep ++ (bar ∷ body_tokens e deep))))) whole
 
     abbrev bind_tree : Binder → List Ty → List Formula → Raw
-    bind_tree b types parts = raw.Bind (rawbinder.Plain b) (declared names types d) (map (λ (p : ℕ → Raw). p (d + length types)) (map (written names) parts)) 0
+    bind_tree b types parts = raw.Bind (rawbinder.Plain b) (declared_with_types names types d) (map (λ (p : ℕ → Raw). p (d + length types)) (map (written names) parts)) 0
 
     abbrev bind_tokens : Binder → List Ty → List Formula → List Item
     bind_tokens b types parts = binder_items names b types (with_items names parts) d
@@ -233,10 +233,10 @@ module _ (names : List (List ℕ)) (named : (i : ℕ) → i < length names → i
     bind_denied b types parts = not_sign ∷ open_round ∷ (bind_tokens b types parts ++ close_round ∷ [])
 
     bind_starts : (b : Binder) (types : List Ty) (parts : List Formula) → place_of (bind_tree b types parts) ≡ 0
-    bind_starts b types parts = ap place_at (raw_outs-Bind (rawbinder.Plain b) (declared names types d) (map (λ (p : ℕ → Raw). p (d + length types)) (map (written names) parts)) 0)
+    bind_starts b types parts = ap place_at (raw_outs-Bind (rawbinder.Plain b) (declared_with_types names types d) (map (λ (p : ℕ → Raw). p (d + length types)) (map (written names) parts)) 0)
 
     bind_denies : (b : Binder) (types : List Ty) (parts : List Formula) → denied (bind_tree b types parts) ≡ raw.Node (rawop.Plain op.Not) (bind_tree b types parts ∷ []) 0
-    bind_denies b types parts = ap (denied_at (bind_tree b types parts)) (raw_outs-Bind (rawbinder.Plain b) (declared names types d) (map (λ (p : ℕ → Raw). p (d + length types)) (map (written names) parts)) 0)
+    bind_denies b types parts = ap (denied_at (bind_tree b types parts)) (raw_outs-Bind (rawbinder.Plain b) (declared_with_types names types d) (map (λ (p : ℕ → Raw). p (d + length types)) (map (written names) parts)) 0)
 
     abbrev BindRead : Binder → List Ty → Ty → List Formula → Type 0
     BindRead b types t parts = IsReadAt (BindF b types parts t) (bind_tokens b types parts) (bind_denied b types parts) (bind_tree b types parts)
@@ -271,7 +271,7 @@ module _ (names : List (List ℕ)) (named : (i : ℕ) → i < length names → i
         go p e all.0 all.1.0 (ap is_value_type one ∙ value_truth) (ap is_value_type two ∙ v)
     with_value P deep u v (p ∷ e ∷ f ∷ more) h all go = let h' : type_of p ∷ type_of e ∷ type_of f ∷ map type_of more ≡ ty.Truth ∷ u ∷ [] = h in cc
 
-    bind_reads : (b : Binder) (t0 : Ty) (types : List Ty) (parts : List Formula) (t : Ty) → IsTypeRead t0 → AreTypesRead types → d + suc (length types) ≤ length names → IsInstance (part_schemes b) (binder_scheme b) (map type_of parts) t
+    bind_reads : (b : Binder) (t0 : Ty) (types : List Ty) (parts : List Formula) (t : Ty) → IsTypeRead t0 → AreTypesRead types → d + suc (length types) ≤ length names → IsSchemeInstance (part_schemes b) (binder_scheme b) (map type_of parts) t
         → AllByRecursion (IsRead names (d + length (t0 ∷ types))) parts → BindRead b (t0 ∷ types) t parts
     bind_reads binder.ForAll t0 types parts t read all few is inner = with_predicate (BindRead binder.ForAll (t0 ∷ types) t) (d + length (t0 ∷ types)) parts is.operands_are inner
         (λ p rp v.
@@ -284,28 +284,28 @@ module _ (names : List (List ℕ)) (named : (i : ℕ) → i < length names → i
         (λ rest q. names_form (binding.Quantified binder.Exists) (binder_class_of binder.Exists) (binder_sign_of binder.Exists) refl refl t0 types read all few (body_tokens p (d + length (t0 ∷ types)) ++ []) rest
         (written names p (d + length (t0 ∷ types)) ∷ []) (predicate_body binder.Exists (d + length (t0 ∷ types)) p rp v rest q)))
     bind_reads binder.Comprehension t0 types parts t read all few is inner =
-        with_value (BindRead binder.Comprehension (t0 ∷ types) t) (d + length (t0 ∷ types)) (type_at is.letters alpha) (values_at is.letters is.values alpha refl) parts is.operands_are inner
+        with_value (BindRead binder.Comprehension (t0 ∷ types) t) (d + length (t0 ∷ types)) (type_of_scheme is.letters alpha) (values_at is.letters is.values alpha refl) parts is.operands_are inner
         (λ p e rp re v u.
         valued binder.Comprehension (t0 ∷ types) (p ∷ e ∷ []) t refl (ap is_value_type is.whole_is ∙ values_at is.letters is.values (power alpha) refl)
         (λ rest q. names_form binding.Set (binder_class_of binder.Comprehension) (binder_sign_of binder.Comprehension) refl refl t0 types read all few
         ((body_tokens p (d + length (t0 ∷ types)) ++ (bar ∷ body_tokens e (d + length (t0 ∷ types)))) ++ (close_brace ∷ [])) rest
         (written names p (d + length (t0 ∷ types)) ∷ written names e (d + length (t0 ∷ types)) ∷ []) (set_body (d + length (t0 ∷ types)) p e rp re v u rest)))
     bind_reads binder.QuantifiedUnion t0 types parts t read all few is inner =
-        with_value (BindRead binder.QuantifiedUnion (t0 ∷ types) t) (d + length (t0 ∷ types)) (type_at is.letters (power alpha)) (values_at is.letters is.values (power alpha) refl) parts is.operands_are inner
+        with_value (BindRead binder.QuantifiedUnion (t0 ∷ types) t) (d + length (t0 ∷ types)) (type_of_scheme is.letters (power alpha)) (values_at is.letters is.values (power alpha) refl) parts is.operands_are inner
         (λ p e rp re v u.
         valued binder.QuantifiedUnion (t0 ∷ types) (p ∷ e ∷ []) t refl (ap is_value_type is.whole_is ∙ values_at is.letters is.values (power alpha) refl)
         (λ rest q. names_form (binding.Reaching binder.QuantifiedUnion) (binder_class_of binder.QuantifiedUnion) (binder_sign_of binder.QuantifiedUnion) refl refl t0 types read all few
         ((body_tokens p (d + length (t0 ∷ types)) ++ (bar ∷ body_tokens e (d + length (t0 ∷ types)))) ++ []) rest
         (written names p (d + length (t0 ∷ types)) ∷ written names e (d + length (t0 ∷ types)) ∷ []) (reaching_body binder.QuantifiedUnion (d + length (t0 ∷ types)) p e rp re v u rest q)))
     bind_reads binder.QuantifiedIntersection t0 types parts t read all few is inner =
-        with_value (BindRead binder.QuantifiedIntersection (t0 ∷ types) t) (d + length (t0 ∷ types)) (type_at is.letters (power alpha)) (values_at is.letters is.values (power alpha) refl) parts is.operands_are inner
+        with_value (BindRead binder.QuantifiedIntersection (t0 ∷ types) t) (d + length (t0 ∷ types)) (type_of_scheme is.letters (power alpha)) (values_at is.letters is.values (power alpha) refl) parts is.operands_are inner
         (λ p e rp re v u.
         valued binder.QuantifiedIntersection (t0 ∷ types) (p ∷ e ∷ []) t refl (ap is_value_type is.whole_is ∙ values_at is.letters is.values (power alpha) refl)
         (λ rest q. names_form (binding.Reaching binder.QuantifiedIntersection) (binder_class_of binder.QuantifiedIntersection) (binder_sign_of binder.QuantifiedIntersection) refl refl t0 types read all few
         ((body_tokens p (d + length (t0 ∷ types)) ++ (bar ∷ body_tokens e (d + length (t0 ∷ types)))) ++ []) rest
         (written names p (d + length (t0 ∷ types)) ∷ written names e (d + length (t0 ∷ types)) ∷ []) (reaching_body binder.QuantifiedIntersection (d + length (t0 ∷ types)) p e rp re v u rest q)))
 
-    bind_any : (b : Binder) (types : List Ty) (parts : List Formula) (t : Ty) → may_be_bound types ≡ true → AreTypesRead types → d + length types ≤ length names → IsInstance (part_schemes b) (binder_scheme b) (map type_of parts) t
+    bind_any : (b : Binder) (types : List Ty) (parts : List Formula) (t : Ty) → may_be_bound types ≡ true → AreTypesRead types → d + length types ≤ length names → IsSchemeInstance (part_schemes b) (binder_scheme b) (map type_of parts) t
         → AllByRecursion (IsRead names (d + length types)) parts → BindRead b types t parts
     bind_any b [] parts t may read few is inner = cc
     bind_any b (t0 ∷ types) parts t may read few is inner = bind_reads b t0 types parts t read.0 read.1 few is inner
@@ -361,7 +361,7 @@ pub record BoundNames (f : Formula) : Type 0 where
   pub enough : length (bound_names f) ≡ deepest f
   pub named : (i : ℕ) → i < length (bound_names f) → is_name (name_at (bound_names f) i) ≡ true
 
-pub bound_are_names : (f : Formula) → IsCounted f → BoundNames f
+pub bound_are_names : (f : Formula) → HasFewNames f → BoundNames f
 bound_are_names f counted =
     let taken : List (List ℕ) = keys_of (identifiers f) in
     let same : length taken ≡ length (identifiers f) = length-map (identifiers f) (λ (e : List ℕ × Ty). e.0) in
@@ -374,7 +374,7 @@ bound_are_names f counted =
     record { enough = are_fresh.enough; named = λ i short. all_at (λ name. is_name name ≡ true) (bound_names f) i short inside }
 
 -- the law
-pub spelled : (f : Formula) → is_well f ≡ true → HasNames f → IsCounted f → IsSpelled f
+pub spelled : (f : Formula) → is_well f ≡ true → HasNames f → HasFewNames f → IsSpelled f
 spelled f well names counted =
     let b : BoundNames f = bound_are_names f counted in
     let r : IsRead (bound_names f) 0 f = reads_back (bound_names f) b.named f [] tt (omega (arith, b.enough)) well names in

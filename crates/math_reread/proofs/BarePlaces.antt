@@ -1,5 +1,5 @@
 -- Bare formulas without the places of their names: each place is 0.
-use Rattle.type_core.specs.Bare.{Bare, Bares, Bounds, Number, Identifier, Form, Partition, Binding, Ascribed, Broken, nothing, more, unbound, plain, typed}
+use Rattle.type_core.specs.Bare.{Bare, Bares, BareBounds, Number, Identifier, Form, Partition, Binding, Ascribed, Broken, nothing, more, unbound, plain, typed}
 
 abbrev mutual
   pub unplaced_bare : Bare → Bare
@@ -15,7 +15,7 @@ abbrev mutual
   unplaced_bares nothing = nothing
   unplaced_bares (more b bs) = more (unplaced_bare b) (unplaced_bares bs)
 
-  pub unplaced_bounds : Bounds → Bounds
+  pub unplaced_bounds : BareBounds → BareBounds
   unplaced_bounds unbound = unbound
   unplaced_bounds (plain x names) = plain x (unplaced_bounds names)
   unplaced_bounds (typed x written names) = typed x (unplaced_bare written) (unplaced_bounds names)

@@ -9,8 +9,8 @@ use Rattle.formula_core.specs.declared.raw.RawBinder.{RawBinder}
 use Rattle.formula_core.specs.declared.raw.RawBinder.TheVariants as rawbinder
 use Rattle.formula_core.specs.declared.raw.RawBound.{RawBound}
 use Rattle.formula_core.specs.declared.raw.Raw.{Raw}
-use Rattle.type_core.specs.Bare.{Bares, Bounds, Form, Binding, Broken, nothing, more, plain, typed, has_names}
-use Rattle.type_core.specs.CoreForms.{free_in_form, free_in_binder, free_names, Part, bares, bound_before, bounds, plain_names, turned, ascribed, once, core_of_form, core_of_lambda, core_of_unnamed, core_of_binder, core_form}
+use Rattle.type_core.specs.Bare.{Bares, BareBounds, Form, Binding, Broken, nothing, more, plain, typed, has_names}
+use Rattle.type_core.specs.CoreForms.{free_in_form, free_in_binder, free_names, PartWithForm, bares, bound_before, bounds, plain_names, turned, ascribed, once, core_of_form, core_of_lambda, core_of_unnamed, core_of_binder, core_form}
 use Rattle.type_core.specs.PrivateViews.{with_core, bound_part}
 use Rattle.type_core.proofs.CoreEquations.{core_form-Int, core_form-Name, core_form-Node, core_form-Bind, free_names-Int, free_names-Name, free_names-Node, free_names-Bind}
 use Rattle.math_places.specs.Places.{unplaced}
@@ -67,17 +67,17 @@ form_same rawop.BackwardComposition bs = ap (Form op.Composition) (turned_same b
 form_same rawop.Partition bs = refl
 form_same rawop.OfType bs = ascribed_same bs
 
-lambda_same : (names : Bounds) (bs : Bares) → core_of_lambda (unplaced_bounds names) (unplaced_bares bs) ≡ unplaced_bare (core_of_lambda names bs)
+lambda_same : (names : BareBounds) (bs : Bares) → core_of_lambda (unplaced_bounds names) (unplaced_bares bs) ≡ unplaced_bare (core_of_lambda names bs)
 lambda_same names nothing = refl
 lambda_same names (more a nothing) = refl
 lambda_same names (more a (more b nothing)) = refl
 lambda_same names (more a (more b (more c nothing))) = refl
 lambda_same names (more a (more b (more c (more d bs)))) = refl
 
-abbrev unplaced_part : Part → Part
+abbrev unplaced_part : PartWithForm → PartWithForm
 unplaced_part p = (unplaced p.0, unplaced_bare p.1)
 
-bares_same : (ps : List Part) → bares (map unplaced_part ps) ≡ unplaced_bares (bares ps)
+bares_same : (ps : List PartWithForm) → bares (map unplaced_part ps) ≡ unplaced_bares (bares ps)
 bares_same [] = refl
 bares_same (p ∷ ps) = ap (more (unplaced_bare p.1)) (bares_same ps)
 
@@ -85,18 +85,18 @@ plain_same : (xs : List (List ℕ)) → plain_names xs ≡ unplaced_bounds (plai
 plain_same [] = refl
 plain_same (x ∷ xs) = ap (plain x) (plain_same xs)
 
-unnamed_same : (b : Binder) (ps : List Part) → core_of_unnamed b (map unplaced_part ps) ≡ unplaced_bare (core_of_unnamed b ps)
+unnamed_same : (b : Binder) (ps : List PartWithForm) → core_of_unnamed b (map unplaced_part ps) ≡ unplaced_bare (core_of_unnamed b ps)
 unnamed_same b [] = refl
 unnamed_same b (e ∷ []) = refl
 unnamed_same b (e ∷ p ∷ []) =
     ap (λ names. Binding b names (more (unplaced_bare p.1) (more (unplaced_bare e.1) nothing))) (ap (λ xs. plain_names (once xs)) (same_free e.0) ∙ plain_same (once (free_names e.0)))
 unnamed_same b (e ∷ p ∷ q ∷ ps) = ap Broken (bares_same (e ∷ p ∷ q ∷ ps))
 
-implicit_same : (b : Binder) (has : Bool) (ps : List Part) → cond has (Broken (bares (map unplaced_part ps))) (core_of_unnamed b (map unplaced_part ps)) ≡ unplaced_bare (cond has (Broken (bares ps)) (core_of_unnamed b ps))
+implicit_same : (b : Binder) (has : Bool) (ps : List PartWithForm) → cond has (Broken (bares (map unplaced_part ps))) (core_of_unnamed b (map unplaced_part ps)) ≡ unplaced_bare (cond has (Broken (bares ps)) (core_of_unnamed b ps))
 implicit_same b true ps = ap Broken (bares_same ps)
 implicit_same b false ps = unnamed_same b ps
 
-binder_same : (b : RawBinder) (names : Bounds) (ps : List Part) → core_of_binder b (unplaced_bounds names) (map unplaced_part ps) ≡ unplaced_bare (core_of_binder b names ps)
+binder_same : (b : RawBinder) (names : BareBounds) (ps : List PartWithForm) → core_of_binder b (unplaced_bounds names) (map unplaced_part ps) ≡ unplaced_bare (core_of_binder b names ps)
 binder_same (rawbinder.Plain b) names ps = ap (Binding b (unplaced_bounds names)) (bares_same ps)
 binder_same rawbinder.Lambda names ps = ap (core_of_lambda (unplaced_bounds names)) (bares_same ps) ∙ lambda_same names (bares ps)
 binder_same (rawbinder.Implicit b) names ps =
@@ -111,7 +111,7 @@ all_core : (rs : List Raw) → AllByRecursion IsCoreSame rs → map with_core (m
 all_core [] h = refl
 all_core (r ∷ rs) h = λ i. (unplaced r, h.0 i) ∷ all_core rs h.1 i
 
-bound_core : (x : List ℕ) (t : Option Raw) (place : ℕ) (names : Bounds) → OfType IsCoreSame t → bound_before (bound_part (unplaced_bound (record { name = x; ty = t; place = place }))) (unplaced_bounds names) ≡ unplaced_bounds (bound_before (bound_part (record { name = x; ty = t; place = place })) names)
+bound_core : (x : List ℕ) (t : Option Raw) (place : ℕ) (names : BareBounds) → OfType IsCoreSame t → bound_before (bound_part (unplaced_bound (record { name = x; ty = t; place = place }))) (unplaced_bounds names) ≡ unplaced_bounds (bound_before (bound_part (record { name = x; ty = t; place = place })) names)
 bound_core x None place names h = refl
 bound_core x (Some t) place names h = ap (λ u. typed x u (unplaced_bounds names)) h
 

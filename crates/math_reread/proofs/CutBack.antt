@@ -20,7 +20,7 @@ use Rattle.formula_core.specs.Formulas.{joined}
 use Rattle.formula_core.specs.Identifiers.{carriers, identifiers}
 use Rattle.formula_core.specs.Rows.{row_of}
 use Rattle.formula_core.specs.Sizes.{greatest}
-use Rattle.formula_core.specs.TypeTable.{fits as is_fit, binder_fits}
+use Rattle.formula_core.specs.TypeTable.{row_fits as is_fit, binder_fits}
 use Rattle.formula_core.specs.Types.{same_type}
 use Rattle.formula_core.specs.Wellness.{type_of, is_natural, may_be_bound, is_well_in, is_well}
 use Rattle.formula_core.proofs.Equations.{formula_para, identifiers-Free, identifiers-Node, identifiers-Bind}
@@ -30,23 +30,23 @@ use Rattle.math_grammar.specs.Tokens.{Item}
 use Rattle.math_grammar.specs.Grammar.{item}
 use Rattle.math_grammar.specs.declared.symbols.Symbol.TheVariants as sym
 use Rattle.math_grammar.specs.Operators.{binder_sign_of, binder_class_of}
-use Rattle.math_print.specs.Characters.{bytes, separated as separated_texts}
+use Rattle.math_print.specs.Characters.{bytes, separated_texts}
 use Rattle.math_print.specs.Depths.{deepest}
 use Rattle.math_print.specs.Names.{bound_names}
-use Rattle.math_print.specs.Printing.{name_at, binder_end_of, body_text, binder_text, printed, declarations as declaration_texts, text_of}
+use Rattle.math_print.specs.Printing.{name_at, binder_end_of, body_text, binder_text, printed, declaration_texts, formula_text}
 use Rattle.math_print.specs.Private.{with_texts}
 use Rattle.math_print.proofs.Equations.{printed-Int, printed-Free, printed-Bound, printed-Node, printed-Bind, deepest-Node, deepest-Bind}
 use Rattle.math_print.proofs.NamedScopes.{all_left, all_right}
-use Rattle.token_text.specs.Spacing.{Fits, Spaced, the_end, IsCutInto}
+use Rattle.token_text.specs.Spacing.{FitsBefore, Spaced, the_end, IsCutInto}
 use Rattle.token_text.proofs.Following.{Follows}
 use Rattle.token_text.proofs.Cutting.{spaced_cut}
 use Rattle.token_text.proofs.Names.{name_lettered}
 use Rattle.token_text.proofs.Numbers.{fits-number, number_lettered}
 use Rattle.token_text.proofs.Signs.{opens_set}
 use Rattle.token_text.proofs.Words.{lettered_opens_set}
-use Rattle.math_reread.specs.Items.{Part, Items, dot, bar, close_brace, not_sign, open_round, close_round, separated, declarations, binder_end, body_items, binder_items, items_step, items, items_of_formula}
+use Rattle.math_reread.specs.Items.{PartWithItems, Items, dot, bar, close_brace, not_sign, open_round, close_round, separated, declarations, binder_end, body_items, binder_items, items_step, items, items_of_formula}
 use Rattle.math_reread.proofs.ItemParts.{with_items}
-use Rattle.math_print.specs.Held.{HasNames, IsCounted}
+use Rattle.math_print.specs.Held.{HasNames, HasFewNames}
 use Rattle.math_print.specs.Held.{literals, HasNarrowNumbers}
 use Rattle.math_print.proofs.Literals.{literals-Int, literals-Node, literals-Bind}
 use Rattle.math_reread.proofs.TypeReadings.{AreNames}
@@ -74,7 +74,7 @@ in_scope [] i t h = cc
 in_scope (u ∷ bound) zero t h = omega arith
 in_scope (u ∷ bound) (suc i) t h = omega (arith, in_scope bound i t h)
 
-binder_fits_there : (b : Binder) (rest : List ℕ) → Follows opens_set rest → Fits (item (binder_class_of b) 0 (binder_sign_of b)) rest
+binder_fits_there : (b : Binder) (rest : List ℕ) → Follows opens_set rest → FitsBefore (item (binder_class_of b) 0 (binder_sign_of b)) rest
 binder_fits_there binder.ForAll rest h = fits_binder-ForAll rest
 binder_fits_there binder.Exists rest h = fits_binder-Exists rest
 binder_fits_there binder.Comprehension rest h = fits_binder-Comprehension rest h
@@ -96,7 +96,7 @@ ended binder.QuantifiedUnion s t is = beside s [] t [] is nothing_stops nothing
 ended binder.QuantifiedIntersection s t is = beside s [] t [] is nothing_stops nothing
 
 module _ (names : List (List ℕ)) (are_names : (i : ℕ) → i < length names → is_name (name_at names i) ≡ true) where
-  items-at : (x : Formula-F Formula) (f : Formula) → roll-Formula x ≡ f → (denied : Bool) (d : ℕ) → items names f denied d ≡ items_step names (map-Formula Formula Part (λ y. (y, items names y)) x) denied d
+  items-at : (x : Formula-F Formula) (f : Formula) → roll-Formula x ≡ f → (denied : Bool) (d : ℕ) → items names f denied d ≡ items_step names (map-Formula Formula PartWithItems (λ y. (y, items names y)) x) denied d
   items-at x f e denied d = ap (λ (p : Items). p denied d) (formula_para (items_step names) x f e)
 
   -- what a formula is printed as
@@ -216,15 +216,15 @@ module _ (names : List (List ℕ)) (are_names : (i : ℕ) → i < length names �
   text_back = formula_induction IsTextBack at_int at_free at_bound at_node at_bind
 
 -- a formula's tokens with its text, before what stops
-pub formula_printed : (f : Formula) → is_well f ≡ true → HasNames f → IsCounted f → HasNarrowNumbers f → IsFormulaPrinted (bound_names f) 0 f
+pub formula_printed : (f : Formula) → is_well f ≡ true → HasNames f → HasFewNames f → HasNarrowNumbers f → IsFormulaPrinted (bound_names f) 0 f
 formula_printed f well names counted narrow =
     let b : BoundNames f = bound_are_names f counted in
     text_back (bound_names f) b.named f [] (omega (arith, b.enough)) well names narrow
 
 -- the law
-pub text_cut : (f : Formula) → is_well f ≡ true → HasNames f → IsCounted f → HasNarrowNumbers f → IsCutInto (text_of f) (items_of_formula f)
+pub text_cut : (f : Formula) → is_well f ≡ true → HasNames f → HasFewNames f → HasNarrowNumbers f → IsCutInto (formula_text f) (items_of_formula f)
 text_cut f well names counted narrow =
     let is : IsFormulaPrinted (bound_names f) 0 f = formula_printed f well names counted narrow in
     let P : List Item → List ℕ → Type 0 = Spaced in
-    let spaced : Spaced (items_of_formula f) (text_of f) = subst (λ l. P l (text_of f)) (append-nil (items_of_formula f)) (subst (P (items_of_formula f ++ [])) (append-nil (text_of f)) (is.plain [] [] tt the_end)) in
-    spaced_cut (items_of_formula f) (text_of f) spaced
+    let spaced : Spaced (items_of_formula f) (formula_text f) = subst (λ l. P l (formula_text f)) (append-nil (items_of_formula f)) (subst (P (items_of_formula f ++ [])) (append-nil (formula_text f)) (is.plain [] [] tt the_end)) in
+    spaced_cut (items_of_formula f) (formula_text f) spaced

@@ -29,9 +29,9 @@ use Rattle.math_grammar.specs.Grammar.{item, between, Reads}
 use Rattle.math_grammar.specs.Operators.{sign_of, class_of}
 use Rattle.math_print.specs.declared.levels.Side.{Side}
 use Rattle.math_print.specs.declared.levels.Side.TheVariants as side
-use Rattle.math_print.specs.Levels.{level_of, formula_level, is_relation, is_same_connective, is_enclosed, goes_on as goes_on_left, goes_on_at, formula_level_at, needs_parentheses}
+use Rattle.math_print.specs.Levels.{level_of, formula_level, is_relation, is_same_connective, is_enclosed, goes_on_left, goes_on_at, formula_level_at, needs_parentheses}
 use Rattle.math_print.specs.Written.{written, operator_raw}
-use Rattle.math_reread.specs.Items.{not_sign, open_round, close_round, open_square, close_square, sign_token, operand_items, operator_items, Part, items}
+use Rattle.math_reread.specs.Items.{not_sign, open_round, close_round, open_square, close_square, sign_token, operand_items, operator_items, PartWithItems, items}
 use Rattle.math_reread.proofs.Grades.{operator_grade, grade_of, grade_at}
 use Rattle.math_reread.proofs.Tables.{quiet_at, left_of_implication, left_of_equivalence, left_of_and, left_of_or, right_of_implication, right_of_junction, top, ends, le_through, quieter, least_value, quiet, left_value, sign_rank, value_at, left_is_tight, right_is_tight, left_is_quiet, right_is_quiet, goes_on_chained}
 use Rattle.math_reread.proofs.Readings.{Whole, round_grade, rounded, in_brackets, infix_form, prefix_form, apply_form, image_form, converse_form}
@@ -52,7 +52,7 @@ pub record IsConnective (o : Op) : Type 0 where
   pub calm : nat_lt (quiet (level_of o)) (least (right_of l)) ≡ true
   pub reached : nat_le (top (class_of o)) (sign_rank (level_of o)) ≡ true
   pub unrelated : is_relation (level_of o) ≡ false
-  pub tokens : (a b : Part) (t : Ty) (d : ℕ) → operator_items o (sign_token o) (a ∷ b ∷ []) t d ≡ operand_items o side.Left a d ++ (sign_token o ∷ operand_items o side.Right b d)
+  pub tokens : (a b : PartWithItems) (t : Ty) (d : ℕ) → operator_items o (sign_token o) (a ∷ b ∷ []) t d ≡ operand_items o side.Left a d ++ (sign_token o ∷ operand_items o side.Right b d)
   pub tree : (a b : Raw) (t : Ty) → operator_raw o (a ∷ b ∷ []) t ≡ raw.Node (rawop.Plain o) (a ∷ b ∷ []) 0
 
 module _ (names : List (List ℕ)) (d : ℕ) (o : Op) (i : IsConnective o) where

@@ -30,9 +30,9 @@ use Rattle.math_grammar.specs.Operators.{sign_of, op_form, form_class, class_of}
 use Rattle.token_text.proofs.Operators.{passed}
 use Rattle.math_print.specs.declared.levels.Side.{Side}
 use Rattle.math_print.specs.declared.levels.Side.TheVariants as side
-use Rattle.math_print.specs.Levels.{level_of, formula_level, is_relation, is_same_connective, is_enclosed, goes_on as goes_on_left, needs_parentheses}
+use Rattle.math_print.specs.Levels.{level_of, formula_level, is_relation, is_same_connective, is_enclosed, goes_on_left, needs_parentheses}
 use Rattle.math_print.specs.Written.{written, denied, operator_raw}
-use Rattle.math_reread.specs.Items.{sign_token, operand_items, operator_items, Part, items}
+use Rattle.math_reread.specs.Items.{sign_token, operand_items, operator_items, PartWithItems, items}
 use Rattle.math_reread.specs.Grades.{form_grade}
 use Rattle.math_reread.proofs.Grades.{operator_grade, grade_of}
 use Rattle.math_reread.proofs.Tables.{sort_rank, top, ends, le_through, quieter, least_value, quiet, left_value, right_value, sign_rank, value_at, left_is_tight, right_is_tight, left_is_quiet, right_is_quiet, goes_on_chained}
@@ -95,7 +95,7 @@ pub record IsInfix (o : Op) : Type 0 where
   pub reached : nat_le (top (class_of o)) (sign_rank (level_of o)) ≡ true
   pub unrelated : is_relation (level_of o) ≡ false
   pub alone : (left : Op) → is_same_connective o left ≡ false
-  pub tokens : (a b : Part) (t : Ty) (d : ℕ) → operator_items o (sign_token o) (a ∷ b ∷ []) t d ≡ operand_items o side.Left a d ++ (sign_token o ∷ operand_items o side.Right b d)
+  pub tokens : (a b : PartWithItems) (t : Ty) (d : ℕ) → operator_items o (sign_token o) (a ∷ b ∷ []) t d ≡ operand_items o side.Left a d ++ (sign_token o ∷ operand_items o side.Right b d)
   pub tree : (a b : Raw) (t : Ty) → operator_raw o (a ∷ b ∷ []) t ≡ raw.Node (rawop.Plain o) (a ∷ b ∷ []) 0
 
 module _ (names : List (List ℕ)) (d : ℕ) (o : Op) (i : IsInfix o) where
@@ -225,7 +225,7 @@ alone_so op.And h left = cc
 alone_so op.Or h left = cc
 alone_so _ h left = refl
 
-tokens_so : (o : Op) → joins_values (op_form o) ≡ true → (a b : Part) (t : Ty) (d : ℕ) → operator_items o (sign_token o) (a ∷ b ∷ []) t d ≡ operand_items o side.Left a d ++ (sign_token o ∷ operand_items o side.Right b d)
+tokens_so : (o : Op) → joins_values (op_form o) ≡ true → (a b : PartWithItems) (t : Ty) (d : ℕ) → operator_items o (sign_token o) (a ∷ b ∷ []) t d ≡ operand_items o side.Left a d ++ (sign_token o ∷ operand_items o side.Right b d)
 tokens_so op.Apply h a b t d = cc
 tokens_so op.Image h a b t d = cc
 tokens_so op.SetExtension h a b t d = cc

@@ -12,13 +12,13 @@ use Rattle.formula_core.specs.declared.op.Op.TheVariants as op
 use Rattle.formula_core.specs.declared.formula.Formula.{Formula}
 use Rattle.formula_core.specs.declared.raw.Raw.{Raw}
 use Rattle.formula_core.specs.Env.{type_in}
-use Rattle.type_core.specs.Bare.{Bare, Bares, Bounds, Number, Identifier, Form, Partition, Binding, Ascribed, Broken, nothing, more, unbound, plain, typed}
+use Rattle.type_core.specs.Bare.{Bare, Bares, BareBounds, Number, Identifier, Form, Partition, Binding, Ascribed, Broken, nothing, more, unbound, plain, typed}
 use Rattle.type_core.specs.CoreForms.{core_form}
 use Rattle.type_core.specs.Scopes.{Scope, position_of, with_names, has_name, IsName}
 use Rattle.type_core.specs.TypeExpressions.{is_carrier, power_of, pair_of, denoted, denoted_form, all_denoted}
 use Rattle.type_core.specs.Typings.{AreBound, Types, AllTyped}
 use Rattle.type_core.specs.Answers.{paired, IsTypedAs}
-use Rattle.type_core.specs.Unknowns.{names_in, is_known, unknowns, all_unknowns, type_unknowns, first_by_place, unknown_in}
+use Rattle.type_core.specs.Unknowns.{bound_names_in, is_known, unknowns, all_unknowns, type_unknowns, first_name_by_place, unknown_in}
 use Rattle.type_core.proofs.Entries.{is_there, has_place}
 
 abbrev Env : Type 0
@@ -66,16 +66,16 @@ among_one_more names scope y t among x h = go (bytes_eq y x) refl h
     go true e h = any_right (bytes_eq x) names (y ∷ []) (first_or (bytes_eq x y) false (same_bytes x y ∙ e))
     go false e h = any_left (bytes_eq x) names (y ∷ []) (among x h)
 
-among_all : (names : Bounds) (ts : List Ty) (others : List (List ℕ)) (scope : Scope Ty) → AreAmong others scope → AreAmong (others ++ names_in names) (with_names names ts scope)
+among_all : (names : BareBounds) (ts : List Ty) (others : List (List ℕ)) (scope : Scope Ty) → AreAmong others scope → AreAmong (others ++ bound_names_in names) (with_names names ts scope)
 among_all unbound ts others scope among = λ x h. any_left (bytes_eq x) others [] (among x h)
-among_all (plain y names) [] others scope among = λ x h. any_left (bytes_eq x) others (y ∷ names_in names) (among x h)
-among_all (typed y u names) [] others scope among = λ x h. any_left (bytes_eq x) others (y ∷ names_in names) (among x h)
+among_all (plain y names) [] others scope among = λ x h. any_left (bytes_eq x) others (y ∷ bound_names_in names) (among x h)
+among_all (typed y u names) [] others scope among = λ x h. any_left (bytes_eq x) others (y ∷ bound_names_in names) (among x h)
 among_all (plain y names) (t ∷ ts) others scope among =
     let P : List (List ℕ) → Type 0 = λ all. AreAmong all (with_names names ts ((y, t) ∷ scope)) in
-    subst P (append_assoc others (y ∷ []) (names_in names)) (among_all names ts (others ++ y ∷ []) ((y, t) ∷ scope) (among_one_more others scope y t among))
+    subst P (append_assoc others (y ∷ []) (bound_names_in names)) (among_all names ts (others ++ y ∷ []) ((y, t) ∷ scope) (among_one_more others scope y t among))
 among_all (typed y u names) (t ∷ ts) others scope among =
     let P : List (List ℕ) → Type 0 = λ all. AreAmong all (with_names names ts ((y, t) ∷ scope)) in
-    subst P (append_assoc others (y ∷ []) (names_in names)) (among_all names ts (others ++ y ∷ []) ((y, t) ∷ scope) (among_one_more others scope y t among))
+    subst P (append_assoc others (y ∷ []) (bound_names_in names)) (among_all names ts (others ++ y ∷ []) ((y, t) ∷ scope) (among_one_more others scope y t among))
 
 among_wanted : (wanted : List (List ℕ)) (ts : List Ty) → AreAmong wanted (paired wanted ts)
 among_wanted [] ts x h = h
@@ -156,7 +156,7 @@ module _ (env : Env) (wanted : List (List ℕ)) where
     all_denoted_known names scope nothing h = refl
     all_denoted_known names scope (more b bs) h = λ i. denoted_known names scope b h.0 i ++ all_denoted_known names scope bs h.1 i
 
-  bound_known : (names : List (List ℕ)) (scope : Scope Ty) (bound : Bounds) (ts : List Ty) → AreBound env scope bound ts → type_unknowns env wanted names bound ≡ []
+  bound_known : (names : List (List ℕ)) (scope : Scope Ty) (bound : BareBounds) (ts : List Ty) → AreBound env scope bound ts → type_unknowns env wanted names bound ≡ []
   bound_known names scope unbound ts h = refl
   bound_known names scope (plain x bound) ts h = bound_known names scope bound h.1 h.3
   bound_known names scope (typed x u bound) ts h = λ i. denoted_known names scope u (there (denoted env scope u) h.0 h.2) i ++ bound_known names scope bound h.1 h.3 i
@@ -181,8 +181,8 @@ module _ (env : Env) (wanted : List (List ℕ)) where
       typed_known names scope among (Partition parts) f t h = all_typed_known names scope among parts h.0 h.1 h.2
       typed_known names scope among (Binding b bound parts) f t h =
           let outer : type_unknowns env wanted names bound ≡ [] = bound_known names scope bound h.0 h.1 in
-          let inner : all_unknowns env wanted (names ++ names_in bound) parts ≡ [] =
-          all_typed_known (names ++ names_in bound) (with_names bound h.0 scope) (among_all bound h.0 names scope among) parts h.3 h.4 h.5 in
+          let inner : all_unknowns env wanted (names ++ bound_names_in bound) parts ≡ [] =
+          all_typed_known (names ++ bound_names_in bound) (with_names bound h.0 scope) (among_all bound h.0 names scope among) parts h.3 h.4 h.5 in
           λ i. outer i ++ inner i
       typed_known names scope among (Ascribed e u) f t h =
           λ i. typed_known names scope among e f t h.1 i ++ denoted_known names scope u (there (denoted env scope u) t h.0) i
@@ -193,4 +193,4 @@ module _ (env : Env) (wanted : List (List ℕ)) where
       all_typed_known names scope among (more b bs) fs ts h = λ i. typed_known names scope among b h.0 h.2 h.4 i ++ all_typed_known names scope among bs h.1 h.3 h.5 i
 
 pub nothing_unknown : (env : Env) (wanted : List (List ℕ)) (raw : Raw) (expected : Option Ty) (f : Formula) → IsTypedAs env wanted (core_form raw) expected f → unknown_in env wanted raw ≡ None
-nothing_unknown env wanted raw expected f h = ap first_by_place (typed_known env wanted h.0 [] [] among_none (core_form raw) f h.3 h.5)
+nothing_unknown env wanted raw expected f h = ap first_name_by_place (typed_known env wanted h.0 [] [] among_none (core_form raw) f h.3 h.5)

@@ -26,8 +26,8 @@ use Rattle.formula_core.specs.declared.raw.Raw.TheVariants as raw
 use Rattle.formula_core.specs.declared.raw.Raw.TheOpen.{Raw-F, Node as RawNode}
 use Rattle.formula_core.specs.declared.raw.Raw.TheViews.{outs-Node}
 use Rattle.formula_core.specs.Rows.{row_of}
-use Rattle.formula_core.specs.Schemes.{Scheme, alpha, beta, gamma, delta, integer, boolean, truth, power, pair, Letters, AreValues as AreLetters, type_at, nullary_scheme, unary_scheme, binary_scheme, operand_schemes, result_scheme, IsInstance}
-use Rattle.formula_core.specs.TypeTable.{fits as is_fit}
+use Rattle.formula_core.specs.Schemes.{Scheme, alpha, beta, gamma, delta, integer, boolean, truth, power, pair, Letters, AreValues as AreLetters, type_of_scheme, nullary_scheme, unary_scheme, binary_scheme, operand_schemes, result_scheme, IsSchemeInstance}
+use Rattle.formula_core.specs.TypeTable.{row_fits as is_fit}
 use Rattle.formula_core.specs.Types.{is_value_step, is_value_type}
 use Rattle.formula_core.specs.Wellness.{type_of}
 use Rattle.formula_core.proofs.Equations.{type_fold}
@@ -45,7 +45,7 @@ use Rattle.math_grammar.specs.Operators.{sign_of, class_of}
 use Rattle.math_print.specs.Levels.{level_of, formula_level}
 use Rattle.math_print.specs.Signs.{denied_sign_of}
 use Rattle.math_print.specs.Written.{written, denied_at, denied, typed_raw, operator_raw}
-use Rattle.math_reread.specs.Items.{not_sign, open_round, close_round, denied_class_of, sign_token, denied_sign_token, operator_items, node_items, typed_items, Part, items}
+use Rattle.math_reread.specs.Items.{not_sign, open_round, close_round, denied_class_of, sign_token, denied_sign_token, operator_items, node_items, typed_items, PartWithItems, items}
 use Rattle.math_reread.proofs.ItemParts.{with_items}
 use Rattle.math_reread.proofs.Grades.{operator_grade, grade_of}
 use Rattle.math_reread.proofs.Tables.{quiet, top}
@@ -62,7 +62,7 @@ second_true : (a b : Bool) → (a && b) ≡ true → b ≡ true
 second_true true b h = h
 second_true false b h = cc
 
-pub values_at : (l : Letters) → AreLetters l → (s : Scheme) → is_of_values s ≡ true → is_value_type (type_at l s) ≡ true
+pub values_at : (l : Letters) → AreLetters l → (s : Scheme) → is_of_values s ≡ true → is_value_type (type_of_scheme l s) ≡ true
 values_at l v alpha h = v.alpha
 values_at l v beta h = v.beta
 values_at l v gamma h = v.gamma
@@ -70,9 +70,9 @@ values_at l v delta h = v.delta
 values_at l v integer h = type_fold is_value_step IntT ty.Int of_type.rolls-Int
 values_at l v boolean h = type_fold is_value_step BoolT ty.Bool of_type.rolls-Bool
 values_at l v truth h = cc
-values_at l v (power s) h = value-Pow (type_at l s) ∙ values_at l v s h
+values_at l v (power s) h = value-Pow (type_of_scheme l s) ∙ values_at l v s h
 values_at l v (pair s u) h =
-    value-Pair (type_at l s) (type_at l u)
+    value-Pair (type_of_scheme l s) (type_of_scheme l u)
     ∙ both_true _ _ (values_at l v s (first_true (is_of_values s) (is_of_values u) h)) (values_at l v u (second_true (is_of_values s) (is_of_values u) h))
 
 pub value_truth : is_value_type ty.Truth ≡ false
@@ -129,52 +129,52 @@ module _ (names : List (List ℕ)) (d : ℕ) where
   value_node o parts t g v starts plain = record { sorted = g ∙ back v; starts = starts; plain = plain; denied_too = λ h. let never : true ≡ false = back v ∙ h in cc }
 
   instance_of : (o : Op) (r : Row) → row_of o ≡ r → (parts : List Formula) (t : Ty) → is_fit (row_of o) (map type_of parts) t ≡ true
-      → IsInstance (operand_schemes r (length (map type_of parts))) (result_scheme r) (map type_of parts) t
+      → IsSchemeInstance (operand_schemes r (length (map type_of parts))) (result_scheme r) (map type_of parts) t
   instance_of o r e parts t h = (fits_exactly r (map type_of parts) t).0 (let P : Row → Type 0 = λ x. is_fit x (map type_of parts) t ≡ true in subst P e h)
 
   infix_node : (o : Op) → IsInfix o → (parts : List Formula) (t : Ty) → Parts parts → is_fit (row_of o) (map type_of parts) t ≡ true → NodeRead o parts t
   infix_node o i parts t all h = go parts all (instance_of o (row.Binary i.r) i.its_row parts t h)
     where
-      go : (parts : List Formula) → Parts parts → IsInstance ((binary_scheme i.r).0 ∷ (binary_scheme i.r).1 ∷ []) (binary_scheme i.r).2 (map type_of parts) t → NodeRead o parts t
-      go [] all is = let e : [] ≡ type_at is.letters (binary_scheme i.r).0 ∷ type_at is.letters (binary_scheme i.r).1 ∷ [] = is.operands_are in cc
-      go (a ∷ []) all is = let e : type_of a ∷ [] ≡ type_at is.letters (binary_scheme i.r).0 ∷ type_at is.letters (binary_scheme i.r).1 ∷ [] = is.operands_are in cc
+      go : (parts : List Formula) → Parts parts → IsSchemeInstance ((binary_scheme i.r).0 ∷ (binary_scheme i.r).1 ∷ []) (binary_scheme i.r).2 (map type_of parts) t → NodeRead o parts t
+      go [] all is = let e : [] ≡ type_of_scheme is.letters (binary_scheme i.r).0 ∷ type_of_scheme is.letters (binary_scheme i.r).1 ∷ [] = is.operands_are in cc
+      go (a ∷ []) all is = let e : type_of a ∷ [] ≡ type_of_scheme is.letters (binary_scheme i.r).0 ∷ type_of_scheme is.letters (binary_scheme i.r).1 ∷ [] = is.operands_are in cc
       go (a ∷ b ∷ []) all is =
-          let e : type_of a ∷ type_of b ∷ [] ≡ type_at is.letters (binary_scheme i.r).0 ∷ type_at is.letters (binary_scheme i.r).1 ∷ [] = is.operands_are in
-          let ea : type_of a ≡ type_at is.letters (binary_scheme i.r).0 = cc in
-          let eb : type_of b ≡ type_at is.letters (binary_scheme i.r).1 = cc in
+          let e : type_of a ∷ type_of b ∷ [] ≡ type_of_scheme is.letters (binary_scheme i.r).0 ∷ type_of_scheme is.letters (binary_scheme i.r).1 ∷ [] = is.operands_are in
+          let ea : type_of a ≡ type_of_scheme is.letters (binary_scheme i.r).0 = cc in
+          let eb : type_of b ≡ type_of_scheme is.letters (binary_scheme i.r).1 = cc in
           value_node o (a ∷ b ∷ []) t i.of_value (ap is_value_type is.whole_is ∙ values_at is.letters is.values (binary_scheme i.r).2 i.result)
           (ap place_of (i.tree (written names a d) (written names b d) t) ∙ place_node (rawop.Plain o) (written names a d ∷ written names b d ∷ []))
           (infix_reads names d o i a b t all.0 all.1.0 (ap is_value_type ea ∙ values_at is.letters is.values (binary_scheme i.r).0 i.first)
           (ap is_value_type eb ∙ values_at is.letters is.values (binary_scheme i.r).1 i.second))
-      go (a ∷ b ∷ c ∷ more) all is = let e : type_of a ∷ type_of b ∷ type_of c ∷ map type_of more ≡ type_at is.letters (binary_scheme i.r).0 ∷ type_at is.letters (binary_scheme i.r).1 ∷ [] = is.operands_are in cc
+      go (a ∷ b ∷ c ∷ more) all is = let e : type_of a ∷ type_of b ∷ type_of c ∷ map type_of more ≡ type_of_scheme is.letters (binary_scheme i.r).0 ∷ type_of_scheme is.letters (binary_scheme i.r).1 ∷ [] = is.operands_are in cc
 
   -- the operands of a row
-  with_two : (P : List Formula → Type 0) (r : BinaryRow) (t : Ty) (parts : List Formula) → IsInstance ((binary_scheme r).0 ∷ (binary_scheme r).1 ∷ []) (binary_scheme r).2 (map type_of parts) t → Parts parts
-      → ((l : Letters) → AreLetters l → t ≡ type_at l (binary_scheme r).2 → (a b : Formula) → IsRead names d a → IsRead names d b → type_of a ≡ type_at l (binary_scheme r).0 → type_of b ≡ type_at l (binary_scheme r).1 → P (a ∷ b ∷ [])) → P parts
-  with_two P r t [] is all go = let e : [] ≡ type_at is.letters (binary_scheme r).0 ∷ type_at is.letters (binary_scheme r).1 ∷ [] = is.operands_are in cc
-  with_two P r t (a ∷ []) is all go = let e : type_of a ∷ [] ≡ type_at is.letters (binary_scheme r).0 ∷ type_at is.letters (binary_scheme r).1 ∷ [] = is.operands_are in cc
+  with_two : (P : List Formula → Type 0) (r : BinaryRow) (t : Ty) (parts : List Formula) → IsSchemeInstance ((binary_scheme r).0 ∷ (binary_scheme r).1 ∷ []) (binary_scheme r).2 (map type_of parts) t → Parts parts
+      → ((l : Letters) → AreLetters l → t ≡ type_of_scheme l (binary_scheme r).2 → (a b : Formula) → IsRead names d a → IsRead names d b → type_of a ≡ type_of_scheme l (binary_scheme r).0 → type_of b ≡ type_of_scheme l (binary_scheme r).1 → P (a ∷ b ∷ [])) → P parts
+  with_two P r t [] is all go = let e : [] ≡ type_of_scheme is.letters (binary_scheme r).0 ∷ type_of_scheme is.letters (binary_scheme r).1 ∷ [] = is.operands_are in cc
+  with_two P r t (a ∷ []) is all go = let e : type_of a ∷ [] ≡ type_of_scheme is.letters (binary_scheme r).0 ∷ type_of_scheme is.letters (binary_scheme r).1 ∷ [] = is.operands_are in cc
   with_two P r t (a ∷ b ∷ []) is all go =
-      let e : type_of a ∷ type_of b ∷ [] ≡ type_at is.letters (binary_scheme r).0 ∷ type_at is.letters (binary_scheme r).1 ∷ [] = is.operands_are in
-      let ea : type_of a ≡ type_at is.letters (binary_scheme r).0 = cc in
-      let eb : type_of b ≡ type_at is.letters (binary_scheme r).1 = cc in
+      let e : type_of a ∷ type_of b ∷ [] ≡ type_of_scheme is.letters (binary_scheme r).0 ∷ type_of_scheme is.letters (binary_scheme r).1 ∷ [] = is.operands_are in
+      let ea : type_of a ≡ type_of_scheme is.letters (binary_scheme r).0 = cc in
+      let eb : type_of b ≡ type_of_scheme is.letters (binary_scheme r).1 = cc in
       go is.letters is.values is.whole_is a b all.0 all.1.0 ea eb
   with_two P r t (a ∷ b ∷ c ∷ more) is all go =
-      let e : type_of a ∷ type_of b ∷ type_of c ∷ map type_of more ≡ type_at is.letters (binary_scheme r).0 ∷ type_at is.letters (binary_scheme r).1 ∷ [] = is.operands_are in cc
+      let e : type_of a ∷ type_of b ∷ type_of c ∷ map type_of more ≡ type_of_scheme is.letters (binary_scheme r).0 ∷ type_of_scheme is.letters (binary_scheme r).1 ∷ [] = is.operands_are in cc
 
-  with_one : (P : List Formula → Type 0) (r : UnaryRow) (t : Ty) (parts : List Formula) → IsInstance ((unary_scheme r).0 ∷ []) (unary_scheme r).1 (map type_of parts) t → Parts parts
-      → ((l : Letters) → AreLetters l → t ≡ type_at l (unary_scheme r).1 → (a : Formula) → IsRead names d a → type_of a ≡ type_at l (unary_scheme r).0 → P (a ∷ [])) → P parts
-  with_one P r t [] is all go = let e : [] ≡ type_at is.letters (unary_scheme r).0 ∷ [] = is.operands_are in cc
+  with_one : (P : List Formula → Type 0) (r : UnaryRow) (t : Ty) (parts : List Formula) → IsSchemeInstance ((unary_scheme r).0 ∷ []) (unary_scheme r).1 (map type_of parts) t → Parts parts
+      → ((l : Letters) → AreLetters l → t ≡ type_of_scheme l (unary_scheme r).1 → (a : Formula) → IsRead names d a → type_of a ≡ type_of_scheme l (unary_scheme r).0 → P (a ∷ [])) → P parts
+  with_one P r t [] is all go = let e : [] ≡ type_of_scheme is.letters (unary_scheme r).0 ∷ [] = is.operands_are in cc
   with_one P r t (a ∷ []) is all go =
-      let e : type_of a ∷ [] ≡ type_at is.letters (unary_scheme r).0 ∷ [] = is.operands_are in
-      let ea : type_of a ≡ type_at is.letters (unary_scheme r).0 = cc in
+      let e : type_of a ∷ [] ≡ type_of_scheme is.letters (unary_scheme r).0 ∷ [] = is.operands_are in
+      let ea : type_of a ≡ type_of_scheme is.letters (unary_scheme r).0 = cc in
       go is.letters is.values is.whole_is a all.0 ea
-  with_one P r t (a ∷ b ∷ more) is all go = let e : type_of a ∷ type_of b ∷ map type_of more ≡ type_at is.letters (unary_scheme r).0 ∷ [] = is.operands_are in cc
+  with_one P r t (a ∷ b ∷ more) is all go = let e : type_of a ∷ type_of b ∷ map type_of more ≡ type_of_scheme is.letters (unary_scheme r).0 ∷ [] = is.operands_are in cc
 
-  with_none : (P : List Formula → Type 0) (r : NullaryRow) (t : Ty) (parts : List Formula) → IsInstance [] (nullary_scheme r) (map type_of parts) t → ((l : Letters) → AreLetters l → t ≡ type_at l (nullary_scheme r) → P []) → P parts
+  with_none : (P : List Formula → Type 0) (r : NullaryRow) (t : Ty) (parts : List Formula) → IsSchemeInstance [] (nullary_scheme r) (map type_of parts) t → ((l : Letters) → AreLetters l → t ≡ type_of_scheme l (nullary_scheme r) → P []) → P parts
   with_none P r t [] is go = go is.letters is.values is.whole_is
   with_none P r t (a ∷ more) is go = let e : type_of a ∷ map type_of more ≡ [] = is.operands_are in cc
 
-  value_by : (l : Letters) → AreLetters l → (t : Ty) (s : Scheme) → t ≡ type_at l s → is_of_values s ≡ true → is_value_type t ≡ true
+  value_by : (l : Letters) → AreLetters l → (t : Ty) (s : Scheme) → t ≡ type_of_scheme l s → is_of_values s ≡ true → is_value_type t ≡ true
   value_by l v t s e h = ap is_value_type e ∙ values_at l v s h
 
   truth_by : (t : Ty) → t ≡ ty.Truth → is_value_type t ≡ false
@@ -194,7 +194,7 @@ module _ (names : List (List ℕ)) (d : ℕ) where
         (negated_form (quiet (level_of o)) (operator_grade o) (operator_items o (sign_token o) (with_items names parts) t d) (tree o parts t) plain g));
   }
 
-  connective_node : (o : Op) → IsConnective o → ((ps : List Part) (t : Ty) → node_items o ps t true d ≡ not_sign ∷ open_round ∷ (operator_items o (sign_token o) ps t d ++ close_round ∷ []))
+  connective_node : (o : Op) → IsConnective o → ((ps : List PartWithItems) (t : Ty) → node_items o ps t true d ≡ not_sign ∷ open_round ∷ (operator_items o (sign_token o) ps t d ++ close_round ∷ []))
       → ((r : Raw) (rs : List Raw) → denied_at r (RawNode (rawop.Plain o) rs 0) ≡ raw.Node (rawop.Plain op.Not) (r ∷ []) 0)
       → (parts : List Formula) (t : Ty) → Parts parts → is_fit (row_of o) (map type_of parts) t ≡ true → NodeRead o parts t
   connective_node o i tokens denies parts t all h = with_two (λ ps. NodeRead o ps t) binary.Connective t parts (instance_of o (row.Binary binary.Connective) i.its_row parts t h) all
@@ -207,7 +207,7 @@ module _ (names : List (List ℕ)) (d : ℕ) where
 
   -- a function before its argument
   function_node : (o : Op) (r : UnaryRow) → row_of o ≡ row.Unary r → is_of_values (unary_scheme r).0 ≡ true → is_of_values (unary_scheme r).1 ≡ true → operator_grade o ≡ grade.Primary
-      → ((a : Part) (t : Ty) → operator_items o (sign_token o) (a ∷ []) t d ≡ item (sym.Call call.Function (rawop.Plain o)) 0 (sign_of o) ∷ open_round ∷ (a.1 false d ++ close_round ∷ []))
+      → ((a : PartWithItems) (t : Ty) → operator_items o (sign_token o) (a ∷ []) t d ≡ item (sym.Call call.Function (rawop.Plain o)) 0 (sign_of o) ∷ open_round ∷ (a.1 false d ++ close_round ∷ []))
       → ((a : Raw) (t : Ty) → operator_raw o (a ∷ []) t ≡ raw.Node (rawop.Plain o) (a ∷ []) 0)
       → (parts : List Formula) (t : Ty) → Parts parts → is_fit (row_of o) (map type_of parts) t ≡ true → NodeRead o parts t
   function_node o r is first result graded tokens same parts t all h = with_one (λ ps. NodeRead o ps t) r t parts (instance_of o (row.Unary r) is parts t h) all
@@ -276,8 +276,8 @@ module _ (names : List (List ℕ)) (d : ℕ) where
   signed_node : (o : Op) (r : BinaryRow) (n : RawOp) → row_of o ≡ row.Binary r → is_of_values (binary_scheme r).0 ≡ true → is_of_values (binary_scheme r).1 ≡ true → (binary_scheme r).2 ≡ truth
       → operator_grade o ≡ grade.Literal → quiet (level_of o) ≡ 2 → infix_of (class_of o) ≡ Some (sort.Relation, rawop.Plain o) → top (class_of o) ≡ 3
       → infix_of (denied_class_of o) ≡ Some (sort.Relation, n) → top (denied_class_of o) ≡ 3
-      → ((a b : Part) (t : Ty) → operator_items o (sign_token o) (a ∷ b ∷ []) t d ≡ a.1 false d ++ (sign_token o ∷ b.1 false d))
-      → ((a b : Part) (t : Ty) → node_items o (a ∷ b ∷ []) t true d ≡ (a.1 false d ++ (denied_sign_token o ∷ b.1 false d)) ++ [])
+      → ((a b : PartWithItems) (t : Ty) → operator_items o (sign_token o) (a ∷ b ∷ []) t d ≡ a.1 false d ++ (sign_token o ∷ b.1 false d))
+      → ((a b : PartWithItems) (t : Ty) → node_items o (a ∷ b ∷ []) t true d ≡ (a.1 false d ++ (denied_sign_token o ∷ b.1 false d)) ++ [])
       → ((a b : Raw) (t : Ty) → operator_raw o (a ∷ b ∷ []) t ≡ raw.Node (rawop.Plain o) (a ∷ b ∷ []) 0) → ((r : Raw) (rs : List Raw) → denied_at r (RawNode (rawop.Plain o) rs 0) ≡ raw.Node n rs 0)
       → (parts : List Formula) (t : Ty) → Parts parts → is_fit (row_of o) (map type_of parts) t ≡ true → NodeRead o parts t
   signed_node o r n is first second result graded low sign three denied_sign denied_three tokens denied_tokens same denies parts t all h =
@@ -286,11 +286,11 @@ module _ (names : List (List ℕ)) (d : ℕ) where
       let va : is_value_type (type_of a) ≡ true = value_by l v (type_of a) (binary_scheme r).0 ea first in
       let vb : is_value_type (type_of b) ≡ true = value_by l v (type_of b) (binary_scheme r).1 eb second in
       let rs : List Raw = written names a d ∷ written names b d ∷ [] in
-      let pa : Part = (a, items names a) in
-      let pb : Part = (b, items names b) in
+      let pa : PartWithItems = (a, items names a) in
+      let pb : PartWithItems = (b, items names b) in
       let W : ℕ → Grade → List Item → Raw → Type 0 = Whole in
       record {
-        sorted = ap (λ g. nat_lt 3 (rank g)) graded ∙ back (truth_by t (e ∙ ap (type_at l) result));
+        sorted = ap (λ g. nat_lt 3 (rank g)) graded ∙ back (truth_by t (e ∙ ap (type_of_scheme l) result));
         starts = ap place_of (same (written names a d) (written names b d) t) ∙ place_node (rawop.Plain o) rs;
         plain = subst (λ k. W k (operator_grade o) (operator_items o (sign_token o) (pa ∷ pb ∷ []) t d) (tree o (a ∷ b ∷ []) t)) (back low)
             (subst (λ g. W 2 g (operator_items o (sign_token o) (pa ∷ pb ∷ []) t d) (tree o (a ∷ b ∷ []) t)) (back graded)
@@ -304,8 +304,8 @@ module _ (names : List (List ℕ)) (d : ℕ) where
   -- .. and one without
   compared_node : (o : Op) → row_of o ≡ row.Binary binary.Comparison
       → operator_grade o ≡ grade.Literal → quiet (level_of o) ≡ 2 → infix_of (class_of o) ≡ Some (sort.Relation, rawop.Plain o) → top (class_of o) ≡ 3
-      → ((a b : Part) (t : Ty) → operator_items o (sign_token o) (a ∷ b ∷ []) t d ≡ a.1 false d ++ (sign_token o ∷ b.1 false d))
-      → ((ps : List Part) (t : Ty) → node_items o ps t true d ≡ not_sign ∷ open_round ∷ (operator_items o (sign_token o) ps t d ++ close_round ∷ []))
+      → ((a b : PartWithItems) (t : Ty) → operator_items o (sign_token o) (a ∷ b ∷ []) t d ≡ a.1 false d ++ (sign_token o ∷ b.1 false d))
+      → ((ps : List PartWithItems) (t : Ty) → node_items o ps t true d ≡ not_sign ∷ open_round ∷ (operator_items o (sign_token o) ps t d ++ close_round ∷ []))
       → ((a b : Raw) (t : Ty) → operator_raw o (a ∷ b ∷ []) t ≡ raw.Node (rawop.Plain o) (a ∷ b ∷ []) 0)
       → ((r : Raw) (rs : List Raw) → denied_at r (RawNode (rawop.Plain o) rs 0) ≡ raw.Node (rawop.Plain op.Not) (r ∷ []) 0)
       → (parts : List Formula) (t : Ty) → Parts parts → is_fit (row_of o) (map type_of parts) t ≡ true → NodeRead o parts t
@@ -315,8 +315,8 @@ module _ (names : List (List ℕ)) (d : ℕ) where
       let va : is_value_type (type_of a) ≡ true = value_by l v (type_of a) integer ea refl in
       let vb : is_value_type (type_of b) ≡ true = value_by l v (type_of b) integer eb refl in
       let rs : List Raw = written names a d ∷ written names b d ∷ [] in
-      let pa : Part = (a, items names a) in
-      let pb : Part = (b, items names b) in
+      let pa : PartWithItems = (a, items names a) in
+      let pb : PartWithItems = (b, items names b) in
       let W : ℕ → Grade → List Item → Raw → Type 0 = Whole in
       let equal : tree o (a ∷ b ∷ []) t ≡ raw.Node (rawop.Plain o) rs 0 = same (written names a d) (written names b d) t in
       negated_node o (a ∷ b ∷ []) t (ap (λ g. nat_lt 3 (rank g)) graded) (truth_by t e) (ap place_of equal ∙ place_node (rawop.Plain o) rs)
@@ -379,15 +379,15 @@ module _ (names : List (List ℕ)) (d : ℕ) where
       (image_reads names d a b ra rb (value_by l v (type_of a) (binary_scheme binary.Image).0 ea refl) (value_by l v (type_of b) (binary_scheme binary.Image).1 eb refl)))
 
   -- the members of a set
-  are_values : (l : Letters) → AreLetters l → (k : ℕ) (parts : List Formula) → map type_of parts ≡ map (type_at l) (replicate k alpha) → Parts parts
-      → AreValues (map (λ (p : Part). p.1 false d) (with_items names parts)) (map (λ (p : ℕ → Raw). p d) (map (written names) parts))
+  are_values : (l : Letters) → AreLetters l → (k : ℕ) (parts : List Formula) → map type_of parts ≡ map (type_of_scheme l) (replicate k alpha) → Parts parts
+      → AreValues (map (λ (p : PartWithItems). p.1 false d) (with_items names parts)) (map (λ (p : ℕ → Raw). p d) (map (written names) parts))
   are_values l v zero [] e all = none_more
   are_values l v zero (a ∷ parts) e all = cc
   are_values l v (suc k) [] e all = cc
   are_values l v (suc k) (a ∷ parts) e all =
-      let e' : type_of a ∷ map type_of parts ≡ l.alpha ∷ map (type_at l) (replicate k alpha) = e in
+      let e' : type_of a ∷ map type_of parts ≡ l.alpha ∷ map (type_of_scheme l) (replicate k alpha) = e in
       let ea : type_of a ≡ l.alpha = cc in
-      let later : map type_of parts ≡ map (type_at l) (replicate k alpha) = cc in
+      let later : map type_of parts ≡ map (type_of_scheme l) (replicate k alpha) = cc in
       one_more (is_value l v a all.0 ea) (are_values l v k parts later all.1)
     where
       is_value : (l : Letters) → AreLetters l → (a : Formula) → IsRead names d a → type_of a ≡ l.alpha → IsValue (items names a false d) (written names a d)
@@ -396,17 +396,17 @@ module _ (names : List (List ℕ)) (d : ℕ) where
   set_node : (parts : List Formula) (t : Ty) → Parts parts → is_fit (row_of op.SetExtension) (map type_of parts) t ≡ true → NodeRead op.SetExtension parts t
   set_node parts t all h = go parts all (instance_of op.SetExtension row.SetExtension refl parts t h)
     where
-      go : (parts : List Formula) → Parts parts → IsInstance (alpha ∷ replicate (length (map type_of parts) - 1) alpha) (power alpha) (map type_of parts) t → NodeRead op.SetExtension parts t
-      go [] all is = let e : [] ≡ is.letters.alpha ∷ map (type_at is.letters) (replicate (0 - 1) alpha) = is.operands_are in cc
+      go : (parts : List Formula) → Parts parts → IsSchemeInstance (alpha ∷ replicate (length (map type_of parts) - 1) alpha) (power alpha) (map type_of parts) t → NodeRead op.SetExtension parts t
+      go [] all is = let e : [] ≡ is.letters.alpha ∷ map (type_of_scheme is.letters) (replicate (0 - 1) alpha) = is.operands_are in cc
       go (a ∷ parts) all is =
           let k : ℕ = length (map type_of (a ∷ parts)) - 1 in
-          let e : type_of a ∷ map type_of parts ≡ is.letters.alpha ∷ map (type_at is.letters) (replicate k alpha) = is.operands_are in
+          let e : type_of a ∷ map type_of parts ≡ is.letters.alpha ∷ map (type_of_scheme is.letters) (replicate k alpha) = is.operands_are in
           let ea : type_of a ≡ is.letters.alpha = cc in
-          let later : map type_of parts ≡ map (type_at is.letters) (replicate k alpha) = cc in
+          let later : map type_of parts ≡ map (type_of_scheme is.letters) (replicate k alpha) = cc in
           let value : IsValue (items names a false d) (written names a d)
           = record { least = quiet (formula_level a); g = grade_of a; whole = all.0.plain; fit = fits_value (grade_of a) (all.0.sorted ∙ ap is_value_type ea ∙ is.values.alpha) } in
           value_node op.SetExtension (a ∷ parts) t refl (value_by is.letters is.values t (power alpha) is.whole_is refl) (place_node (rawop.Plain op.SetExtension) _)
-          (λ rest q. set_form [] (items names a false d) (written names a d) (map (λ (p : Part). p.1 false d) (with_items names parts)) (map (λ (p : ℕ → Raw). p d) (map (written names) parts)) value
+          (λ rest q. set_form [] (items names a false d) (written names a d) (map (λ (p : PartWithItems). p.1 false d) (with_items names parts)) (map (λ (p : ℕ → Raw). p d) (map (written names) parts)) value
           (are_values is.letters is.values k parts later all.1) rest)
 
   pub node_reads : (o : Op) (parts : List Formula) (t : Ty) → Parts parts → (is_value_type t ≡ true → IsTypeRead t) → is_fit (row_of o) (map type_of parts) t ≡ true → NodeRead o parts t

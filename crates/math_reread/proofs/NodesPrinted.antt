@@ -16,22 +16,22 @@ use Rattle.formula_core.specs.declared.row.BinaryRow.TheVariants as binary
 use Rattle.formula_core.specs.declared.formula.Formula.{Formula}
 use Rattle.formula_core.specs.Identifiers.{carriers}
 use Rattle.formula_core.specs.Rows.{row_of}
-use Rattle.formula_core.specs.Schemes.{alpha, power, type_at, operand_schemes, result_scheme, IsInstance}
-use Rattle.formula_core.specs.TypeTable.{fits as is_fit}
+use Rattle.formula_core.specs.Schemes.{alpha, power, type_of_scheme, operand_schemes, result_scheme, IsSchemeInstance}
+use Rattle.formula_core.specs.TypeTable.{row_fits as is_fit}
 use Rattle.formula_core.specs.Wellness.{type_of}
 use Rattle.formula_core.proofs.Schemes.{fits_exactly}
 use Rattle.math_grammar.specs.Tokens.{Item}
 use Rattle.math_grammar.specs.Operators.{sign_of, op_form}
 use Rattle.math_print.specs.declared.levels.Side.{Side}
 use Rattle.math_print.specs.declared.levels.Side.TheVariants as side
-use Rattle.math_print.specs.Characters.{bytes, separated as separated_texts}
+use Rattle.math_print.specs.Characters.{bytes, separated_texts}
 use Rattle.math_print.specs.Levels.{needs_parentheses}
 use Rattle.math_print.specs.Signs.{opening_of, closing_of}
-use Rattle.math_print.specs.Printing.{Part as TextPart, operand, typed_text, operator_text, printed}
+use Rattle.math_print.specs.Printing.{PartWithText as TextPart, operand_text, typed_text, operator_text, printed}
 use Rattle.math_print.specs.Private.{with_texts}
-use Rattle.token_text.specs.Spacing.{Fits}
+use Rattle.token_text.specs.Spacing.{FitsBefore}
 use Rattle.token_text.proofs.Following.{stops, Follows}
-use Rattle.math_reread.specs.Items.{Part, not_sign, open_round, close_round, open_square, close_square, sign_token, denied_sign_token, opening_items, closing_items, operand_items, typed_items, separated, operator_items, items}
+use Rattle.math_reread.specs.Items.{PartWithItems, not_sign, open_round, close_round, open_square, close_square, sign_token, denied_sign_token, opening_items, closing_items, operand_items, typed_items, separated, operator_items, items}
 use Rattle.math_reread.proofs.ItemParts.{with_items}
 use Rattle.math_reread.proofs.TypeReadings.{AreNames}
 use Rattle.token_text.proofs.Signs.{opens_set}
@@ -86,7 +86,7 @@ module _ (names : List (List ℕ)) (d : ℕ) where
   Parts parts = AllByRecursion (IsFormulaPrinted names d) parts
 
   instance_of : (o : Op) (r : Row) → row_of o ≡ r → (parts : List Formula) (t : Ty) → is_fit (row_of o) (map type_of parts) t ≡ true
-      → IsInstance (operand_schemes r (length (map type_of parts))) (result_scheme r) (map type_of parts) t
+      → IsSchemeInstance (operand_schemes r (length (map type_of parts))) (result_scheme r) (map type_of parts) t
   instance_of o r e parts t h = (fits_exactly r (map type_of parts) t).0 (let P : Row → Type 0 = λ x. is_fit x (map type_of parts) t ≡ true in subst P e h)
 
   -- the operands of a row
@@ -116,16 +116,16 @@ module _ (names : List (List ℕ)) (d : ℕ) where
       go u v (a ∷ b ∷ []) all e = p a b all.0 all.1.0
       go u v (a ∷ b ∷ c ∷ more) all e = let never : type_of a ∷ type_of b ∷ type_of c ∷ map type_of more ≡ u ∷ v ∷ [] = e in cc
 
-  abbrev tokens_of : Formula → Part
+  abbrev tokens_of : Formula → PartWithItems
   tokens_of a = (a, items names a)
 
   abbrev text_of : Formula → TextPart
   text_of a = (a, printed names a)
 
-  operand_form : (o : Op) (s : Side) (a : Formula) → IsFormulaPrinted names d a → IsPrinted (operand_items o s (tokens_of a) d) (operand o s (text_of a) d)
+  operand_form : (o : Op) (s : Side) (a : Formula) → IsFormulaPrinted names d a → IsPrinted (operand_items o s (tokens_of a) d) (operand_text o s (text_of a) d)
   operand_form o s a is = rounded (needs_parentheses o s a) (items names a false d) (printed names a false d) is.plain
 
-  operand_opens : (o : Op) (s : Side) (a : Formula) → IsFormulaPrinted names d a → Opens (operand o s (text_of a) d)
+  operand_opens : (o : Op) (s : Side) (a : Formula) → IsFormulaPrinted names d a → Opens (operand_text o s (text_of a) d)
   operand_opens o s a is = rounded_opens (needs_parentheses o s a) (printed names a false d) is.opens
 
   by : (o : Op) (x : Item) (parts : List Formula) (t : Ty) (s : List Item) (u : List ℕ) → operator_items o x (with_items names parts) t d ≡ s → operator_text o x.text (with_texts names parts) t d ≡ u → IsPrinted s u → Opens u → IsOperatorPrinted o x parts t
@@ -136,31 +136,31 @@ module _ (names : List (List ℕ)) (d : ℕ) where
       record { whole = subst (λ l. P l own) (back e) (subst (λ v. P s v) (back h) is); opens = subst Q (back h) open_too }
 
   infix_node : (o : Op) (x : Item) (r : BinaryRow) → row_of o ≡ row.Binary r
-      → ((a b : Part) (t : Ty) → operator_items o x (a ∷ b ∷ []) t d ≡ operand_items o side.Left a d ++ (x ∷ operand_items o side.Right b d))
-      → ((a b : TextPart) (t : Ty) → operator_text o x.text (a ∷ b ∷ []) t d ≡ operand o side.Left a d ++ (bytes " " ++ (x.text ++ (bytes " " ++ operand o side.Right b d))))
-      → ((rest : List ℕ) → Fits x (32 ∷ rest)) → (parts : List Formula) (t : Ty) → Parts parts → is_fit (row_of o) (map type_of parts) t ≡ true → IsOperatorPrinted o x parts t
+      → ((a b : PartWithItems) (t : Ty) → operator_items o x (a ∷ b ∷ []) t d ≡ operand_items o side.Left a d ++ (x ∷ operand_items o side.Right b d))
+      → ((a b : TextPart) (t : Ty) → operator_text o x.text (a ∷ b ∷ []) t d ≡ operand_text o side.Left a d ++ (bytes " " ++ (x.text ++ (bytes " " ++ operand_text o side.Right b d))))
+      → ((rest : List ℕ) → FitsBefore x (32 ∷ rest)) → (parts : List Formula) (t : Ty) → Parts parts → is_fit (row_of o) (map type_of parts) t ≡ true → IsOperatorPrinted o x parts t
   infix_node o x r is tokens text fit parts t all h = with_two (λ ps. IsOperatorPrinted o x ps t) o r is parts t h all
       (λ a b ia ib.
       by o x (a ∷ b ∷ []) t _ _ (tokens (tokens_of a) (tokens_of b) t) (text (text_of a) (text_of b) t)
-      (infix_form x (operand_items o side.Left (tokens_of a) d) (operand_items o side.Right (tokens_of b) d) (operand o side.Left (text_of a) d) (operand o side.Right (text_of b) d) fit (operand_form o side.Left a ia) (operand_form o side.Right b ib))
-      (opens_with (operand o side.Left (text_of a) d) _ (operand_opens o side.Left a ia)))
+      (infix_form x (operand_items o side.Left (tokens_of a) d) (operand_items o side.Right (tokens_of b) d) (operand_text o side.Left (text_of a) d) (operand_text o side.Right (text_of b) d) fit (operand_form o side.Left a ia) (operand_form o side.Right b ib))
+      (opens_with (operand_text o side.Left (text_of a) d) _ (operand_opens o side.Left a ia)))
 
   call_node : (o : Op) (x : Item) (r : UnaryRow) → row_of o ≡ row.Unary r
-      → ((a : Part) (t : Ty) → operator_items o x (a ∷ []) t d ≡ x ∷ open_round ∷ (a.1 false d ++ close_round ∷ []))
+      → ((a : PartWithItems) (t : Ty) → operator_items o x (a ∷ []) t d ≡ x ∷ open_round ∷ (a.1 false d ++ close_round ∷ []))
       → ((a : TextPart) (t : Ty) → operator_text o x.text (a ∷ []) t d ≡ x.text ++ (bytes "(" ++ (a.1 false d ++ bytes ")")))
-      → ((rest : List ℕ) → Fits x (40 ∷ rest)) → Opens x.text → (parts : List Formula) (t : Ty) → Parts parts → is_fit (row_of o) (map type_of parts) t ≡ true → IsOperatorPrinted o x parts t
+      → ((rest : List ℕ) → FitsBefore x (40 ∷ rest)) → Opens x.text → (parts : List Formula) (t : Ty) → Parts parts → is_fit (row_of o) (map type_of parts) t ≡ true → IsOperatorPrinted o x parts t
   call_node o x r is tokens text fit open_sign parts t all h = with_one (λ ps. IsOperatorPrinted o x ps t) o r is parts t h all
       (λ a ia.
       by o x (a ∷ []) t _ _ (tokens (tokens_of a) t) (text (text_of a) t) (call_form x (items names a false d) (printed names a false d) fit ia.plain) (opens_with x.text _ open_sign))
 
   constant_node : (o : Op) (x : Item) (r : NullaryRow) → row_of o ≡ row.Nullary r
       → ((t : Ty) → operator_items o x [] t d ≡ x ∷ []) → ((t : Ty) → operator_text o x.text [] t d ≡ x.text)
-      → ((rest : List ℕ) → Follows stops rest → Fits x rest) → Opens x.text → (parts : List Formula) (t : Ty) → is_fit (row_of o) (map type_of parts) t ≡ true → IsOperatorPrinted o x parts t
+      → ((rest : List ℕ) → Follows stops rest → FitsBefore x rest) → Opens x.text → (parts : List Formula) (t : Ty) → is_fit (row_of o) (map type_of parts) t ≡ true → IsOperatorPrinted o x parts t
   constant_node o x r is tokens text fit open_sign parts t h = with_none (λ ps. IsOperatorPrinted o x ps t) o r is parts t h (by o x [] t (x ∷ []) x.text (tokens t) (text t) (lone x fit) open_sign)
 
   typed_node : (o : Op) (x : Item) (r : NullaryRow) → row_of o ≡ row.Nullary r
       → ((t : Ty) → operator_items o x [] t d ≡ typed_items x t) → ((t : Ty) → operator_text o x.text [] t d ≡ typed_text x.text t)
-      → ((rest : List ℕ) → Follows stops rest → Fits x rest) → (parts : List Formula) (t : Ty) → AreNames (carriers t) → is_fit (row_of o) (map type_of parts) t ≡ true → IsOperatorPrinted o x parts t
+      → ((rest : List ℕ) → Follows stops rest → FitsBefore x rest) → (parts : List Formula) (t : Ty) → AreNames (carriers t) → is_fit (row_of o) (map type_of parts) t ≡ true → IsOperatorPrinted o x parts t
   typed_node o x r is tokens text fit parts t carried h = with_none (λ ps. IsOperatorPrinted o x ps t) o r is parts t h (by o x [] t (typed_items x t) (typed_text x.text t) (tokens t) (text t) (typed_form x t carried fit) (λ rest. refl))
 
   not_node : (parts : List Formula) (t : Ty) → Parts parts → is_fit (row_of op.Not) (map type_of parts) t ≡ true → IsNodePrinted op.Not parts t
@@ -170,43 +170,43 @@ module _ (names : List (List ℕ)) (d : ℕ) where
   negate_node : (parts : List Formula) (t : Ty) → Parts parts → is_fit (row_of op.Negate) (map type_of parts) t ≡ true → IsNodePrinted op.Negate parts t
   negate_node parts t all h = same_sign op.Negate parts t refl (with_one (λ ps. IsOperatorPrinted op.Negate (sign_token op.Negate) ps t) op.Negate unary.Opposite refl parts t h all
       (λ a ia. record {
-        whole = token (sign_token op.Negate) (operand_items op.Negate side.Right (tokens_of a) d) (operand op.Negate side.Right (text_of a) d) (λ rest h. fits-Negate (operand op.Negate side.Right (text_of a) d ++ rest)) (operand_form op.Negate side.Right a ia);
+        whole = token (sign_token op.Negate) (operand_items op.Negate side.Right (tokens_of a) d) (operand_text op.Negate side.Right (text_of a) d) (λ rest h. fits-Negate (operand_text op.Negate side.Right (text_of a) d ++ rest)) (operand_form op.Negate side.Right a ia);
         opens = λ rest. refl;
       }))
 
   converse_node : (parts : List Formula) (t : Ty) → Parts parts → is_fit (row_of op.Converse) (map type_of parts) t ≡ true → IsNodePrinted op.Converse parts t
   converse_node parts t all h = same_sign op.Converse parts t refl (with_one (λ ps. IsOperatorPrinted op.Converse (sign_token op.Converse) ps t) op.Converse unary.Converse refl parts t h all
       (λ a ia. record {
-        whole = beside (operand_items op.Converse side.Left (tokens_of a) d) (sign_token op.Converse ∷ []) (operand op.Converse side.Left (text_of a) d) (sign_of op.Converse) (operand_form op.Converse side.Left a ia) (λ rest h. refl) (lone (sign_token op.Converse) (fits_alone op.Converse refl));
-        opens = opens_with (operand op.Converse side.Left (text_of a) d) _ (operand_opens op.Converse side.Left a ia);
+        whole = beside (operand_items op.Converse side.Left (tokens_of a) d) (sign_token op.Converse ∷ []) (operand_text op.Converse side.Left (text_of a) d) (sign_of op.Converse) (operand_form op.Converse side.Left a ia) (λ rest h. refl) (lone (sign_token op.Converse) (fits_alone op.Converse refl));
+        opens = opens_with (operand_text op.Converse side.Left (text_of a) d) _ (operand_opens op.Converse side.Left a ia);
       }))
 
   apply_node : (parts : List Formula) (t : Ty) → Parts parts → is_fit (row_of op.Apply) (map type_of parts) t ≡ true → IsNodePrinted op.Apply parts t
   apply_node parts t all h = same_sign op.Apply parts t refl (with_two (λ ps. IsOperatorPrinted op.Apply (sign_token op.Apply) ps t) op.Apply binary.Application refl parts t h all
       (λ a b ia ib. record {
-        whole = beside (operand_items op.Apply side.Left (tokens_of a) d) (open_round ∷ (items names b false d ++ close_round ∷ [])) (operand op.Apply side.Left (text_of a) d) (bytes "(" ++ (printed names b false d ++ bytes ")")) (operand_form op.Apply side.Left a ia) (λ rest h. refl) (round (items names b false d) (printed names b false d) ib.plain);
-        opens = opens_with (operand op.Apply side.Left (text_of a) d) _ (operand_opens op.Apply side.Left a ia);
+        whole = beside (operand_items op.Apply side.Left (tokens_of a) d) (open_round ∷ (items names b false d ++ close_round ∷ [])) (operand_text op.Apply side.Left (text_of a) d) (bytes "(" ++ (printed names b false d ++ bytes ")")) (operand_form op.Apply side.Left a ia) (λ rest h. refl) (round (items names b false d) (printed names b false d) ib.plain);
+        opens = opens_with (operand_text op.Apply side.Left (text_of a) d) _ (operand_opens op.Apply side.Left a ia);
       }))
 
   image_node : (parts : List Formula) (t : Ty) → Parts parts → is_fit (row_of op.Image) (map type_of parts) t ≡ true → IsNodePrinted op.Image parts t
   image_node parts t all h = same_sign op.Image parts t refl (with_two (λ ps. IsOperatorPrinted op.Image (sign_token op.Image) ps t) op.Image binary.Image refl parts t h all
       (λ a b ia ib. record {
-        whole = beside (operand_items op.Image side.Left (tokens_of a) d) (open_square ∷ (items names b false d ++ close_square ∷ [])) (operand op.Image side.Left (text_of a) d) (bytes "[" ++ (printed names b false d ++ bytes "]")) (operand_form op.Image side.Left a ia) (λ rest h. refl) (square (items names b false d) (printed names b false d) ib.plain);
-        opens = opens_with (operand op.Image side.Left (text_of a) d) _ (operand_opens op.Image side.Left a ia);
+        whole = beside (operand_items op.Image side.Left (tokens_of a) d) (open_square ∷ (items names b false d ++ close_square ∷ [])) (operand_text op.Image side.Left (text_of a) d) (bytes "[" ++ (printed names b false d ++ bytes "]")) (operand_form op.Image side.Left a ia) (λ rest h. refl) (square (items names b false d) (printed names b false d) ib.plain);
+        opens = opens_with (operand_text op.Image side.Left (text_of a) d) _ (operand_opens op.Image side.Left a ia);
       }))
 
   -- the members of a set
-  members : (parts : List Formula) → Parts parts → ArePrinted (map (λ (p : Part). p.1 false d) (with_items names parts)) (map (λ (p : TextPart). p.1 false d) (with_texts names parts))
+  members : (parts : List Formula) → Parts parts → ArePrinted (map (λ (p : PartWithItems). p.1 false d) (with_items names parts)) (map (λ (p : TextPart). p.1 false d) (with_texts names parts))
   members [] all = tt
   members (a ∷ parts) all = (all.0.plain, members parts all.1)
 
   set_node : (parts : List Formula) (t : Ty) → Parts parts → is_fit (row_of op.SetExtension) (map type_of parts) t ≡ true → IsNodePrinted op.SetExtension parts t
   set_node parts t all h = same_sign op.SetExtension parts t refl (go parts all (instance_of op.SetExtension row.SetExtension refl parts t h))
     where
-      go : (parts : List Formula) → Parts parts → IsInstance (alpha ∷ replicate (length (map type_of parts) - 1) alpha) (power alpha) (map type_of parts) t → IsOperatorPrinted op.SetExtension (sign_token op.SetExtension) parts t
-      go [] all is = let e : [] ≡ is.letters.alpha ∷ map (type_at is.letters) (replicate (0 - 1) alpha) = is.operands_are in cc
+      go : (parts : List Formula) → Parts parts → IsSchemeInstance (alpha ∷ replicate (length (map type_of parts) - 1) alpha) (power alpha) (map type_of parts) t → IsOperatorPrinted op.SetExtension (sign_token op.SetExtension) parts t
+      go [] all is = let e : [] ≡ is.letters.alpha ∷ map (type_of_scheme is.letters) (replicate (0 - 1) alpha) = is.operands_are in cc
       go (a ∷ parts) all is =
-          let ss : List (List Item) = map (λ (p : Part). p.1 false d) (with_items names (a ∷ parts)) in
+          let ss : List (List Item) = map (λ (p : PartWithItems). p.1 false d) (with_items names (a ∷ parts)) in
           let ts : List (List ℕ) = map (λ (p : TextPart). p.1 false d) (with_texts names (a ∷ parts)) in
           record {
             whole = braces (separated ss) (separated_texts ts) (opens_with (printed names a false d) _ all.0.opens) (separated_form 0 ss ts (members (a ∷ parts) all));
@@ -214,19 +214,19 @@ module _ (names : List (List ℕ)) (d : ℕ) where
           }
 
   -- what is printed of an operator between its operands, of a word before its operand, and of a constant
-  between_items : (o : Op) → is_between (op_form o) ≡ true → (x : Item) (a b : Part) (t : Ty) → operator_items o x (a ∷ b ∷ []) t d ≡ operand_items o side.Left a d ++ (x ∷ operand_items o side.Right b d)
+  between_items : (o : Op) → is_between (op_form o) ≡ true → (x : Item) (a b : PartWithItems) (t : Ty) → operator_items o x (a ∷ b ∷ []) t d ≡ operand_items o side.Left a d ++ (x ∷ operand_items o side.Right b d)
   between_items op.Apply f x a b t = cc
   between_items op.Image f x a b t = cc
   between_items op.SetExtension f x a b t = cc
   between_items _ f x a b t = refl
 
-  between_text : (o : Op) → is_between (op_form o) ≡ true → (w : List ℕ) (a b : TextPart) (t : Ty) → operator_text o w (a ∷ b ∷ []) t d ≡ operand o side.Left a d ++ (bytes " " ++ (w ++ (bytes " " ++ operand o side.Right b d)))
+  between_text : (o : Op) → is_between (op_form o) ≡ true → (w : List ℕ) (a b : TextPart) (t : Ty) → operator_text o w (a ∷ b ∷ []) t d ≡ operand_text o side.Left a d ++ (bytes " " ++ (w ++ (bytes " " ++ operand_text o side.Right b d)))
   between_text op.Apply f w a b t = cc
   between_text op.Image f w a b t = cc
   between_text op.SetExtension f w a b t = cc
   between_text _ f w a b t = refl
 
-  call_items : (o : Op) → is_call (op_form o) ≡ true → (x : Item) (a : Part) (t : Ty) → operator_items o x (a ∷ []) t d ≡ x ∷ open_round ∷ (a.1 false d ++ close_round ∷ [])
+  call_items : (o : Op) → is_call (op_form o) ≡ true → (x : Item) (a : PartWithItems) (t : Ty) → operator_items o x (a ∷ []) t d ≡ x ∷ open_round ∷ (a.1 false d ++ close_round ∷ [])
   call_items op.Not f x a t = cc
   call_items op.Negate f x a t = cc
   call_items op.Converse f x a t = cc
@@ -278,7 +278,7 @@ module _ (names : List (List ℕ)) (d : ℕ) where
   between_printed : (o : Op) → is_between (op_form o) ≡ true → (parts : List Formula) (t : Ty) → Parts parts → is_fit (row_of o) (map type_of parts) t ≡ true → IsNodePrinted o parts t
   between_printed o f parts t all h = own_sign o parts t (with_its (sign_token o) (λ rest. fits_spaced o (between_signed o f) (32 ∷ rest) refl)) (with_its (denied_sign_token o) (λ rest. fits_denied o (between_signed o f) (32 ∷ rest) refl))
     where
-      with_its : (x : Item) → ((rest : List ℕ) → Fits x (32 ∷ rest)) → IsOperatorPrinted o x parts t
+      with_its : (x : Item) → ((rest : List ℕ) → FitsBefore x (32 ∷ rest)) → IsOperatorPrinted o x parts t
       with_its x fit = infix_node o x (between_row o f).0 (between_row o f).1 (between_items o f x) (between_text o f x.text) fit parts t all h
 
   call_printed : (o : Op) → is_call (op_form o) ≡ true → (parts : List Formula) (t : Ty) → Parts parts → is_fit (row_of o) (map type_of parts) t ≡ true → IsNodePrinted o parts t

@@ -25,7 +25,7 @@ use Rattle.formula_core.proofs.Induction.{formula_induction}
 use Rattle.formula_core.proofs.Types.{type_induction}
 use Rattle.math_print.specs.Names.{bound_names}
 use Rattle.math_print.specs.Printing.{name_at}
-use Rattle.math_print.specs.Written.{constant, type_raw_step, type_raw, denied_at, denied, typed_raw, operator_raw, declared, written_step, written, raw_of}
+use Rattle.math_print.specs.Written.{constant, type_raw_step, type_raw, denied_at, denied, typed_raw, operator_raw, declared_with_types, written_step, written, raw_of}
 use Rattle.math_places.specs.Places.{unplaced}
 use Rattle.math_places.proofs.Equations.{unplaced-Int, unplaced-Name, unplaced-Node, unplaced-Bind, unplaced_bound}
 
@@ -94,7 +94,7 @@ operator_placeless op.SecondProjection (r ∷ parts) t h = node (rawop.Plain op.
 operator_placeless o parts t h = node (rawop.Plain o) parts h
 
 module _ (names : List (List ℕ)) where
-  declared_placeless : (types : List Ty) (d : ℕ) → map unplaced_bound (declared names types d) ≡ declared names types d
+  declared_placeless : (types : List Ty) (d : ℕ) → map unplaced_bound (declared_with_types names types d) ≡ declared_with_types names types d
   declared_placeless [] d = refl
   declared_placeless (t ∷ types) d = λ i. record { name = name_at names d; ty = Some (type_placeless t i); place = 0 } ∷ declared_placeless types (d + 1) i
 
@@ -118,7 +118,7 @@ module _ (names : List (List ℕ)) where
       (λ o parts t all. written_at (NodeF o parts t) (Node o parts t) (rolls-Node o parts t) (λ d. operator_placeless o (map (λ (p : ℕ → Raw). p d) (map (written names) parts)) t (parts_placeless d parts all)))
       (λ b types parts t all. written_at (BindF b types parts t) (Bind b types parts t) (rolls-Bind b types parts t)
       (λ d. let inner : List Raw = map (λ (p : ℕ → Raw). p (d + length types)) (map (written names) parts) in
-      unplaced-Bind (rawbinder.Plain b) (declared names types d) inner 0 ∙ (λ i. raw.Bind (rawbinder.Plain b) (declared_placeless types d i) (parts_placeless (d + length types) parts all i) 0)))
+      unplaced-Bind (rawbinder.Plain b) (declared_with_types names types d) inner 0 ∙ (λ i. raw.Bind (rawbinder.Plain b) (declared_placeless types d i) (parts_placeless (d + length types) parts all i) 0)))
 
 pub raw_placeless : (f : Formula) → unplaced (raw_of f) ≡ raw_of f
 raw_placeless f = written_placeless (bound_names f) f 0

@@ -1,12 +1,12 @@
 -- How tokens and the text of a form go together.
 use Rattle.std.proofs.Common.{◌≡◌, sym as back, subst, refl, ap, ℕ, zero, suc, ◌+◌, Bool, true, false, List, [], ◌∷◌, ◌++◌, append_assoc, arith}
 use Rattle.math_grammar.specs.Tokens.{Item}
-use Rattle.math_print.specs.Characters.{bytes, comma_after as comma_text, separated_after as separated_text}
+use Rattle.math_print.specs.Characters.{bytes, comma_text, texts_behind as separated_text}
 use Rattle.math_print.specs.Printing.{in_parentheses}
-use Rattle.token_text.specs.Spacing.{Fits, Spaced, a_blank, a_token}
+use Rattle.token_text.specs.Spacing.{FitsBefore, Spaced, a_blank, a_token}
 use Rattle.token_text.proofs.Following.{stops, Follows}
 use Rattle.token_text.proofs.Signs.{opens_set}
-use Rattle.math_reread.specs.Items.{open_round, close_round, open_square, close_square, open_brace, close_brace, comma, in_round, comma_after, separated_after}
+use Rattle.math_reread.specs.Items.{open_round, close_round, open_square, close_square, open_brace, close_brace, comma, in_round_if, comma_after, separated_after}
 use Rattle.math_reread.proofs.SignFits.{fits-open_round, fits-close_round, fits-open_square, fits-close_square, fits-open_brace, fits-close_brace, fits-comma}
 
 -- the tokens with their text, before what stops
@@ -30,10 +30,10 @@ nothing more rest h spaced = spaced
 pub nothing_stops : Stops []
 nothing_stops rest h = h
 
-pub lone : (x : Item) → ((rest : List ℕ) → Follows stops rest → Fits x rest) → IsPrinted (x ∷ []) x.text
+pub lone : (x : Item) → ((rest : List ℕ) → Follows stops rest → FitsBefore x rest) → IsPrinted (x ∷ []) x.text
 lone x fit more rest h spaced = a_token x (fit rest h) spaced
 
-pub token : (x : Item) (s : List Item) (t : List ℕ) → ((rest : List ℕ) → Follows stops rest → Fits x (t ++ rest)) → IsPrinted s t → IsPrinted (x ∷ s) (x.text ++ t)
+pub token : (x : Item) (s : List Item) (t : List ℕ) → ((rest : List ℕ) → Follows stops rest → FitsBefore x (t ++ rest)) → IsPrinted s t → IsPrinted (x ∷ s) (x.text ++ t)
 token x s t fit is more rest h spaced = subst (Spaced (x ∷ (s ++ more))) (back (append_assoc x.text t rest)) (a_token x (fit rest h) (is more rest h spaced))
 
 pub blank : (s : List Item) (t : List ℕ) → IsPrinted s t → IsPrinted s (32 ∷ t)
@@ -57,7 +57,7 @@ pub braces : (s : List Item) (t : List ℕ) → Opens t → IsPrinted s t → Is
 braces s t o is = token open_brace (s ++ close_brace ∷ []) (t ++ bytes "}") (λ rest h. fits-open_brace ((t ++ bytes "}") ++ rest) (opens_with t (bytes "}") o rest))
     (beside s (close_brace ∷ []) t (bytes "}") is (λ rest h. refl) (lone close_brace (λ rest h. fits-close_brace rest)))
 
-pub rounded : (needed : Bool) (s : List Item) (t : List ℕ) → IsPrinted s t → IsPrinted (in_round needed s) (in_parentheses needed t)
+pub rounded : (needed : Bool) (s : List Item) (t : List ℕ) → IsPrinted s t → IsPrinted (in_round_if needed s) (in_parentheses needed t)
 rounded true s t is = round s t is
 rounded false s t is = is
 
@@ -66,12 +66,12 @@ rounded_opens true t o = λ rest. refl
 rounded_opens false t o = o
 
 -- a sign between blanks
-pub infix_form : (x : Item) (s u : List Item) (t v : List ℕ) → ((rest : List ℕ) → Fits x (32 ∷ rest)) → IsPrinted s t → IsPrinted u v → IsPrinted (s ++ (x ∷ u)) (t ++ (bytes " " ++ (x.text ++ (bytes " " ++ v))))
+pub infix_form : (x : Item) (s u : List Item) (t v : List ℕ) → ((rest : List ℕ) → FitsBefore x (32 ∷ rest)) → IsPrinted s t → IsPrinted u v → IsPrinted (s ++ (x ∷ u)) (t ++ (bytes " " ++ (x.text ++ (bytes " " ++ v))))
 infix_form x s u t v fit a b = beside s (x ∷ u) t (32 ∷ (x.text ++ 32 ∷ v)) a (λ rest h. refl)
     (blank (x ∷ u) (x.text ++ 32 ∷ v) (token x u (32 ∷ v) (λ rest h. fit (v ++ rest)) (blank u v b)))
 
 -- a word before parentheses
-pub call_form : (x : Item) (s : List Item) (t : List ℕ) → ((rest : List ℕ) → Fits x (40 ∷ rest)) → IsPrinted s t → IsPrinted (x ∷ open_round ∷ (s ++ close_round ∷ [])) (x.text ++ (bytes "(" ++ (t ++ bytes ")")))
+pub call_form : (x : Item) (s : List Item) (t : List ℕ) → ((rest : List ℕ) → FitsBefore x (40 ∷ rest)) → IsPrinted s t → IsPrinted (x ∷ open_round ∷ (s ++ close_round ∷ [])) (x.text ++ (bytes "(" ++ (t ++ bytes ")")))
 call_form x s t fit is = token x (open_round ∷ (s ++ close_round ∷ [])) (40 ∷ (t ++ bytes ")")) (λ rest h. fit ((t ++ bytes ")") ++ rest)) (round s t is)
 
 -- lists of tokens with their texts

@@ -18,7 +18,7 @@ use Rattle.math_grammar.specs.declared.symbols.Symbol.TheVariants as sym
 use Rattle.math_grammar.specs.Levels.{level, right_of, takes_left, fits, grouped, suffixes, infix_of, prefix_of, prefix_hole, prefix_grade, prefix_op, call_hole, call_grade}
 use Rattle.math_grammar.specs.Tokens.{Item}
 use Rattle.math_grammar.specs.Grammar.{item, place_of, between, Ends, Reads, prefixed, two_sides, in_parentheses, called, applied, converted, set_by_members, Parts, last_one, next_one}
-use Rattle.math_reread.specs.Items.{open_round, close_round, open_square, close_square, open_brace, close_brace, comma, in_round, separated_after, separated}
+use Rattle.math_reread.specs.Items.{open_round, close_round, open_square, close_square, open_brace, close_brace, comma, in_round_if, separated_after, separated}
 use Rattle.math_reread.proofs.Tables.{Quiet, zero_le}
 
 -- a list of tokens that is read whole, whatever follows that is quiet enough
@@ -42,7 +42,7 @@ in_brackets n g s t whole rest =
     subst P (back (append_assoc s (close_round ∷ []) rest)) (in_parentheses inner refl)
 
 pub rounded : (needed : Bool) (n : ℕ) (g : Grade) (s : List Item) (t : Raw) → Whole n g s t → (rest : List Item) → (needed ≡ false → Quiet n rest)
-    → Reads None (round_grade needed g) (in_round needed s ++ rest) t rest
+    → Reads None (round_grade needed g) (in_round_if needed s ++ rest) t rest
 rounded true n g s t whole rest q = in_brackets n g s t whole rest
 rounded false n g s t whole rest q = whole rest (q refl)
 

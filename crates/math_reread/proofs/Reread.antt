@@ -20,17 +20,17 @@ use Rattle.math_parse.specs.declared.fault.ParseFault.TheVariants as fault
 use Rattle.math_parse.proofs.Place.{one_tree}
 use Rattle.math_tokens.proofs.OneWay.{cut_is_one}
 use Rattle.math_print.specs.Depths.{deepest}
-use Rattle.math_print.specs.Printing.{text_of}
+use Rattle.math_print.specs.Printing.{formula_text}
 use Rattle.math_print.specs.Written.{raw_of, IsTypedBack}
 use Rattle.math_print.proofs.FreshNames.{fresh}
 use Rattle.math_print.proofs.TypedBack.{typed_back}
 use Rattle.math_places.specs.Places.{unplaced_item, unplaced, AlikeTokens}
 use Rattle.math_places.proofs.Spelled.{spelled_again}
 use Rattle.math_reread.proofs.OtherPlaces.{formula_again}
-use Rattle.token_text.specs.Spacing.{unplaced as without_place, IsCutInto}
+use Rattle.token_text.specs.Spacing.{without_place, IsCutInto}
 use Rattle.math_reread.specs.Items.{items_of_formula}
 use Rattle.math_reread.specs.Grades.{place_for}
-use Rattle.math_print.specs.Held.{HasNames, IsCounted}
+use Rattle.math_print.specs.Held.{HasNames, HasFewNames}
 use Rattle.math_print.specs.Held.{HasNarrowNumbers}
 use Rattle.math_reread.specs.Back.{IsTypedAgain, IsAnswer, IsTreeOrLarge, ReadsBack}
 use Rattle.math_reread.proofs.AnyLimit.{is_limited, AreUnlimited, spelled_within}
@@ -92,13 +92,13 @@ module _ (h : Hole) (tokens : List Item) (tree : Raw) (spells : (limit : Option 
 
 -- The law.
 
-typed_again : (f : Formula) → is_well f ≡ true → IsCounted f → IsTypedBack f
+typed_again : (f : Formula) → is_well f ≡ true → HasFewNames f → IsTypedBack f
 typed_again f well counted =
     let same : length (keys_of (identifiers f)) ≡ length (identifiers f) = length-map (identifiers f) (λ (e : List ℕ × Ty). e.0) in
     let small : deepest f + length (keys_of (identifiers f)) < 2 ^ 64 = omega (arith, counted, same) in
     typed_back f well (fresh (keys_of (identifiers f)) (deepest f) small)
 
-pub reads_back : (f : Formula) (text : List ℕ) → text ≡ text_of f → is_well f ≡ true → HasNames f → IsCounted f → HasNarrowNumbers f → ReadsBack f text
+pub reads_back : (f : Formula) (text : List ℕ) → text ≡ formula_text f → is_well f ≡ true → HasNames f → HasFewNames f → HasNarrowNumbers f → ReadsBack f text
 reads_back f text exact well names counted narrow =
     let P : List ℕ → Type 0 = λ bytes. IsCutInto bytes (items_of_formula f) in
     let cut : IsCutInto text (items_of_formula f) = subst P (sym exact) (text_cut f well names counted narrow) in
@@ -121,5 +121,5 @@ reads_back f text exact well names counted narrow =
       found = tree_or_large (place_for f) tokens plain.0 spells;
     }
 
-pub read_back : (f : Formula) → is_well f ≡ true → HasNames f → IsCounted f → HasNarrowNumbers f → ReadsBack f (text_of f)
-read_back f well names counted narrow = reads_back f (text_of f) refl well names counted narrow
+pub read_back : (f : Formula) → is_well f ≡ true → HasNames f → HasFewNames f → HasNarrowNumbers f → ReadsBack f (formula_text f)
+read_back f well names counted narrow = reads_back f (formula_text f) refl well names counted narrow

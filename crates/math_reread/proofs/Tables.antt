@@ -29,7 +29,7 @@ use Rattle.math_print.specs.declared.levels.Level.{Level}
 use Rattle.math_print.specs.declared.levels.Level.TheVariants as lev
 use Rattle.math_print.specs.declared.levels.Side.{Side}
 use Rattle.math_print.specs.declared.levels.Side.TheVariants as side
-use Rattle.math_print.specs.Levels.{rank as rank_of, level_of, binder_level_of, formula_level_at, is_chained, is_same_connective, is_negative, goes_on_with, goes_on_at, is_enclosed, goes_on as goes_on_left}
+use Rattle.math_print.specs.Levels.{rank_of, level_of, binder_level_of, formula_level_at, is_chained, is_same_connective, is_negative, goes_on_with, goes_on_at, is_enclosed, goes_on_left}
 use Rattle.math_reread.proofs.Grades.{operator_grade, binder_grade, grade_at}
 
 -- the level that a token makes of what stands before it, if it goes on with it

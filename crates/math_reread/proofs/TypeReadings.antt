@@ -34,7 +34,7 @@ use Rattle.math_grammar.specs.Grammar.{item, place_at, place_of, between, Reads,
 use Rattle.math_grammar.specs.Operators.{sign_of}
 use Rattle.math_print.specs.Characters.{bytes}
 use Rattle.math_print.specs.Printing.{name_at}
-use Rattle.math_print.specs.Written.{constant, type_raw_step, type_raw, typed_raw, declared}
+use Rattle.math_print.specs.Written.{constant, type_raw_step, type_raw, typed_raw, declared_with_types}
 use Rattle.math_print.proofs.NamedScopes.{all_left, all_right}
 use Rattle.math_reread.specs.Items.{word, open_round, close_round, comma, dot, typing, sign_token, right_items, type_items_step, type_items, typed_items, declarations, separated_after}
 use Rattle.math_reread.proofs.Tables.{Quiet, ends, le_through}
@@ -191,17 +191,17 @@ module _ (names : List (List ℕ)) (named : (i : ℕ) → i < length names → i
   one t depth is short x m q = of_type (named depth short) (last_side (is.whole (x ∷ m) q) (fits_pair is.g is.loose))
 
   pub declares : (before : List RawBound) (k : ℕ) (t : Ty) (types : List Ty) (depth : ℕ) → IsTypeRead t → AreTypesRead types → depth + suc (length types) ≤ length names → (m : List Item)
-      → Declares None before (((word (name_at names depth) ∷ typing ∷ type_items t) ++ separated_after (suc k) (declarations names types (depth + 1))) ++ (dot ∷ m)) (before ++ declared names (t ∷ types) depth) m
+      → Declares None before (((word (name_at names depth) ∷ typing ∷ type_items t) ++ separated_after (suc k) (declarations names types (depth + 1))) ++ (dot ∷ m)) (before ++ declared_with_types names (t ∷ types) depth) m
   declares before k t [] depth is all few m =
       let s : List Item = word (name_at names depth) ∷ typing ∷ type_items t in
-      let P : List Item → Type 0 = λ l. Declares None before (l ++ (dot ∷ m)) (before ++ declared names (t ∷ []) depth) m in
+      let P : List Item → Type 0 = λ l. Declares None before (l ++ (dot ∷ m)) (before ++ declared_with_types names (t ∷ []) depth) m in
       subst P (back (append-nil s)) (last_name (one t depth is (omega (arith, few)) dot m refl))
   declares before k t (u ∷ types) depth is all few m =
       let s : List Item = word (name_at names depth) ∷ typing ∷ type_items t in
       let b : RawBound = record { name = name_at names depth; ty = Some (type_raw t); place = 0 } in
       let first : List Item = word (name_at names (depth + 1)) ∷ typing ∷ type_items u in
       let tail : List Item = first ++ separated_after (suc k + 1) (declarations names types (depth + 1 + 1)) in
-      let more : List RawBound = declared names (u ∷ types) (depth + 1) in
+      let more : List RawBound = declared_with_types names (u ∷ types) (depth + 1) in
       let Q : ℕ → Type 0 = λ n. Declares None (before ++ b ∷ []) ((first ++ separated_after n (declarations names types (depth + 1 + 1))) ++ (dot ∷ m)) ((before ++ b ∷ []) ++ more) m in
       let later : Q (suc k + 1) = subst Q (omega arith) (declares (before ++ b ∷ []) (suc k) u types (depth + 1) all.0 all.1 (omega (arith, few)) m) in
       let R : List RawBound → Type 0 = λ l. Declares None before (s ++ (comma ∷ (tail ++ (dot ∷ m)))) l m in

@@ -14,12 +14,12 @@ use Rattle.formula_core.specs.Types.{components}
 use Rattle.formula_core.proofs.Equations.{carriers-Given, carriers-Pow, carriers-Pair}
 use Rattle.formula_core.proofs.Types.{type_induction}
 use Rattle.math_grammar.specs.Tokens.{Item}
-use Rattle.math_print.specs.Characters.{bytes, separated as separated_texts}
-use Rattle.math_print.specs.Printing.{name_at, typed_text, declarations as declaration_texts}
-use Rattle.math_print.specs.Types.{type_text, right_side}
+use Rattle.math_print.specs.Characters.{bytes, separated_texts}
+use Rattle.math_print.specs.Printing.{name_at, typed_text, declaration_texts}
+use Rattle.math_print.specs.Types.{type_text, right_side_text}
 use Rattle.math_print.proofs.NamedScopes.{all_left, all_right}
 use Rattle.math_print.proofs.TypeTexts.{type_text-Int, type_text-Bool, type_text-Given, type_text-Pow, type_text-Pair, type_text-Truth}
-use Rattle.token_text.specs.Spacing.{Fits}
+use Rattle.token_text.specs.Spacing.{FitsBefore}
 use Rattle.token_text.proofs.Following.{stops, Follows}
 use Rattle.token_text.proofs.Names.{fits-name, name_lettered}
 use Rattle.token_text.proofs.Words.{lettered_opens_set}
@@ -44,8 +44,8 @@ named x is = lone (word x) (fits-name x is)
 at_pair : (t u : Ty) → IsTypePrinted t → IsTypePrinted u → IsTypePrinted (ty.Pair t u)
 at_pair t u a b names =
     let split : AreNames (carriers t ++ carriers u) = subst AreNames (carriers-Pair t u) names in
-    by (type_items t ++ (sign_token op.Product ∷ right_items (u, type_items u))) _ (type_text t ++ (bytes " × " ++ right_side (u, type_text u))) _ (at (PairF t u) (ty.Pair t u) (rolls-Pair t u)) (type_text-Pair t u)
-    (infix_form (sign_token op.Product) (type_items t) (right_items (u, type_items u)) (type_text t) (right_side (u, type_text u)) (λ rest. fits_spaced op.Product refl (32 ∷ rest) refl)
+    by (type_items t ++ (sign_token op.Product ∷ right_items (u, type_items u))) _ (type_text t ++ (bytes " × " ++ right_side_text (u, type_text u))) _ (at (PairF t u) (ty.Pair t u) (rolls-Pair t u)) (type_text-Pair t u)
+    (infix_form (sign_token op.Product) (type_items t) (right_items (u, type_items u)) (type_text t) (right_side_text (u, type_text u)) (λ rest. fits_spaced op.Product refl (32 ∷ rest) refl)
     (a (all_left (λ x. is_name x.0 ≡ true) (carriers t) (carriers u) split))
     (rounded (is_some (components u)) (type_items u) (type_text u) (b (all_right (λ x. is_name x.0 ≡ true) (carriers t) (carriers u) split))))
 
@@ -64,7 +64,7 @@ with_type : (t : Ty) → AreNames (carriers t) → IsPrinted (typing ∷ type_it
 with_type t names = token typing (type_items t) (type_text t) (λ rest h. fits-typing (type_text t ++ rest)) (type_printed t names)
 
 -- a constant with its type, in parentheses
-pub typed_form : (x : Item) (t : Ty) → AreNames (carriers t) → ((rest : List ℕ) → Follows stops rest → Fits x rest) → IsPrinted (typed_items x t) (typed_text x.text t)
+pub typed_form : (x : Item) (t : Ty) → AreNames (carriers t) → ((rest : List ℕ) → Follows stops rest → FitsBefore x rest) → IsPrinted (typed_items x t) (typed_text x.text t)
 typed_form x t names fit =
     let end : IsPrinted (type_items t ++ close_round ∷ []) (type_text t ++ bytes ")") = beside (type_items t) (close_round ∷ []) (type_text t) (bytes ")") (type_printed t names) (λ rest h. refl) (lone close_round (λ rest h. fits-close_round rest)) in
     let behind : IsPrinted (typing ∷ (type_items t ++ close_round ∷ [])) (bytes "⦂" ++ (type_text t ++ bytes ")")) = token typing (type_items t ++ close_round ∷ []) (type_text t ++ bytes ")") (λ rest h. fits-typing ((type_text t ++ bytes ")") ++ rest)) end in

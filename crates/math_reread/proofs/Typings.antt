@@ -6,8 +6,8 @@ use Rattle.formula_core.specs.declared.formula.Formula.{Formula}
 use Rattle.formula_core.specs.declared.formula.Formula.TheVariants as formula
 use Rattle.formula_core.specs.Types.{is_value_type}
 use Rattle.formula_core.specs.Rows.{row_of}
-use Rattle.formula_core.specs.Schemes.{truth, operand_schemes, result_scheme, part_schemes, binder_scheme, IsInstance}
-use Rattle.type_core.specs.Bare.{Bare, Bares, Bounds, Number, Identifier, Form, Partition, Binding, Ascribed, Broken, nothing, more, unbound, plain, typed, part_count, has_names}
+use Rattle.formula_core.specs.Schemes.{truth, operand_schemes, result_scheme, part_schemes, binder_scheme, IsSchemeInstance}
+use Rattle.type_core.specs.Bare.{Bare, Bares, BareBounds, Number, Identifier, Form, Partition, Binding, Ascribed, Broken, nothing, more, unbound, plain, typed, part_count, has_names}
 use Rattle.type_core.specs.Scopes.{Scope, with_names}
 use Rattle.type_core.specs.TypeExpressions.{denoted, denoted_form, all_denoted}
 use Rattle.type_core.specs.Partition.{partition_schemes, partition_of}
@@ -19,12 +19,12 @@ same_count : (bs : Bares) → part_count (unplaced_bares bs) ≡ part_count bs
 same_count nothing = refl
 same_count (more b bs) = ap suc (same_count bs)
 
-pub same_has : (names : Bounds) → has_names (unplaced_bounds names) ≡ has_names names
+pub same_has : (names : BareBounds) → has_names (unplaced_bounds names) ≡ has_names names
 same_has unbound = refl
 same_has (plain x names) = refl
 same_has (typed x t names) = refl
 
-same_scope : {A : Type 0} → (names : Bounds) (ts : List A) (scope : Scope A) → with_names (unplaced_bounds names) ts scope ≡ with_names names ts scope
+same_scope : {A : Type 0} → (names : BareBounds) (ts : List A) (scope : Scope A) → with_names (unplaced_bounds names) ts scope ≡ with_names names ts scope
 same_scope unbound ts scope = refl
 same_scope (plain x names) [] scope = refl
 same_scope (plain x names) (t ∷ ts) scope = same_scope names ts ((x, t) ∷ scope)
@@ -46,7 +46,7 @@ mutual
   all_same_denoted env bound (more b bs) = λ i. same_denoted env bound b i ∷ all_same_denoted env bound bs i
 
 module _ (env : List (List ℕ × Ty)) where
-  same_bound : (outer : Scope Ty) (names : Bounds) → AreBound env outer (unplaced_bounds names) ≡ AreBound env outer names
+  same_bound : (outer : Scope Ty) (names : BareBounds) → AreBound env outer (unplaced_bounds names) ≡ AreBound env outer names
   same_bound outer unbound = refl
   same_bound outer (plain x names) = λ i ts. (t : Ty) × (rest : List Ty) × IsTrue (is_value_type t) × same_bound outer names i rest × (ts ≡ t ∷ rest)
   same_bound outer (typed x written names) = λ i ts. (t : Ty) × (rest : List Ty) × (same_denoted env outer written i ≡ Some t) × same_bound outer names i rest × (ts ≡ t ∷ rest)
@@ -57,17 +57,17 @@ module _ (env : List (List ℕ × Ty)) where
     same_types bound free (Identifier x place) = refl
     same_types bound free (Form op parts) = λ i f t.
         (fs : List Formula) × (types : List Ty) × all_same_types bound free parts i fs types
-        × IsInstance (operand_schemes (row_of op) (same_count parts i)) (result_scheme (row_of op)) types t × (f ≡ formula.Node op fs t)
+        × IsSchemeInstance (operand_schemes (row_of op) (same_count parts i)) (result_scheme (row_of op)) types t × (f ≡ formula.Node op fs t)
     same_types bound free (Partition parts) = λ i f t.
         (fs : List Formula) × (types : List Ty) × all_same_types bound free parts i fs types
-        × IsInstance (partition_schemes (same_count parts i)) truth types t × (f ≡ partition_of fs)
+        × IsSchemeInstance (partition_schemes (same_count parts i)) truth types t × (f ≡ partition_of fs)
     same_types bound free (Binding binder names parts) =
         (λ i f t. (ts : List Ty) × same_bound bound names i ts × (same_has names i ≡ true)
         × (fs : List Formula) × (types : List Ty) × AllTyped env (same_scope names ts bound i) free (unplaced_bares parts) fs types
-        × IsInstance (part_schemes binder) (binder_scheme binder) types t × (f ≡ formula.Bind binder ts fs t))
+        × IsSchemeInstance (part_schemes binder) (binder_scheme binder) types t × (f ≡ formula.Bind binder ts fs t))
         ∙ (λ i f t. (ts : List Ty) × AreBound env bound names ts × (has_names names ≡ true)
         × (fs : List Formula) × (types : List Ty) × all_same_types (with_names names ts bound) free parts i fs types
-        × IsInstance (part_schemes binder) (binder_scheme binder) types t × (f ≡ formula.Bind binder ts fs t))
+        × IsSchemeInstance (part_schemes binder) (binder_scheme binder) types t × (f ≡ formula.Bind binder ts fs t))
     same_types bound free (Ascribed e written) = λ i f t. (same_denoted env bound written i ≡ Some t) × same_types bound free e i f t
     same_types bound free (Broken parts) = refl
 

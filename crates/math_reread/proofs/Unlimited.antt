@@ -26,7 +26,7 @@ use Rattle.math_print.specs.declared.levels.Side.{Side}
 use Rattle.math_print.specs.declared.levels.Side.TheVariants as side
 use Rattle.math_print.specs.Levels.{needs_parentheses}
 use Rattle.math_print.specs.Names.{bound_names}
-use Rattle.math_reread.specs.Items.{Items, Part, close_round, close_square, close_brace, dot, bar, denied_class_of, sign_token, denied_sign_token, opening_items, closing_items, right_items, type_items_step, type_items, in_round, operand_items, typed_items, constant_items, unary_items, second_items, comma_after, separated_after, separated, operator_items, node_items, declarations, binder_end, body_items, binder_items, bind_items, items_step, items, items_of_formula}
+use Rattle.math_reread.specs.Items.{Items, PartWithItems, close_round, close_square, close_brace, dot, bar, denied_class_of, sign_token, denied_sign_token, opening_items, closing_items, right_items, type_items_step, type_items, in_round_if, operand_items, typed_items, constant_items, unary_items, second_items, comma_after, separated_after, separated, operator_items, node_items, declarations, binder_end, body_items, binder_items, bind_items, items_step, items, items_of_formula}
 use Rattle.math_reread.proofs.ItemParts.{with_items}
 use Rattle.math_reread.proofs.AnyLimit.{is_limited, IsUnlimited, AreUnlimited}
 
@@ -50,7 +50,7 @@ at x t e = ap type_items (back e) ∙ para-roll-Ty (List Item) type_items_step x
 type_at : (x : Ty-F Ty) (t : Ty) → of_type.roll-Ty x ≡ t → AreUnlimited (type_items_step (map-Ty Ty (Ty × List Item) (λ u. (u, type_items u)) x)) → AreUnlimited (type_items t)
 type_at x t e all = subst AreUnlimited (back (at x t e)) all
 
-round : (needed : Bool) (s : List Item) → AreUnlimited s → AreUnlimited (in_round needed s)
+round : (needed : Bool) (s : List Item) → AreUnlimited s → AreUnlimited (in_round_if needed s)
 round true s all = (refl, joined s (close_round ∷ []) all (refl, tt))
 round false s all = all
 
@@ -67,10 +67,10 @@ type_unlimited = type_induction (λ t. AreUnlimited (type_items t))
 
 -- Operators.
 
-abbrev IsClear : Part → Type 0
+abbrev IsClear : PartWithItems → Type 0
 IsClear p = (denied : Bool) (d : ℕ) → AreUnlimited (p.1 denied d)
 
-operand : (o : Op) (s : Side) (p : Part) (d : ℕ) → IsClear p → AreUnlimited (operand_items o s p d)
+operand : (o : Op) (s : Side) (p : PartWithItems) (d : ℕ) → IsClear p → AreUnlimited (operand_items o s p d)
 operand o s p d h = round (needs_parentheses o s p.0) (p.1 false d) (h false d)
 
 typed : (sign : Item) (t : Ty) → IsUnlimited sign → AreUnlimited (typed_items sign t)
@@ -83,13 +83,13 @@ constant op.FirstProjection sign t s = typed sign t s
 constant op.SecondProjection sign t s = typed sign t s
 constant _ sign t s = (s, tt)
 
-unary : (o : Op) (sign : Item) (p : Part) (d : ℕ) → IsUnlimited sign → IsClear p → AreUnlimited (unary_items o sign p d)
+unary : (o : Op) (sign : Item) (p : PartWithItems) (d : ℕ) → IsUnlimited sign → IsClear p → AreUnlimited (unary_items o sign p d)
 unary op.Not sign p d s h = h true d
 unary op.Negate sign p d s h = (s, operand op.Negate side.Right p d h)
 unary op.Converse sign p d s h = joined (operand_items op.Converse side.Left p d) (sign ∷ []) (operand op.Converse side.Left p d h) (s, tt)
 unary _ sign p d s h = (s, (refl, joined (p.1 false d) (close_round ∷ []) (h false d) (refl, tt)))
 
-second : (o : Op) (sign : Item) (p : Part) (d : ℕ) → IsUnlimited sign → IsClear p → AreUnlimited (second_items o sign p d)
+second : (o : Op) (sign : Item) (p : PartWithItems) (d : ℕ) → IsUnlimited sign → IsClear p → AreUnlimited (second_items o sign p d)
 second op.Apply sign p d s h = (refl, joined (p.1 false d) (close_round ∷ []) (h false d) (refl, tt))
 second op.Image sign p d s h = (refl, joined (p.1 false d) (close_square ∷ []) (h false d) (refl, tt))
 second o sign p d s h = (s, operand o side.Right p d h)
@@ -106,11 +106,11 @@ with_commas n [] all = tt
 with_commas n (s ∷ lists) all =
     joined (comma_after n) (s ++ separated_after (n + 1) lists) (commas n) (joined s (separated_after (n + 1) lists) all.0 (with_commas (n + 1) lists all.1))
 
-members : (parts : List Part) (d : ℕ) → AllByRecursion IsClear parts → AreAllUnlimited (map (λ p. p.1 false d) parts)
+members : (parts : List PartWithItems) (d : ℕ) → AllByRecursion IsClear parts → AreAllUnlimited (map (λ p. p.1 false d) parts)
 members [] d all = tt
 members (p ∷ parts) d all = (all.0 false d, members parts d all.1)
 
-operator : (o : Op) (sign : Item) (parts : List Part) (t : Ty) (d : ℕ) → IsUnlimited sign → AllByRecursion IsClear parts → AreUnlimited (operator_items o sign parts t d)
+operator : (o : Op) (sign : Item) (parts : List PartWithItems) (t : Ty) (d : ℕ) → IsUnlimited sign → AllByRecursion IsClear parts → AreUnlimited (operator_items o sign parts t d)
 operator op.SetExtension sign parts t d s all =
     (refl, joined (separated (map (λ p. p.1 false d) parts)) (close_brace ∷ []) (with_commas 0 (map (λ p. p.1 false d) parts) (members parts d all)) (refl, tt))
 operator o sign [] t d s all = constant o sign t s
@@ -138,7 +138,7 @@ closing op.Bottom = tt
 closing op.Finite = tt
 closing _ = (refl, tt)
 
-node : (o : Op) (parts : List Part) (t : Ty) (denied : Bool) (d : ℕ) → AllByRecursion IsClear parts → AreUnlimited (node_items o parts t denied d)
+node : (o : Op) (parts : List PartWithItems) (t : Ty) (denied : Bool) (d : ℕ) → AllByRecursion IsClear parts → AreUnlimited (node_items o parts t denied d)
 node o parts t true d all =
     let inner : List Item = operator_items o (denied_sign_token o) parts t d in
     joined (opening_items o) (inner ++ closing_items o) (opening o) (joined inner (closing_items o) (operator o (denied_sign_token o) parts t d (denied_unlimited o) all) (closing o))
@@ -151,7 +151,7 @@ module _ (names : List (List ℕ)) where
   declared [] d = tt
   declared (t ∷ types) d = ((refl, (refl, type_unlimited t)), declared types (d + 1))
 
-  body : (parts : List Part) (d : ℕ) → AllByRecursion IsClear parts → AreUnlimited (body_items parts d)
+  body : (parts : List PartWithItems) (d : ℕ) → AllByRecursion IsClear parts → AreUnlimited (body_items parts d)
   body [] d all = tt
   body (p ∷ []) d all = all.0 false d
   body (p ∷ e ∷ []) d all = joined (p.1 false d) (bar ∷ e.1 false d) (all.0 false d) (refl, all.1.0 false d)
@@ -165,7 +165,7 @@ module _ (names : List (List ℕ)) where
   last binder.Comprehension = (refl, tt)
   last _ = tt
 
-  binding : (b : Binder) (types : List Ty) (parts : List Part) (d : ℕ) → AllByRecursion IsClear parts → AreUnlimited (binder_items names b types parts d)
+  binding : (b : Binder) (types : List Ty) (parts : List PartWithItems) (d : ℕ) → AllByRecursion IsClear parts → AreUnlimited (binder_items names b types parts d)
   binding b types parts d all =
       let inner : List Item = body_items parts (d + length types) in (
         binder_sign b,
@@ -173,7 +173,7 @@ module _ (names : List (List ℕ)) where
             (refl, joined inner (binder_end b) (body parts (d + length types) all) (last b)),
       )
 
-  bind : (b : Binder) (types : List Ty) (parts : List Part) (denied : Bool) (d : ℕ) → AllByRecursion IsClear parts → AreUnlimited (bind_items names b types parts denied d)
+  bind : (b : Binder) (types : List Ty) (parts : List PartWithItems) (denied : Bool) (d : ℕ) → AllByRecursion IsClear parts → AreUnlimited (bind_items names b types parts denied d)
   bind b types parts true d all = (refl, (refl, joined (binder_items names b types parts d) (close_round ∷ []) (binding b types parts d all) (refl, tt)))
   bind b types parts false d all = binding b types parts d all
 
@@ -184,9 +184,9 @@ module _ (names : List (List ℕ)) where
   parts_clear [] all = tt
   parts_clear (f ∷ fs) all = (all.0, parts_clear fs all.1)
 
-  formula_at : (x : Formula-F Formula) (f : Formula) → roll-Formula x ≡ f → ((denied : Bool) (d : ℕ) → AreUnlimited (items_step names (map-Formula Formula Part (λ y. (y, items names y)) x) denied d)) → IsFormulaClear f
+  formula_at : (x : Formula-F Formula) (f : Formula) → roll-Formula x ≡ f → ((denied : Bool) (d : ℕ) → AreUnlimited (items_step names (map-Formula Formula PartWithItems (λ y. (y, items names y)) x) denied d)) → IsFormulaClear f
   formula_at x f e all denied d =
-      let is : items names f ≡ items_step names (map-Formula Formula Part (λ y. (y, items names y)) x) = formula_para (items_step names) x f e in
+      let is : items names f ≡ items_step names (map-Formula Formula PartWithItems (λ y. (y, items names y)) x) = formula_para (items_step names) x f e in
       subst AreUnlimited (back (ap (λ (p : Items). p denied d) is)) (all denied d)
 
   formula_clear : (f : Formula) → IsFormulaClear f

@@ -117,14 +117,14 @@ abbrev pub Items : Type 0
 Items = Bool → ℕ → List Item
 
 -- a part beside its tokens
-abbrev pub Part : Type 0
-Part = Formula × Items
+abbrev pub PartWithItems : Type 0
+PartWithItems = Formula × Items
 
-abbrev pub in_round : Bool → List Item → List Item
-in_round needed items = if needed then (open_round ∷ (items ++ close_round ∷ [])) else items
+abbrev pub in_round_if : Bool → List Item → List Item
+in_round_if needed items = if needed then (open_round ∷ (items ++ close_round ∷ [])) else items
 
-abbrev pub operand_items : Op → Side → Part → ℕ → List Item
-operand_items o s part depth = in_round (needs_parentheses o s part.0) (part.1 false depth)
+abbrev pub operand_items : Op → Side → PartWithItems → ℕ → List Item
+operand_items o s part depth = in_round_if (needs_parentheses o s part.0) (part.1 false depth)
 
 -- a constant with its type
 abbrev pub typed_items : Item → Ty → List Item
@@ -137,14 +137,14 @@ constant_items op.FirstProjection sign t = typed_items sign t
 constant_items op.SecondProjection sign t = typed_items sign t
 constant_items _ sign t = sign ∷ []
 
-abbrev pub unary_items : Op → Item → Part → ℕ → List Item
+abbrev pub unary_items : Op → Item → PartWithItems → ℕ → List Item
 unary_items op.Not sign p depth = p.1 true depth
 unary_items op.Negate sign a depth = sign ∷ operand_items op.Negate side.Right a depth
 unary_items op.Converse sign a depth = operand_items op.Converse side.Left a depth ++ (sign ∷ [])
 unary_items o sign a depth = sign ∷ open_round ∷ (a.1 false depth ++ close_round ∷ [])
 
 -- what follows the first of two operands
-abbrev pub second_items : Op → Item → Part → ℕ → List Item
+abbrev pub second_items : Op → Item → PartWithItems → ℕ → List Item
 second_items op.Apply sign a depth = open_round ∷ (a.1 false depth ++ close_round ∷ [])
 second_items op.Image sign a depth = open_square ∷ (a.1 false depth ++ close_square ∷ [])
 second_items o sign b depth = sign ∷ operand_items o side.Right b depth
@@ -161,18 +161,18 @@ separated_after before (items ∷ more) = comma_after before ++ (items ++ separa
 abbrev pub separated : List (List Item) → List Item
 separated lists = separated_after 0 lists
 
-abbrev pub members_items : List Part → ℕ → List Item
+abbrev pub members_items : List PartWithItems → ℕ → List Item
 members_items parts depth = open_brace ∷ (separated (map (λ p. p.1 false depth) parts) ++ close_brace ∷ [])
 
 -- more operands stand in no well formula, unless they are the members of a set
-abbrev pub operator_items : Op → Item → List Part → Ty → ℕ → List Item
+abbrev pub operator_items : Op → Item → List PartWithItems → Ty → ℕ → List Item
 operator_items op.SetExtension sign parts t depth = members_items parts depth
 operator_items o sign [] t depth = constant_items o sign t
 operator_items o sign (a ∷ []) t depth = unary_items o sign a depth
 operator_items o sign (a ∷ b ∷ []) t depth = operand_items o side.Left a depth ++ second_items o sign b depth
 operator_items o sign _ t depth = []
 
-abbrev pub node_items : Op → List Part → Ty → Bool → ℕ → List Item
+abbrev pub node_items : Op → List PartWithItems → Ty → Bool → ℕ → List Item
 node_items o parts t denied depth =
     if denied then (opening_items o ++ (operator_items o (denied_sign_token o) parts t depth ++ closing_items o)) else operator_items o (sign_token o) parts t depth
 
@@ -186,21 +186,21 @@ binder_end binder.Comprehension = close_brace ∷ []
 binder_end _ = []
 
 -- a predicate, or a predicate and an expression
-abbrev pub body_items : List Part → ℕ → List Item
+abbrev pub body_items : List PartWithItems → ℕ → List Item
 body_items (p ∷ []) depth = p.1 false depth
 body_items (p ∷ e ∷ []) depth = p.1 false depth ++ (bar ∷ e.1 false depth)
 body_items _ depth = []
 
-abbrev pub binder_items : List (List ℕ) → Binder → List Ty → List Part → ℕ → List Item
+abbrev pub binder_items : List (List ℕ) → Binder → List Ty → List PartWithItems → ℕ → List Item
 binder_items names b types parts depth =
     item (binder_class_of b) 0 (binder_sign_of b) ∷ (separated (declarations names types depth) ++ (dot ∷ (body_items parts (depth + length types) ++ binder_end b)))
 
-abbrev pub bind_items : List (List ℕ) → Binder → List Ty → List Part → Bool → ℕ → List Item
+abbrev pub bind_items : List (List ℕ) → Binder → List Ty → List PartWithItems → Bool → ℕ → List Item
 bind_items names b types parts denied depth =
     if denied then (not_sign ∷ open_round ∷ (binder_items names b types parts depth ++ close_round ∷ [])) else binder_items names b types parts depth
 
 -- One level. What is denied is a predicate, and so no literal or identifier.
-abbrev pub items_step : List (List ℕ) → Formula-F Part → Items
+abbrev pub items_step : List (List ℕ) → Formula-F PartWithItems → Items
 items_step names (Int n) denied depth = item (sym.Number n) 0 (signed_decimal n) ∷ []
 items_step names (Free name t) denied depth = word name ∷ []
 items_step names (Bound at t) denied depth = word (name_at names (depth - 1 - at)) ∷ []

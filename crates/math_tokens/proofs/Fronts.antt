@@ -11,8 +11,8 @@ use Rattle.math_tokens.proofs.Longest.{none_beyond}
 use Rattle.math_tokens.specs.declared.lexemes.Lexeme.{Lexeme}
 use Rattle.math_tokens.specs.declared.lexemes.Lexeme.TheVariants.{Sign, Word, Primed, Number}
 use Rattle.formula_core.specs.Names.{starts_word, is_in_word}
-use Rattle.math_tokens.specs.Lexemes.{Forms, sign_in, is_digit, is_word, is_digits, IsLexeme, a_sign, a_word, a_primed, a_number}
-use Rattle.math_tokens.specs.Private.{word_length, Begins, Best, length_of, name_length, other_choice, choice}
+use Rattle.math_tokens.specs.Lexemes.{Forms, sign_in, is_digit, is_token_word, is_digits, IsLexeme, a_sign, a_word, a_primed, a_number}
+use Rattle.math_tokens.specs.Private.{word_length, HasLexeme, Best, length_of, name_length, other_choice, choice}
 
 module _ (p : ℕ → Bool) where
   -- a front that passes is no longer than the longest that does
@@ -34,18 +34,18 @@ pub both : (a b : Bool) → (a && b) ≡ true → (a ≡ true) × (b ≡ true)
 both true b h = (refl, h)
 both false b h = cc
 
-word_front : (m : ℕ) (xs : List ℕ) → m ≤ length xs → is_word (take m xs) ≡ true → (0 < m) × (m ≤ word_length xs)
+word_front : (m : ℕ) (xs : List ℕ) → m ≤ length xs → is_token_word (take m xs) ≡ true → (0 < m) × (m ≤ word_length xs)
 word_front zero xs short h = cc
 word_front (suc m) [] short h = absurd (omega arith)
 word_front (suc m) (c ∷ cs) short h =
     let t : (starts_word c ≡ true) × (list_all is_in_word (take m cs) ≡ true) = both (starts_word c) (list_all is_in_word (take m cs)) h in
     (omega arith, rw t.0 (omega (arith, front_passes is_in_word m cs (omega arith) t.1)))
 
-word_longest : (xs : List ℕ) → 0 < word_length xs → is_word (take (word_length xs) xs) ≡ true
+word_longest : (xs : List ℕ) → 0 < word_length xs → is_token_word (take (word_length xs) xs) ≡ true
 word_longest [] h = absurd (omega arith)
 word_longest (c ∷ cs) h = go (starts_word c) refl h
   where
-    go : (b : Bool) → starts_word c ≡ b → 0 < cond b (1 + prefix_len is_in_word cs) 0 → is_word (take (cond b (1 + prefix_len is_in_word cs) 0) (c ∷ cs)) ≡ true
+    go : (b : Bool) → starts_word c ≡ b → 0 < cond b (1 + prefix_len is_in_word cs) 0 → is_token_word (take (cond b (1 + prefix_len is_in_word cs) 0) (c ∷ cs)) ≡ true
     go true e h = let one : 1 + prefix_len is_in_word cs ≡ suc (prefix_len is_in_word cs) = omega arith in rw (one, e) (longest_passes is_in_word cs)
     go false e h = absurd (omega arith)
 
@@ -90,7 +90,7 @@ prime_ends (d ∷ w) (c ∷ cs) (suc m) short h e =
     let one : 1 + prefix_len is_in_word cs ≡ suc (prefix_len is_in_word cs) = omega arith in
     (rw passes (omega (arith, ih.0)), rw (passes, one) ih.1)
 
-primed_front : (w xs : List ℕ) (m : ℕ) → m ≤ length xs → is_word w ≡ true → take m xs ≡ w ++ 39 ∷ [] →
+primed_front : (w xs : List ℕ) (m : ℕ) → m ≤ length xs → is_token_word w ≡ true → take m xs ≡ w ++ 39 ∷ [] →
     (m ≡ word_length xs + 1) × (0 < word_length xs) × (get_or xs (word_length xs) 0 ≡ 39)
 primed_front [] xs m short h e = cc
 primed_front (d ∷ w) [] zero short h e = cc
@@ -141,11 +141,11 @@ module _ (forms : Forms) (text : List ℕ) (sign : Option (ℕ × ℕ)) (best : 
 
   -- the longest of them, where no sign is as long
   others : (length_of sign < name_length text) ⊎ (length_of sign < prefix_len is_digit text) ⊎ (length_of sign ≡ 0) →
-      Begins forms text (other_choice (word_length text) (name_length text) (prefix_len is_digit text))
+      HasLexeme forms text (other_choice (word_length text) (name_length text) (prefix_len is_digit text))
   others low = go (nat_lt (name_length text) (prefix_len is_digit text)) refl (nat_lt (word_length text) (name_length text)) refl (nat_lt 0 (word_length text)) refl
     where
       go : (a : Bool) → nat_lt (name_length text) (prefix_len is_digit text) ≡ a → (b : Bool) → nat_lt (word_length text) (name_length text) ≡ b → (d : Bool) → nat_lt 0 (word_length text) ≡ d →
-          Begins forms text (cond a (Some (prefix_len is_digit text, Number)) (cond b (Some (name_length text, Primed)) (cond d (Some (word_length text, Word)) None)))
+          HasLexeme forms text (cond a (Some (prefix_len is_digit text, Number)) (cond b (Some (name_length text, Primed)) (cond d (Some (word_length text, Word)) None)))
       go true e b f d g =
           let wins : name_length text < prefix_len is_digit text = ltb-true (name_length text) (prefix_len is_digit text) e in
           let high : length_of sign < prefix_len is_digit text = elim low [ inl x ↦ omega arith | inr y ↦ elim y [ inl x ↦ x | inr z ↦ omega arith ] ] in
@@ -190,12 +190,12 @@ module _ (forms : Forms) (text : List ℕ) (sign : Option (ℕ × ℕ)) (best : 
           λ m some short l is. elim (bounded m short l is some) [ inl x ↦ omega arith | inr y ↦ elim y [ inl x ↦ omega arith | inr x ↦ omega arith ] ]
 
 -- the choice is the longest token
-pub begins : (forms : Forms) (text : List ℕ) (sign : Option (ℕ × ℕ)) → Best forms text sign → Begins forms text (choice sign (word_length text) (name_length text) (prefix_len is_digit text))
+pub begins : (forms : Forms) (text : List ℕ) (sign : Option (ℕ × ℕ)) → Best forms text sign → HasLexeme forms text (choice sign (word_length text) (name_length text) (prefix_len is_digit text))
 begins forms text None best = others forms text None best (inr (inr refl))
 begins forms text (Some found) best = go (nat_le (name_length text) found.0) refl (nat_le (prefix_len is_digit text) found.0) refl
   where
     go : (a : Bool) → nat_le (name_length text) found.0 ≡ a → (b : Bool) → nat_le (prefix_len is_digit text) found.0 ≡ b →
-        Begins forms text (cond (a && b) (Some (found.0, Sign found.1)) (other_choice (word_length text) (name_length text) (prefix_len is_digit text)))
+        HasLexeme forms text (cond (a && b) (Some (found.0, Sign found.1)) (other_choice (word_length text) (name_length text) (prefix_len is_digit text)))
     go true e true f =
         let low : name_length text ≤ found.0 = leb-true (name_length text) found.0 e in
         let low' : prefix_len is_digit text ≤ found.0 = leb-true (prefix_len is_digit text) found.0 f in

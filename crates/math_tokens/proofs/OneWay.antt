@@ -8,8 +8,8 @@ use Rattle.math_tokens.specs.declared.cutting.TokenKind.{TokenKind}
 use Rattle.math_tokens.specs.declared.cutting.TokenFault.{TokenFault}
 use Rattle.math_tokens.specs.declared.cutting.Token.{Token}
 use Rattle.formula_core.specs.Names.{starts_word, is_in_word}
-use Rattle.math_tokens.specs.Lexemes.{Forms, is_digit, is_word, is_digits, IsLexeme, a_sign, a_word, a_primed, a_number, IsLongest}
-use Rattle.math_tokens.specs.Texts.{blank_length, meaning, HasNone, IsTokenAt, Cut, at_end, over_blank, past_token, fault_later, fault_here}
+use Rattle.math_tokens.specs.Lexemes.{Forms, is_digit, is_token_word, is_digits, IsLexeme, a_sign, a_word, a_primed, a_number, IsLongest}
+use Rattle.math_tokens.specs.Texts.{blank_length, meaning, HasNoLexeme, IsTokenAt, Cut, at_end, over_blank, past_token, fault_later, fault_here}
 use Rattle.math_tokens.specs.SignForms.{sign_forms}
 use Rattle.math_tokens.proofs.Fronts.{both}
 
@@ -18,7 +18,7 @@ no_prime_in : (w : List ℕ) → list_all is_in_word (w ++ 39 ∷ []) ≡ true �
 no_prime_in [] h = cc
 no_prime_in (c ∷ w) h = no_prime_in w (both (is_in_word c) (list_all is_in_word (w ++ 39 ∷ [])) h).1
 
-no_primed_word : (w : List ℕ) → is_word (w ++ 39 ∷ []) ≡ true → ⊥
+no_primed_word : (w : List ℕ) → is_token_word (w ++ 39 ∷ []) ≡ true → ⊥
 no_primed_word [] h = cc
 no_primed_word (c ∷ w) h = no_prime_in w (both (starts_word c) (list_all is_in_word (w ++ 39 ∷ [])) h).1
 
@@ -26,11 +26,11 @@ no_primed_word (c ∷ w) h = no_prime_in w (both (starts_word c) (list_all is_in
 no_digit_starts : (c : ℕ) → starts_word c ≡ true → is_digit c ≡ true → ⊥
 no_digit_starts c h d = grind (arith, nat_tests)
 
-no_digit_word : (bytes : List ℕ) → is_word bytes ≡ true → is_digits bytes ≡ true → ⊥
+no_digit_word : (bytes : List ℕ) → is_token_word bytes ≡ true → is_digits bytes ≡ true → ⊥
 no_digit_word [] h d = cc
 no_digit_word (c ∷ cs) h d = no_digit_starts c (both (starts_word c) (list_all is_in_word cs) h).0 (both (is_digit c) (list_all is_digit cs) d).0
 
-no_digit_primed : (w bytes : List ℕ) → is_word w ≡ true → bytes ≡ w ++ 39 ∷ [] → is_digits bytes ≡ true → ⊥
+no_digit_primed : (w bytes : List ℕ) → is_token_word w ≡ true → bytes ≡ w ++ 39 ∷ [] → is_digits bytes ≡ true → ⊥
 no_digit_primed [] bytes h e d = cc
 no_digit_primed (c ∷ w) bytes h e d =
     let d' : is_digits (c ∷ (w ++ 39 ∷ [])) ≡ true = subst (λ b. is_digits b ≡ true) e d in
@@ -44,10 +44,10 @@ one_lexeme forms bytes k l (a_sign s) (a_primed v n w e) = cc
 one_lexeme forms bytes k l (a_sign s) (a_number n d) = cc
 one_lexeme forms bytes k l (a_word n w) (a_sign t) = cc
 one_lexeme forms bytes k l (a_word n w) (a_word m v) = refl
-one_lexeme forms bytes k l (a_word n w) (a_primed v m x e) = absurd (no_primed_word v (subst (λ b. is_word b ≡ true) e w))
+one_lexeme forms bytes k l (a_word n w) (a_primed v m x e) = absurd (no_primed_word v (subst (λ b. is_token_word b ≡ true) e w))
 one_lexeme forms bytes k l (a_word n w) (a_number m d) = absurd (no_digit_word bytes w d)
 one_lexeme forms bytes k l (a_primed v n w e) (a_sign t) = cc
-one_lexeme forms bytes k l (a_primed v n w e) (a_word m x) = absurd (no_primed_word v (subst (λ b. is_word b ≡ true) e x))
+one_lexeme forms bytes k l (a_primed v n w e) (a_word m x) = absurd (no_primed_word v (subst (λ b. is_token_word b ≡ true) e x))
 one_lexeme forms bytes k l (a_primed v n w e) (a_primed u m x f) = refl
 one_lexeme forms bytes k l (a_primed v n w e) (a_number m d) = absurd (no_digit_primed v bytes w e d)
 one_lexeme forms bytes k l (a_number n d) (a_sign t) = cc
@@ -70,7 +70,7 @@ module _ (forms : Forms) (text : List ℕ) where
       let same : n ≡ m = one_length n m k l a b in
       (same, one_lexeme forms (take n text) k l a.spells (rw same b.spells))
 
-  some_longest : (n : ℕ) (k : Lexeme) → HasNone forms text → IsLongest forms text n k → ⊥
+  some_longest : (n : ℕ) (k : Lexeme) → HasNoLexeme forms text → IsLongest forms text n k → ⊥
   some_longest n k none a = none n a.some a.within k a.spells
 
 -- a token is known by its fields

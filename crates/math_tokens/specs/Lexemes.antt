@@ -19,9 +19,9 @@ abbrev pub is_digit : ℕ → Bool
 is_digit c = is_ascii_digit c
 
 -- a letter or an underscore, and then letters, digits and underscores
-abbrev pub is_word : List ℕ → Bool
-is_word [] = false
-is_word (c ∷ cs) = starts_word c && list_all is_in_word cs
+abbrev pub is_token_word : List ℕ → Bool
+is_token_word [] = false
+is_token_word (c ∷ cs) = starts_word c && list_all is_in_word cs
 
 abbrev pub is_digits : List ℕ → Bool
 is_digits [] = false
@@ -30,8 +30,8 @@ is_digits (c ∷ cs) = is_digit c && list_all is_digit cs
 -- the bytes spell the token
 pub data IsLexeme (forms : Forms) : List ℕ → Lexeme → Type 0 where
   a_sign : {bytes : List ℕ} {k : ℕ} → sign_in forms bytes ≡ Some k → IsLexeme forms bytes (Sign k)
-  a_word : {bytes : List ℕ} → sign_in forms bytes ≡ None → is_word bytes ≡ true → IsLexeme forms bytes Word
-  a_primed : {bytes : List ℕ} (word : List ℕ) → sign_in forms bytes ≡ None → is_word word ≡ true → bytes ≡ word ++ 39 ∷ [] → IsLexeme forms bytes Primed
+  a_word : {bytes : List ℕ} → sign_in forms bytes ≡ None → is_token_word bytes ≡ true → IsLexeme forms bytes Word
+  a_primed : {bytes : List ℕ} (word : List ℕ) → sign_in forms bytes ≡ None → is_token_word word ≡ true → bytes ≡ word ++ 39 ∷ [] → IsLexeme forms bytes Primed
   a_number : {bytes : List ℕ} → sign_in forms bytes ≡ None → is_digits bytes ≡ true → IsLexeme forms bytes Number
 
 -- the longest token with which the text begins has n bytes

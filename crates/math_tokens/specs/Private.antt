@@ -51,9 +51,9 @@ word_length [] = 0
 word_length (c ∷ cs) = cond (starts_word c) (1 + prefix_len is_in_word cs) 0
 
 -- what a search for the longest token finds
-abbrev pub Begins : Forms → List ℕ → Option (ℕ × Lexeme) → Type 0
-Begins forms text (Some found) = IsLongest forms text found.0 found.1
-Begins forms text None = (m : ℕ) → 0 < m → m ≤ length text → (k : Lexeme) → IsLexeme forms (take m text) k → ⊥
+abbrev pub HasLexeme : Forms → List ℕ → Option (ℕ × Lexeme) → Type 0
+HasLexeme forms text (Some found) = IsLongest forms text found.0 found.1
+HasLexeme forms text None = (m : ℕ) → 0 < m → m ≤ length text → (k : Lexeme) → IsLexeme forms (take m text) k → ⊥
 
 -- the better of the best so far and a form
 abbrev pub length_of : Option (ℕ × ℕ) → ℕ

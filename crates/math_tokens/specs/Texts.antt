@@ -28,8 +28,8 @@ meaning bytes lexeme.Primed at = cond (nat_le (length bytes) 65) (Ok kind.Primed
 meaning bytes lexeme.Number at = cond (nat_lt (value_of bytes) (2 ^ 127)) (Ok (kind.Number (pos (value_of bytes)))) (Err (fault.NumberTooWide at))
 
 -- no token begins with these bytes
-abbrev pub HasNone : Forms → List ℕ → Type 0
-HasNone forms text = (m : ℕ) → 0 < m → m ≤ length text → (k : Lexeme) → IsLexeme forms (take m text) k → ⊥
+abbrev pub HasNoLexeme : Forms → List ℕ → Type 0
+HasNoLexeme forms text = (m : ℕ) → 0 < m → m ≤ length text → (k : Lexeme) → IsLexeme forms (take m text) k → ⊥
 
 -- the longest token that begins at a byte, none at a blank or the end, or what is wrong there
 abbrev pub IsTokenAt : Forms → List ℕ → ℕ → Result (Option Token) TokenFault → Type 0
@@ -39,7 +39,7 @@ IsTokenAt forms text at (Ok (Some t)) =
     × (t.from ≡ at) × (t.to ≡ at + n) × (meaning (take n (drop at text)) l at ≡ Ok t.kind)
 IsTokenAt forms text at (Err f) =
     (at < length text) × (blank_length (drop at text) ≡ 0)
-    × ((HasNone forms (drop at text) × (f ≡ fault.BadSign at))
+    × ((HasNoLexeme forms (drop at text) × (f ≡ fault.BadSign at))
     ⊎ ((l : Lexeme) × (n : ℕ) × IsLongest forms (drop at text) n l × (meaning (take n (drop at text)) l at ≡ Err f)))
 
 -- what comes of the text from a byte on: its tokens, or the first fault

@@ -4,7 +4,7 @@ ghost use Rattle.std.specs.Prelude.{◌≡◌, ◌≤◌, ◌^◌, length, IsTru
 ghost use Rattle.std.specs.List.{prefix_len};
 ghost use Rattle.formula_core.specs.Names.{starts_word, is_in_word};
 ghost use Rattle.math_tokens.specs.Lexemes.{is_digit, value_of};
-ghost use Rattle.math_tokens.specs.Private.{are_groups, word_length, name_length, table, Begins, choice};
+ghost use Rattle.math_tokens.specs.Private.{are_groups, word_length, name_length, table, HasLexeme, choice};
 
 use crate::signs::longest_form;
 use formula_core::is_in_word;
@@ -104,7 +104,7 @@ pub fn longest_lexeme(
     bytes: &[u8],
 ) -> Option<(usize, Lexeme)>
     requires { IsTrue (are_groups forms.now 0 starts.now) }
-    ensures { Begins (table forms.now) bytes.now result }
+    ensures { HasLexeme (table forms.now) bytes.now result }
 {
     let sign = longest_form(forms, starts, bytes);
     let word = word_length(bytes);

@@ -1,7 +1,7 @@
 //! Faults of components.
 
 ghost use Rattle.std.specs.Prelude.{◌≡◌, ◌++◌, IfOk};
-ghost use Rattle.model_core.specs.Faults.{number, rank, comes_before, earlier, fault_at};
+ghost use Rattle.model_core.specs.Faults.{number, fault_rank, comes_before, earlier, fault_at};
 
 use formula_core::{Name, OutOfMemory, Text};
 use std::alloc::Global;
@@ -70,7 +70,7 @@ impl FaultKind {
 
     /// The place of a kind among those of one phase at one byte: a formula too large goes before an unexpected token.
     fn rank(self) -> u8
-        ensures { result ≡ rank self }
+        ensures { result ≡ fault_rank self }
     {
         let number = self.number();
         if number == 4 { 2 } else { number }

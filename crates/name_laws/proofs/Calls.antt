@@ -13,7 +13,7 @@ use Rattle.model_core.proofs.Members.{in_either}
 use Rattle.sequent_core.specs.declared.sequent.Obligation.{Obligation}
 use Rattle.well_defined.specs.Conditions.{wd_of}
 use Rattle.model_core.specs.declared.checked.Labelled.{Labelled}
-use Rattle.po_rules.specs.Parts.{slash, formulas}
+use Rattle.po_rules.specs.Parts.{path_with, formulas}
 use Rattle.po_rules.specs.Rows.{needed, of_kind, labelled_rows}
 use Rattle.name_laws.specs.Labels.{IsPlain}
 use Rattle.name_laws.proofs.Lists.{AreKeyedOnce, never, differ}
@@ -50,9 +50,9 @@ same_parts (p ∷ ps) (q ∷ qs) h k e =
     let others = same_parts ps qs h.1 k.1 s.1 in
     (λ i. s.0 i ∷ others i)
 
-same_front : (path ys vs : List ℕ) → slash path ys ≡ slash path vs → ys ≡ vs
+same_front : (path ys vs : List ℕ) → path_with path ys ≡ path_with path vs → ys ≡ vs
 same_front [] ys vs e = cc
-same_front (c ∷ path) ys vs e = let rest : slash path ys ≡ slash path vs = cc in same_front path ys vs rest
+same_front (c ∷ path) ys vs e = let rest : path_with path ys ≡ path_with path vs = cc in same_front path ys vs rest
 
 -- An obligation's name has these parts behind the path, and they are as P says.
 pub record IsCalled (path : List ℕ) (P : Parts → Type 0) (o : Obligation) : Type 0 where
@@ -60,7 +60,7 @@ pub record IsCalled (path : List ℕ) (P : Parts → Type 0) (o : Obligation) : 
   pub others : Parts
   pub plain : AllByRecursion IsPlain (first ∷ others)
   pub holds : P (first ∷ others)
-  pub is : o.name ≡ slash path (first ++ behind others)
+  pub is : o.name ≡ path_with path (first ++ behind others)
 
 names_differ : (path : List ℕ) (P Q : Parts → Type 0) (o p : Obligation) → ((c : Parts) → P c → Q c → ⊥) → IsCalled path P o → IsCalled path Q p → o.name ≢ p.name
 names_differ path P Q o p apart a b same =
@@ -196,17 +196,17 @@ plain_kind (c ∷ cs) e = let s = go (c == 47) refl e in (s.0, plain_kind cs s.1
 
 -- `path/word`
 pub word_called : (path word : List ℕ) (env : List (List ℕ × Ty)) (hyps : List Formula) (goal : Formula) → IsPlain word →
-    AreCalled path (λ c. c ≡ word ∷ []) (needed (slash path word) env hyps goal)
+    AreCalled path (λ c. c ≡ word ∷ []) (needed (path_with path word) env hyps goal)
 word_called path word env hyps goal plain =
-    if_needed path (λ c. c ≡ word ∷ []) (record { name = slash path word; sequent = record { env = env; hyps = hyps; goal = goal } }) (is_top goal)
-    (record { first = word; others = []; plain = (plain, tt); holds = refl; is = ap (slash path) (sym (append-nil word)) })
+    if_needed path (λ c. c ≡ word ∷ []) (record { name = path_with path word; sequent = record { env = env; hyps = hyps; goal = goal } }) (is_top goal)
+    (record { first = word; others = []; plain = (plain, tt); holds = refl; is = ap (path_with path) (sym (append-nil word)) })
 
 -- `path/key/word`
 pub part_called : (path key word : List ℕ) (env : List (List ℕ × Ty)) (hyps : List Formula) (goal : Formula) → IsPlain key → IsPlain word →
-    AreCalled path (λ c. c ≡ key ∷ word ∷ []) (needed (slash path (slash key word)) env hyps goal)
+    AreCalled path (λ c. c ≡ key ∷ word ∷ []) (needed (path_with path (path_with key word)) env hyps goal)
 part_called path key word env hyps goal plain plain_word =
-    if_needed path (λ c. c ≡ key ∷ word ∷ []) (record { name = slash path (slash key word); sequent = record { env = env; hyps = hyps; goal = goal } }) (is_top goal)
-    (record { first = key; others = word ∷ []; plain = (plain, (plain_word, tt)); holds = refl; is = ap (λ t. slash path (slash key t)) (sym (append-nil word)) })
+    if_needed path (λ c. c ≡ key ∷ word ∷ []) (record { name = path_with path (path_with key word); sequent = record { env = env; hyps = hyps; goal = goal } }) (is_top goal)
+    (record { first = key; others = word ∷ []; plain = (plain, (plain_word, tt)); holds = refl; is = ap (λ t. path_with path (path_with key t)) (sym (append-nil word)) })
 
 pub one_called : (path key word : List ℕ) (Q : Parts → Type 0) (os : List Obligation) → Q (key ∷ word ∷ []) → AreCalled path (λ c. c ≡ key ∷ word ∷ []) os → AreCalled path (Begins key Q) os
 one_called path key word Q os q a = called_as path (λ c. c ≡ key ∷ word ∷ []) (Begins key Q) os (λ c e. subst (Begins key Q) (sym e) (refl, q)) a
@@ -243,9 +243,9 @@ pub labelled_called : (path : List ℕ) (Q : Parts → Type 0) (env : List (List
     Q (l.label ∷ codes "WD" ∷ []) → Q (l.label ∷ codes "THM" ∷ []) → AreCalled path (Begins l.label Q) (labelled_rows path env hyps before l)
 labelled_called path Q env hyps before l plain q r =
     let now = hyps ++ formulas before in
-    let theorem = needed (slash path (of_kind l.label (codes "THM"))) env now l.formula in
+    let theorem = needed (path_with path (of_kind l.label (codes "THM"))) env now l.formula in
     two_called path l.label (codes "WD") (codes "THM") Q
-    (needed (slash path (of_kind l.label (codes "WD"))) env now (wd_of l.formula)) (if l.theorem then theorem else [])
+    (needed (path_with path (of_kind l.label (codes "WD"))) env now (wd_of l.formula)) (if l.theorem then theorem else [])
     (differ (codes "WD") (codes "THM") refl) q r
     (part_called path l.label (codes "WD") env now (wd_of l.formula) plain (plain_kind (codes "WD") refl))
     (if_called path (λ c. c ≡ l.label ∷ codes "THM" ∷ []) l.theorem theorem []

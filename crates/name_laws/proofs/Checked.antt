@@ -19,13 +19,13 @@ use Rattle.model_core.specs.declared.checked.CheckedMachine.{CheckedMachine}
 use Rattle.model_core.specs.declared.checked.Labelled.{Labelled}
 use Rattle.model_core.specs.Each.{is_among}
 use Rattle.check_rules.specs.Components.{contexts_in, first_machine_in}
-use Rattle.check_rules.specs.Contexts.{names_of, labels_of, unless, context_env, context_of, context_declarations, ChecksAxioms, ChecksContext}
+use Rattle.check_rules.specs.Contexts.{names_of, labels_of, unless, context_env, checked_context_of, context_declarations, ChecksAxioms, ChecksContext}
 use Rattle.check_rules.specs.Declarations.{LabelAt, declared_twice, brings_clash, labelled_twice}
-use Rattle.check_rules.specs.Events.{initialisation, is_initialisation, event_named, with_event, refined_at, implied, refined, inherited, inherited_params, inherited_guards, inherited_actions, inherited_labels, event_labels, param_clashes, event_declarations, event_env, witness_env, witnesses_of, IsTypedEvent, AreTypedEvents}
-use Rattle.check_rules.specs.Machines.{Written, abstract_variables, abstract_events, abstract_view, own_names, new_variables, all_variables, machine_env, machine_of, machine_declarations, machine_assignments, machine_refinements, ChecksFormulas, ChecksMachine}
+use Rattle.check_rules.specs.Events.{initialisation, is_initialisation, event_named, with_event, refined_at, implied_events, refined, inherited, inherited_params, inherited_guards, inherited_actions, inherited_labels, event_labels, param_clashes, event_declarations, event_env, witness_env, witnesses_of, IsTypedEvent, AreTypedEvents}
+use Rattle.check_rules.specs.Machines.{Written, abstract_variables, abstract_events, abstract_view, own_names, new_variables, all_variables, machine_env, checked_machine_of, machine_declarations, machine_assignments, machine_refinements, ChecksFormulas, ChecksMachine}
 use Rattle.check_rules.specs.Typed.{Entries, LabelledAction, AreTyped, AreTypedActions, never_typed}
-use Rattle.check_rules.specs.Visible.{nothing, identifiers, entries, names, seen_from}
-use Rattle.name_laws.specs.Labels.{IsPlain, AreOnce, labels, action_labels, witness_names, own_axioms, own_invariants, HasPlainNamesInContext, HasPlainNamesInEvent, HasPlainNamesInMachine, HasPlainNames, HasDistinctLabelsInEvent, HasDistinctLabelsInMachine, HasDistinctLabels}
+use Rattle.check_rules.specs.Visible.{nothing, all_visible, entries, names, seen_from}
+use Rattle.name_laws.specs.Labels.{IsPlain, AreOnce, labels, action_labels, names_of_witnesses, own_axioms, own_invariants, HasPlainNamesInContext, HasPlainNamesInEvent, HasPlainNamesInMachine, HasPlainNames, HasDistinctLabelsInEvent, HasDistinctLabelsInMachine, HasDistinctLabels}
 use Rattle.name_laws.specs.Laws.{component_name, CheckedHasDistinctLabels, CheckedHasPlainNames, CheckedKeepsItsName}
 use Rattle.name_laws.specs.Written.{written_labels, step_labels, IsPlainlyWrittenEvent}
 use Rattle.name_laws.proofs.Lists.{AreOther, all_map, all_unmap, all_two, all_filter, map_append, map_map, once_front, once_back, once_apart, once_append, once_filter, turned}
@@ -136,7 +136,7 @@ first_of P false xs h = tt
 inherited_is : (P : CheckedEvent → Type 0) (m : List CheckedEvent) (e : RawEvent) → AllByRecursion P m → IfSome (inherited m e) P
 inherited_is P m e h =
     first_of P e.extended (refined m e)
-    (all_append P (map (λ x. x.1) (refined_at m e)) (implied m e) (all_map P (λ x. x.1) (refined_at m e) (refs_each P m e.refines h))
+    (all_append P (map (λ x. x.1) (refined_at m e)) (implied_events m e) (all_map P (λ x. x.1) (refined_at m e) (refs_each P m e.refines h))
     (listed P (is_initialisation e && length e.refines == 0) (event_named m initialisation) (event_found P m initialisation h)))
 
 -- Plain names.
@@ -145,7 +145,7 @@ inherited_plain : (o : Option CheckedEvent) → IfSome o HasPlainNamesInEvent �
 inherited_plain None h = (tt, tt)
 inherited_plain (Some a) h = (h.guards, h.actions)
 
-witnesses_kept : (P : List ℕ → Type 0) (ws : List Labelled) → AllByRecursion P (labels ws) → AllByRecursion P (witness_names (witnesses_of ws))
+witnesses_kept : (P : List ℕ → Type 0) (ws : List Labelled) → AllByRecursion P (labels ws) → AllByRecursion P (names_of_witnesses (witnesses_of ws))
 witnesses_kept P ws h =
     subst (AllByRecursion P) (sym (map_map (λ w. w.0) (λ w. (w.label, w.formula)) (filter (λ w. is_name w.label) ws)))
     (all_map P (λ w. w.label) (filter (λ w. is_name w.label) ws) (all_filter (λ w. is_name w.label) (λ w. P w.label) ws (all_unmap P (λ w. w.label) ws h)))
@@ -157,7 +157,7 @@ event_plain m above e c plain from =
     record {
       name = subst IsPlain (sym from.name) plain.name;
       guards = subst (AllByRecursion IsPlain) (sym from.guards) (all_append IsPlain (labels (inherited_guards m e)) (written_labels e.guards) old.0 plain.guards);
-      witnesses = subst (λ xs. AllByRecursion IsPlain (witness_names xs)) (sym ws.2) (witnesses_kept IsPlain ws.0 (subst (AllByRecursion IsPlain) (sym ws.1) plain.witnesses));
+      witnesses = subst (λ xs. AllByRecursion IsPlain (names_of_witnesses xs)) (sym ws.2) (witnesses_kept IsPlain ws.0 (subst (AllByRecursion IsPlain) (sym ws.1) plain.witnesses));
       actions = subst (AllByRecursion IsPlain) (sym from.actions) (all_append IsPlain (action_labels (inherited_actions m e)) (step_labels e.actions) old.1 plain.actions);
     }
 
@@ -247,7 +247,7 @@ event_once component known m above e c clear from =
           (merged_once (labels (inherited_guards m e)) guards (action_labels (inherited_actions m e)) actions
           (inherited_once (inherited m e) (inherited_is HasDistinctLabelsInEvent m e above))
           (once_front guards witnesses (once_front front actions once)) (once_back front actions once) apart new_guards new_actions);
-      witnesses = subst (λ xs. AreOnce (witness_names xs)) (sym ws.2)
+      witnesses = subst (λ xs. AreOnce (names_of_witnesses xs)) (sym ws.2)
           (subst AreOnce (sym (map_map (λ w. w.0) (λ w. (w.label, w.formula)) kept)) (once_filter (λ w. w.label) (λ w. is_name w.label) ws.0 named));
     }
 
@@ -279,11 +279,11 @@ context_from name extends sets constants axioms parents checked h =
     let declared = passes (ChecksAxioms name sets constants axioms v (ok checked)) (context_declarations name extends (sets ++ constants) axioms parents) checked h in
     let clear = second_none (brings_clash name nothing (zip extends parents) ++ declared_twice name (names (entries v.constants)) (sets ++ constants)) (labelled_twice name [] (labels_of axioms)) declared.0 in
     let a = declared.1 in
-    let out = passes (ok checked ≡ ok (Context (context_of name (sets ++ constants) v a.0 a.2))) (a.1 ++ never_typed name a.2 constants) checked a.4 in
+    let out = passes (ok checked ≡ ok (Context (checked_context_of name (sets ++ constants) v a.0 a.2))) (a.1 ++ never_typed name a.2 constants) checked a.4 in
     let typed = typed_labels name (context_env sets v) (names_of constants) axioms a.0 a.1 a.2 a.3 (first_none a.1 (never_typed name a.2 constants) out.0) in
     record {
-      context = context_of name (sets ++ constants) v a.0 a.2;
-      is = sym (same_checked checked (Context (context_of name (sets ++ constants) v a.0 a.2)) out.1);
+      context = checked_context_of name (sets ++ constants) v a.0 a.2;
+      is = sym (same_checked checked (Context (checked_context_of name (sets ++ constants) v a.0 a.2)) out.1);
       name_is = refl;
       axioms_are = ap labels (drop_front (map (λ x. x.0) v.axioms) a.0 (length v.axioms) (map_length (λ x. x.0) v.axioms)) ∙ typed;
       once = subst AreOnce (labels_at axioms) (labelled_once name [] (labels_of axioms) clear).1;
@@ -314,8 +314,8 @@ machine_from m w seen checked h =
     let name = w.name.name in
     let v = seen_from (abstract_view m) seen in
     let declared = passes (ChecksFormulas m w v (ok checked)) (machine_declarations m w seen) checked h in
-    let known = filter (λ x. not (is_among (abstract_variables m) x)) (names (entries (identifiers v))) in
-    let outside = names (entries (identifiers v)) ++ own_names w in
+    let known = filter (λ x. not (is_among (abstract_variables m) x)) (names (entries (all_visible v))) in
+    let outside = names (entries (all_visible v)) ++ own_names w in
     let clashes = brings_clash name (abstract_view m) (zip w.sees seen) in
     let twice = declared_twice name known w.variables in
     let labels_twice = labelled_twice name [] (labels_of w.invariants) in
@@ -333,7 +333,7 @@ machine_from m w seen checked h =
     let faults1 : t.1 ++ never ++ t.5 ≡ [] = first_none (t.1 ++ never ++ t.5) t.8 faults in
     let no_events = second_none (t.1 ++ never ++ t.5) t.8 faults in
     let typed = typed_labels name (machine_env m v) (new_variables m w) w.invariants t.0 t.1 t.2 t.3 (first_none t.1 never (first_none (t.1 ++ never) t.5 faults1)) in
-    let mine = machine_of m w v t.2 t.0 t.4 t.7 in
+    let mine = checked_machine_of m w v t.2 t.0 t.4 t.7 in
     record {
       machine = mine;
       is = sym (same_checked checked (Machine a.0) out.1 ∙ ap (λ c. Machine c) t.10);

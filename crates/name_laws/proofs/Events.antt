@@ -23,10 +23,10 @@ use Rattle.model_core.specs.declared.checked.CheckedMachine.{CheckedMachine}
 use Rattle.model_core.specs.Components.{is_ordinary, is_convergent}
 use Rattle.model_core.specs.Each.{IsIn, for_each, is_among}
 use Rattle.sequent_core.specs.declared.sequent.Obligation.{Obligation}
-use Rattle.po_rules.specs.Parts.{EventParts, slash, formulas, initialises, is_extended, actions_of, actions_of_first, with_prime, as_term, new_values, machine_hyps, after_pairs, primed_values, parts_of}
-use Rattle.po_rules.specs.Rows.{needed, of_kind, from_base, from_choices, from_witnesses, chain, for_some_of, equal, labelled_rows, guard_rows, witness_row, witness_rows, conditions, strengthening_rows, merging_rows, action_condition, feasible, action_row, action_rows, simulated, simulation_row, simulation_rows, kept_variables, equality_row, equality_rows, is_changed, invariant_row, invariant_rows, was_convergent, decrease, naturals, decrease_rows}
+use Rattle.po_rules.specs.Parts.{EventParts, path_with, formulas, initialises, is_extended, actions_of, actions_of_first, with_prime, as_term, new_values, machine_hyps, after_pairs, primed_values, parts_of}
+use Rattle.po_rules.specs.Rows.{needed, of_kind, from_base, from_choices, from_witnesses, chain, for_some_of, equal_terms, labelled_rows, guard_rows, witness_row, witness_rows, conditions, strengthening_rows, merging_rows, action_condition, feasible, action_row, action_rows, simulated, simulation_row, simulation_rows, kept_variables, equality_row, equality_rows, is_changed, invariant_row, invariant_rows, was_convergent, decrease, naturals, decrease_rows}
 use Rattle.po_rules.specs.Tables.{Row, guards, witnesses, strengthening, merging, actions, simulation, equality, invariants, variant, all_rows, row_of_event}
-use Rattle.name_laws.specs.Labels.{IsPlain, labels, action_labels, witness_names, own_invariants, HasPlainNamesInEvent, HasDistinctLabelsInEvent}
+use Rattle.name_laws.specs.Labels.{IsPlain, labels, action_labels, names_of_witnesses, own_invariants, HasPlainNamesInEvent, HasDistinctLabelsInEvent}
 use Rattle.name_laws.proofs.Lists.{AreKeyedOnce, never, differ, all_map, all_unmap, all_two, all_drop, all_filter, all_told, once_front, once_back, once_apart, once_drop, once_filter, keyed_once, map_map, among_self, not_among}
 use Rattle.name_laws.proofs.Calls.{Parts, AreCalled, AreApart, OfSome, Begins, none_called, called_as, if_called, keyed_called, for_keys, for_apart, for_option, plain_kind, word_called, part_called, one_called, two_called, exactly, words_called, labelled_called}
 
@@ -113,7 +113,7 @@ module _ (m : CheckedMachine) (abstraction : Option CheckedMachine) (e : Checked
   p = parts_of m e refined
 
   abbrev path : List ℕ
-  path = slash m.name e.name
+  path = path_with m.name e.name
 
   abbrev own_guards : List Labelled
   own_guards = drop e.own_guards_from e.guards
@@ -134,11 +134,11 @@ module _ (m : CheckedMachine) (abstraction : Option CheckedMachine) (e : Checked
   all_hyps = p.base ++ p.choices ++ map (λ w. w.1) p.witnesses
 
   -- `e/k/KIND`
-  part : (key word : List ℕ) (hyps : List Formula) (goal : Formula) → IsPlain key → IsPlain word → AreCalled path (λ c. c ≡ key ∷ word ∷ []) (needed (slash path (slash key word)) p.env hyps goal)
+  part : (key word : List ℕ) (hyps : List Formula) (goal : Formula) → IsPlain key → IsPlain word → AreCalled path (λ c. c ≡ key ∷ word ∷ []) (needed (path_with path (path_with key word)) p.env hyps goal)
   part key word hyps goal h k = part_called path key word p.env hyps goal h k
 
-  only : (key word : List ℕ) (n : ℕ) (hyps : List Formula) (goal : Formula) → IsPlain key → IsPlain word → In n (key ∷ word ∷ []) → AreCalled path (Begins key (In n)) (needed (slash path (slash key word)) p.env hyps goal)
-  only key word n hyps goal h k is = one_called path key word (In n) (needed (slash path (slash key word)) p.env hyps goal) is (part key word hyps goal h k)
+  only : (key word : List ℕ) (n : ℕ) (hyps : List Formula) (goal : Formula) → IsPlain key → IsPlain word → In n (key ∷ word ∷ []) → AreCalled path (Begins key (In n)) (needed (path_with path (path_with key word)) p.env hyps goal)
+  only key word n hyps goal h k is = one_called path key word (In n) (needed (path_with path (path_with key word)) p.env hyps goal) is (part key word hyps goal h k)
 
   guards_once : AreKeyedOnce (λ g. g.label) own_guards
   guards_once = keyed_once (λ g. g.label) own_guards (once_drop (λ g. g.label) e.own_guards_from e.guards (once_front (labels e.guards) (action_labels e.actions) good.1.labels))
@@ -161,7 +161,7 @@ module _ (m : CheckedMachine) (abstraction : Option CheckedMachine) (e : Checked
       (differ (codes "WWD") (codes "WFIS") refl) (refl, λ x. refl) (refl, λ x. refl)
       (part w.0 (codes "WWD") choice_hyps (wd_of w.1) h (plain_kind (codes "WWD") refl)) (part w.0 (codes "WFIS") choice_hyps known h (plain_kind (codes "WFIS") refl))
 
-  names_kept : map (λ w. w.0) p.witnesses ≡ witness_names e.witnesses
+  names_kept : map (λ w. w.0) p.witnesses ≡ names_of_witnesses e.witnesses
   names_kept = map_map (λ w. w.0) (λ w. (w.0, substituted (primed_values m (after_pairs m e refined)) w.1)) e.witnesses
 
   witnesses_called : AreCalled path (In 1) (witness_rows p)
@@ -230,12 +230,12 @@ module _ (m : CheckedMachine) (abstraction : Option CheckedMachine) (e : Checked
 
   equality_called : (v : List ℕ) → IsPlain v → AreCalled path (Begins v (In 6)) (equality_row abstraction refined p v)
   equality_called v h =
-      let row : Ty → List Obligation = λ t. from_witnesses p (of_kind v (codes "EQL")) (equal (substituted p.after (as_term (v, t))) (as_term (v, t))) in
+      let row : Ty → List Obligation = λ t. from_witnesses p (of_kind v (codes "EQL")) (equal_terms (substituted p.after (as_term (v, t))) (as_term (v, t))) in
       if_called path (Begins v (In 6))
       (is_among (kept_variables abstraction) v && is_among (keys_of p.after) v && not (is_among (keys_of (for_each new_values (actions_of_first refined))) v))
       (for_each row (option_to_list (type_in p.env v))) []
       (for_option path (Begins v (In 6)) row (type_in p.env v)
-      (λ t. only v (codes "EQL") 6 all_hyps (equal (substituted p.after (as_term (v, t))) (as_term (v, t))) h (plain_kind (codes "EQL") refl) (refl, λ x. refl)))
+      (λ t. only v (codes "EQL") 6 all_hyps (equal_terms (substituted p.after (as_term (v, t))) (as_term (v, t))) h (plain_kind (codes "EQL") refl) (refl, λ x. refl)))
       (none_called path (Begins v (In 6)))
 
   equalities_called : AreCalled path (In 6) (equality_rows m abstraction refined p)

@@ -15,7 +15,7 @@ use Rattle.model_core.specs.declared.checked.CheckedMachine.{CheckedMachine}
 use Rattle.model_core.specs.declared.checked.Labelled.{Labelled}
 use Rattle.model_core.specs.Each.{at_each, for_each}
 use Rattle.sequent_core.specs.declared.sequent.Obligation.{Obligation}
-use Rattle.po_rules.specs.Parts.{slash, formulas, machine_hyps, refined_by}
+use Rattle.po_rules.specs.Parts.{path_with, formulas, machine_hyps, refined_by}
 use Rattle.po_rules.specs.Rows.{needed, labelled_rows, axiom_rows, own_invariant_rows, variant_rows}
 use Rattle.po_rules.specs.Tables.{all_rows, event_rows, machine_rows}
 use Rattle.name_laws.specs.Labels.{IsPlain, labels, own_axioms, own_invariants, HasPlainNamesInEvent, HasPlainNamesInMachine, HasDistinctLabelsInEvent, HasDistinctLabelsInMachine, AreOnce}
@@ -35,15 +35,15 @@ labelled_once path env hyps before own plain once =
 
 variant_called : (m : CheckedMachine) (v : Formula) → AreCalled m.name (λ c. place_of c ≡ 0) (variant_rows m v)
 variant_called m v =
-    let defined = needed (slash m.name (codes "VWD")) m.env (machine_hyps m) (wd_of v) in
-    let is_finite = needed (slash m.name (codes "FIN")) m.env (machine_hyps m) (finite v) in
+    let defined = needed (path_with m.name (codes "VWD")) m.env (machine_hyps m) (wd_of v) in
+    let is_finite = needed (path_with m.name (codes "FIN")) m.env (machine_hyps m) (finite v) in
     words_called m.name (codes "VWD") (codes "FIN") (λ c. place_of c ≡ 0) defined (if is_integer (type_of v) then [] else is_finite) (differ (codes "VWD") (codes "FIN") refl) refl refl
     (word_called m.name (codes "VWD") m.env (machine_hyps m) (wd_of v) (plain_kind (codes "VWD") refl))
     (if_called m.name (λ c. c ≡ codes "FIN" ∷ []) (is_integer (type_of v)) [] is_finite (none_called m.name (λ c. c ≡ codes "FIN" ∷ []))
     (word_called m.name (codes "FIN") m.env (machine_hyps m) (finite v) (plain_kind (codes "FIN") refl)))
 
 -- behind the component's name an obligation of an event begins with the event's
-in_component : (path event : List ℕ) (os : List Obligation) → IsPlain event → AreCalled (slash path event) IsBehindEvent os → AreCalled path (Begins event (λ c. place_of c ≡ 2)) os
+in_component : (path event : List ℕ) (os : List Obligation) → IsPlain event → AreCalled (path_with path event) IsBehindEvent os → AreCalled path (Begins event (λ c. place_of c ≡ 2)) os
 in_component path event os plain a = record {
   once = a.once;
   each = λ o i. let c = a.each o i in
@@ -91,7 +91,7 @@ machine_called m abstraction plain once above =
 named : (path : List ℕ) (P : Parts → Type 0) (os : List Obligation) → AreCalled path P os → HaveDistinctNames os × AreNamedAfter path os
 named path P os a = (
   once_keyed name_of os a.once,
-  all_told (λ o. (rest : List ℕ) × (o.name ≡ slash path rest)) os (λ o i. let c = a.each o i in (c.first ++ behind c.others, c.is)),
+  all_told (λ o. (rest : List ℕ) × (o.name ≡ path_with path rest)) os (λ o i. let c = a.each o i in (c.first ++ behind c.others, c.is)),
 )
 
 pub distinct_names : ObligationsHaveDistinctNames

@@ -21,8 +21,8 @@ labels labelled = map (λ l. l.label) labelled
 abbrev pub action_labels : List (List ℕ × Action) → List (List ℕ)
 action_labels actions = map (λ a. a.0) actions
 
-abbrev pub witness_names : List (List ℕ × Formula) → List (List ℕ)
-witness_names witnesses = map (λ w. w.0) witnesses
+abbrev pub names_of_witnesses : List (List ℕ × Formula) → List (List ℕ)
+names_of_witnesses witnesses = map (λ w. w.0) witnesses
 
 abbrev pub own_axioms : CheckedContext → List Labelled
 own_axioms c = drop c.own_from c.axioms
@@ -37,7 +37,7 @@ pub record HasPlainNamesInContext (c : CheckedContext) : Type 0 where
 pub record HasPlainNamesInEvent (e : CheckedEvent) : Type 0 where
   pub name : IsPlain e.name
   pub guards : AllByRecursion IsPlain (labels e.guards)
-  pub witnesses : AllByRecursion IsPlain (witness_names e.witnesses)
+  pub witnesses : AllByRecursion IsPlain (names_of_witnesses e.witnesses)
   pub actions : AllByRecursion IsPlain (action_labels e.actions)
 
 pub record HasPlainNamesInMachine (m : CheckedMachine) : Type 0 where
@@ -57,7 +57,7 @@ AreOnce texts = IsDistinct bytes_eq texts
 
 pub record HasDistinctLabelsInEvent (e : CheckedEvent) : Type 0 where
   pub labels : AreOnce (labels e.guards ++ action_labels e.actions)
-  pub witnesses : AreOnce (witness_names e.witnesses)
+  pub witnesses : AreOnce (names_of_witnesses e.witnesses)
 
 pub record HasDistinctLabelsInMachine (m : CheckedMachine) : Type 0 where
   pub invariants : AreOnce (labels (own_invariants m))

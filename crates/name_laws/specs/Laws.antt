@@ -11,7 +11,7 @@ use Rattle.model_core.specs.declared.checked.Checked.TheVariants.{Context, Machi
 use Rattle.model_core.specs.declared.checked.CheckedMachine.{CheckedMachine}
 use Rattle.check_rules.specs.Components.{ChecksBeside}
 use Rattle.sequent_core.specs.declared.sequent.Obligation.{Obligation}
-use Rattle.po_rules.specs.Parts.{slash}
+use Rattle.po_rules.specs.Parts.{path_with}
 use Rattle.po_rules.specs.Tables.{obligations_of}
 use Rattle.name_laws.specs.Labels.{IsPlain, AreOnce, HasPlainNames, HasDistinctLabels}
 use Rattle.name_laws.specs.Written.{IsPlainlyWritten}
@@ -27,7 +27,7 @@ HaveDistinctNames obligations = AreOnce (map (λ o. o.name) obligations)
 -- each name begins with this one and a slash
 abbrev pub AreNamedAfter : List ℕ → List Obligation → Type 0
 AreNamedAfter component obligations =
-    AllByRecursion (λ o. (rest : List ℕ) × (o.name ≡ slash component rest)) obligations
+    AllByRecursion (λ o. (rest : List ℕ) × (o.name ≡ path_with component rest)) obligations
 
 abbrev pub IsWellNamed : Checked → Type 0
 IsWellNamed checked = HasPlainNames checked × HasDistinctLabels checked
@@ -42,13 +42,13 @@ ObligationsHaveDistinctNames =
     × AreNamedAfter (component_name checked) (obligations_of checked abstraction)
 
 -- the name of a component, and obligations that are named after it
-abbrev pub IsTableOf : List ℕ × List Obligation → Type 0
-IsTableOf t = IsPlain t.0 × HaveDistinctNames t.1 × AreNamedAfter t.0 t.1
+abbrev pub IsNamedTable : List ℕ × List Obligation → Type 0
+IsNamedTable t = IsPlain t.0 × HaveDistinctNames t.1 × AreNamedAfter t.0 t.1
 
 -- those of components with different names have different names
 abbrev pub JoinedTablesHaveDistinctNames : Type 0
 JoinedTablesHaveDistinctNames =
-    (tables : List (List ℕ × List Obligation)) → AreOnce (map (λ t. t.0) tables) → AllByRecursion IsTableOf tables →
+    (tables : List (List ℕ × List Obligation)) → AreOnce (map (λ t. t.0) tables) → AllByRecursion IsNamedTable tables →
     HaveDistinctNames (for_each (λ t. t.1) tables)
 
 -- a component without fault has distinct labels, as the components have that it references

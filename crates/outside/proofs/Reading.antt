@@ -4,7 +4,7 @@ use Rattle.std.proofs.lemmas.List.{take_at, drop_at, take-take, length-take, len
 use Rattle.std.specs.Prelude.{Bool, true, false, nat_le, nat_lt, ◌&&◌}
 use Rattle.std.specs.Bool.{if◌then◌else◌}
 use Rattle.std.specs.declared.result.Result.TheVariants.{Ok, Err}
-use Rattle.outside.specs.Disk.{Sides, overwritten, Torn, TornCut, OnSide, Reads, Leaves, SameImages, Syncs, Elapses}
+use Rattle.outside.specs.Disk.{Sides, overwritten, Torn, TornCut, OnSide, ReadsSide, Leaves, SameImages, Syncs, Elapses}
 use Rattle.outside.specs.DiskCalls.{Call, nothing, wrote, tore, was_cut, tore_cut, synced, Images, Since, contents, changed, noted}
 use Rattle.outside.specs.Private.{are_possible, IsStill}
 use Rattle.outside.specs.declared.side.Side.{Side}
@@ -88,7 +88,7 @@ module _ (first first' : Sides) (began : first' ≡ first) (call : Call) (old ne
   pub still : IsStill call → contents first' new ≡ contents first old
   still unchanged = either_way (λ f calls. contents f calls ≡ contents first old) (still_contents first call old unchanged) refl
 
-  pub still_reads : {T E : Type 0} (side : Side) (done : List ℕ) (error : E) → IsStill call → Reads {T = T} side done (Err error) (contents first old) (contents first' new)
+  pub still_reads : {T E : Type 0} (side : Side) (done : List ℕ) (error : E) → IsStill call → ReadsSide {T = T} side done (Err error) (contents first old) (contents first' new)
   still_reads side done error unchanged = record { done = search rules; stays = λ rest no. ap (λ (b : Sides). b rest) (still unchanged) }
 
   pub image : IsTrue (are_possible first old) → IsTrue (are_possible first (call ∷ old)) → Images first' new (contents first' new)

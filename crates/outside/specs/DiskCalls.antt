@@ -43,18 +43,18 @@ contents first (was_cut side len ∷ calls) = changed side (take len) (contents 
 contents first (call ∷ calls) = contents first calls
 
 -- what a call makes of an image, where reads gave these bytes before it
-abbrev pub Step : Sides → Call → Sides → Sides → Type 0
-Step bytes nothing old new = new ≡ old
-Step bytes (wrote side at written) old new = OnSide side (Torn at (length written)) old new
-Step bytes (tore side at count) old new = OnSide side (Torn at count) old new
-Step bytes (was_cut side len) old new = OnSide side (TornCut len) old new
-Step bytes (tore_cut side len) old new = OnSide side (TornCut len) old new
-Step bytes (synced side) old new = (new ≡ old) × (old side ≡ bytes side)
+abbrev pub PerformsCall : Sides → Call → Sides → Sides → Type 0
+PerformsCall bytes nothing old new = new ≡ old
+PerformsCall bytes (wrote side at written) old new = OnSide side (Torn at (length written)) old new
+PerformsCall bytes (tore side at count) old new = OnSide side (Torn at count) old new
+PerformsCall bytes (was_cut side len) old new = OnSide side (TornCut len) old new
+PerformsCall bytes (tore_cut side len) old new = OnSide side (TornCut len) old new
+PerformsCall bytes (synced side) old new = (new ≡ old) × (old side ≡ bytes side)
 
 -- what a stop after the calls may leave
 abbrev pub Images : Sides → List Call → Sides → Type 0
 Images first [] c = c ≡ first
-Images first (call ∷ calls) c = (d : Sides) × Images first calls d × Step (contents first calls) call d c
+Images first (call ∷ calls) c = (d : Sides) × Images first calls d × PerformsCall (contents first calls) call d c
 
 -- what a stop after t calls or more might have left
 abbrev pub Since : Sides → List Call → ℕ → Sides → Type 0

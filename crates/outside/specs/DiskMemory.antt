@@ -1,6 +1,6 @@
 -- What contracts see of a disk in memory, and when its calls fail.
 use Rattle.std.specs.Prelude.{◌⊎◌, ℕ, ◌+◌, ◌<◌, ◌≤◌, List, length}
-use Rattle.outside.specs.Cause.{counted}
+use Rattle.outside.specs.Cause.{next_count}
 use Rattle.outside.specs.Memory.{IsListed}
 use Rattle.outside.specs.Disk.{Sides, Elapses}
 use Rattle.outside.specs.DiskCalls.{Call, by_side, bytes_in, contents, noted, Images, Since}
@@ -40,8 +40,8 @@ TimePasses old new =
     Elapses (length old.kept) (length new.kept) (StopMightHaveLeft old) (StopMightHaveLeft new) (StopMayLeave new)
 
 -- the next call has a number that is listed, or it comes past those that are served
-abbrev pub IsRefused : DiskInMemory → Type 0
-IsRefused disk = IsListed disk.fails disk.calls ⊎ (disk.limit ≤ disk.calls)
+abbrev pub RefusesCall : DiskInMemory → Type 0
+RefusesCall disk = IsListed disk.fails disk.calls ⊎ (disk.limit ≤ disk.calls)
 
 -- so many more bytes would pass the room for writes
 abbrev pub LacksRoom : DiskInMemory → ℕ → Type 0
@@ -49,8 +49,8 @@ LacksRoom disk count = disk.room < bytes_in disk.kept + count
 
 -- the disk after a call that succeeds
 abbrev pub served : Call → DiskInMemory → DiskInMemory
-served call disk = record disk { kept = noted disk.limit call disk.kept; calls = counted disk.calls }
+served call disk = record disk { kept = noted disk.limit call disk.kept; calls = next_count disk.calls }
 
 -- the disk after a call that fails
 abbrev pub failed : Call → DiskInMemory → DiskInMemory
-failed call disk = record disk { kept = noted disk.limit call disk.kept; calls = counted disk.calls; faults = counted disk.faults }
+failed call disk = record disk { kept = noted disk.limit call disk.kept; calls = next_count disk.calls; faults = next_count disk.faults }

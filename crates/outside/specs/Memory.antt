@@ -1,6 +1,6 @@
 -- What contracts see of the objects in memory.
 use Rattle.std.specs.Prelude.{ℕ, ◌<◌, ◌≤◌, Contains, List, length, min}
-use Rattle.outside.specs.Cause.{counted}
+use Rattle.outside.specs.Cause.{next_count}
 
 -- bytes that are given in pieces: those left, and the most that one piece has
 pub record BytesInPieces : Type 0 where
@@ -37,7 +37,7 @@ count_given left room most = min (min (length left) room) most
 
 -- the call that follows so many others has a number that is listed
 abbrev pub IsListed : List ℕ → ℕ → Type 0
-IsListed fails calls = Contains fails (counted calls)
+IsListed fails calls = Contains fails (next_count calls)
 
 -- the sink has no room left, and the piece wants some
 abbrev pub IsFull : SinkInMemory → List ℕ → Type 0

@@ -5,7 +5,7 @@ use Rattle.outside.specs.DiskCalls.{Call, seen}
 use Rattle.outside.specs.declared.disk_entry.Log.{Log}
 
 -- what the sides held at first, and how many bytes and calls there may be
-pub record IsSame (old new : Recorded) : Type 0 where
+pub record IsSameSetup (old new : Recorded) : Type 0 where
   pub left : new.first_left ≡ old.first_left
   pub right : new.first_right ≡ old.first_right
   pub room : new.log.room ≡ old.log.room

@@ -1,6 +1,6 @@
 // The calls on an object in memory, some of which are listed as failing.
 ghost use Rattle.std.specs.Prelude.{◌≡◌, ◌≤◌, ◌↔◌, IsTrue};
-ghost use Rattle.outside.specs.Cause.{counted};
+ghost use Rattle.outside.specs.Cause.{next_count};
 
 use crate::Failed;
 use crate::faults::Faults;
@@ -51,7 +51,7 @@ impl Calls {
     // Counts one more call and answers whether it is listed.
     pub(crate) fn begin(&mut self) -> bool
         ensures listed { IsTrue result ↔ IsListed self.old.fails self.old.calls }
-        ensures counted { self.new ≡ record self.old { calls = counted self.old.calls } }
+        ensures counted { self.new ≡ record self.old { calls = next_count self.old.calls } }
     {
         self.made = self.made.saturating_add(1);
         self.fails.contains(&self.made)
@@ -59,7 +59,7 @@ impl Calls {
 
     // Counts one more fault and gives the error that tells of it.
     pub(crate) fn fail(&mut self) -> Failed
-        ensures counted { self.new ≡ record self.old { faults = counted self.old.faults } }
+        ensures counted { self.new ≡ record self.old { faults = next_count self.old.faults } }
         ensures later { self.old.faults ≤ self.new.faults }
     {
         self.faults.fail()

@@ -2,7 +2,7 @@
 ghost use Rattle.std.specs.Prelude.{◌≡◌, ℕ, List, ◌+◌, ◌<◌, ◌≤◌, ◌^◌, IfOk, IsErr, IsOk, length, take};
 ghost use Rattle.std.specs.Io.{ReadsAtMost};
 ghost use Rattle.outside.specs.Cause.{CountsFault, HasCause};
-ghost use Rattle.outside.specs.Disk.{Sides, overwritten, Torn, TornCut, OnSide, Reads, Leaves, SameImages, Syncs, Elapses, ReadsAt};
+ghost use Rattle.outside.specs.Disk.{Sides, overwritten, Torn, TornCut, OnSide, ReadsSide, Leaves, SameImages, Syncs, Elapses, ReadsAt};
 ghost use Rattle.outside.specs.declared.side.Side.{Side};
 
 use crate::faults::Faults;
@@ -62,7 +62,7 @@ pub trait Disk {
     fn write_at(&mut self, side: Side, at: u64, bytes: &[u8]) -> Result<(), Failed>
         requires within { told → at ≤ length (bytes_of self.old side) }
         requires fits { at + length bytes.now < 2 ^ 64 }
-        ensures bytes { told → Reads side (overwritten at bytes.now (bytes_of self.old side)) result
+        ensures bytes { told → ReadsSide side (overwritten at bytes.now (bytes_of self.old side)) result
             (bytes_of self.old) (bytes_of self.new) }
         ensures images { told → Leaves (OnSide side (Torn at (length bytes.now))) result
             (images self.old) (images self.new) }
@@ -74,7 +74,7 @@ pub trait Disk {
     /// Cuts a side to this length.
     fn cut(&mut self, side: Side, len: u64) -> Result<(), Failed>
         requires within { told → «len» ≤ length (bytes_of self.old side) }
-        ensures bytes { told → Reads side (take «len» (bytes_of self.old side)) result
+        ensures bytes { told → ReadsSide side (take «len» (bytes_of self.old side)) result
             (bytes_of self.old) (bytes_of self.new) }
         ensures images { told → Leaves (OnSide side (TornCut «len»)) result (images self.old) (images self.new) }
         ensures image { told → images self.new (bytes_of self.new) }

@@ -1,6 +1,6 @@
 // The one error of what is handed in, and the count that goes with it.
 ghost use Rattle.std.specs.Prelude.{◌≡◌, ◌≤◌, ℕ};
-ghost use Rattle.outside.specs.Cause.{counted};
+ghost use Rattle.outside.specs.Cause.{next_count};
 
 use std::marker::Model;
 
@@ -35,7 +35,7 @@ impl Faults {
 
     // Counts one more fault and gives the error that tells of it.
     pub(crate) fn fail(&mut self) -> Failed
-        ensures counted { self.new ≡ counted self.old }
+        ensures counted { self.new ≡ next_count self.old }
         ensures later { self.old ≤ self.new }
     {
         self.count = self.count.saturating_add(1);

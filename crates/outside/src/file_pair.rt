@@ -3,7 +3,7 @@ ghost use Rattle.std.specs.Prelude.{◌≡◌, ◌+◌, ◌<◌, ◌≤◌, ◌^
 ghost use Rattle.std.specs.Io.{ReadsAtMost};
 ghost use Rattle.outside.specs.Cause.{CountsFault, HasCause};
 ghost use Rattle.outside.specs.Files.{is_there, IsAbsent, SameFiles, KeepsFiles};
-ghost use Rattle.outside.specs.Disk.{overwritten, Torn, TornCut, OnSide, Reads, Leaves, SameImages, Syncs, Elapses, ReadsAt};
+ghost use Rattle.outside.specs.Disk.{overwritten, Torn, TornCut, OnSide, ReadsSide, Leaves, SameImages, Syncs, Elapses, ReadsAt};
 
 use crate::faults::Faults;
 use crate::{Disk, Failed, Side};
@@ -270,7 +270,7 @@ impl<'a, R: Files<File = File>> Disk for FilePair<'a, R> {
 
     fn write_at(&mut self, side: Side, at: u64, bytes: &[u8]) -> Result<(), Failed>
         requires fits { at + length bytes.now < 2 ^ 64 }
-        ensures bytes { ⊥ → Reads side (overwritten at bytes.now []) result (λ _. []) (λ _. []) }
+        ensures bytes { ⊥ → ReadsSide side (overwritten at bytes.now []) result (λ _. []) (λ _. []) }
         ensures images { ⊥ → Leaves (OnSide side (Torn at (length bytes.now))) result (λ _. ⊥) (λ _. ⊥) }
         ensures time { ⊥ → Elapses 0 0 (λ _ _. ⊥) (λ _ _. ⊥) (λ _. ⊥) }
         ensures cause { HasCause self.old.faults self.new.faults result }
@@ -290,7 +290,7 @@ impl<'a, R: Files<File = File>> Disk for FilePair<'a, R> {
     }
 
     fn cut(&mut self, side: Side, len: u64) -> Result<(), Failed>
-        ensures bytes { ⊥ → Reads side (take «len» []) result (λ _. []) (λ _. []) }
+        ensures bytes { ⊥ → ReadsSide side (take «len» []) result (λ _. []) (λ _. []) }
         ensures images { ⊥ → Leaves (OnSide side (TornCut «len»)) result (λ _. ⊥) (λ _. ⊥) }
         ensures time { ⊥ → Elapses 0 0 (λ _ _. ⊥) (λ _ _. ⊥) (λ _. ⊥) }
         ensures cause { HasCause self.old.faults self.new.faults result }

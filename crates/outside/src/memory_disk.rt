@@ -2,7 +2,7 @@
 ghost use Rattle.std.specs.Prelude.{◌≡◌, ◌+◌, ◌≤◌, ◌<◌, ◌⊎◌, ◌↔◌, ◌∷◌, ◌^◌, ⊤, length, take, IfOk, IsErr, OnErr, OnOk, []};
 ghost use Rattle.std.specs.Io.{ReadsAtMost};
 ghost use Rattle.outside.specs.Cause.{HasCause};
-ghost use Rattle.outside.specs.Disk.{Sides, overwritten, Torn, TornCut, OnSide, Reads, Leaves, SameImages, Syncs, ReadsAt};
+ghost use Rattle.outside.specs.Disk.{Sides, overwritten, Torn, TornCut, OnSide, ReadsSide, Leaves, SameImages, Syncs, ReadsAt};
 ghost use Rattle.outside.specs.DiskCalls.{Images, nothing, wrote, tore, was_cut, tore_cut, synced};
 
 use crate::calls::Calls;
@@ -126,7 +126,7 @@ impl MemoryDisk {
 
 impl Disk for MemoryDisk {
     ghost use Rattle.outside.specs.DiskLaws.{counts_now, only_now};
-    ghost use Rattle.outside.specs.DiskMemory.{first_of, bytes_now, StopMayLeave, StopMightHaveLeft, TimePasses, IsRefused, LacksRoom, served, failed};
+    ghost use Rattle.outside.specs.DiskMemory.{first_of, bytes_now, StopMayLeave, StopMightHaveLeft, TimePasses, RefusesCall, LacksRoom, served, failed};
 
     ghost told = { ⊤ };
 
@@ -157,7 +157,7 @@ impl Disk for MemoryDisk {
         ensures cause { HasCause self.old.faults self.new.faults result }
 
         // Exactly which calls fail, and what each leaves.
-        ensures failing { IsErr result ↔ IsRefused self.old }
+        ensures failing { IsErr result ↔ RefusesCall self.old }
         ensures done { OnOk result (self.new ≡ served nothing self.old) }
         ensures fault { OnErr result (self.new ≡ failed nothing self.old) }
     {
@@ -181,7 +181,7 @@ impl Disk for MemoryDisk {
         ensures cause { HasCause self.old.faults self.new.faults result }
 
         // Exactly which calls fail, and what each leaves.
-        ensures failing { IsErr result ↔ IsRefused self.old }
+        ensures failing { IsErr result ↔ RefusesCall self.old }
         ensures done { OnOk result (self.new ≡ served nothing self.old) }
         ensures fault { OnErr result (self.new ≡ failed nothing self.old) }
     {
@@ -199,7 +199,7 @@ impl Disk for MemoryDisk {
     fn write_at(&mut self, side: Side, at: u64, bytes: &[u8]) -> Result<(), Failed>
         requires within { ⊤ → at ≤ length (bytes_now self.old side) }
         requires fits { at + length bytes.now < 2 ^ 64 }
-        ensures bytes { ⊤ → Reads side (overwritten at bytes.now (bytes_now self.old side)) result
+        ensures bytes { ⊤ → ReadsSide side (overwritten at bytes.now (bytes_now self.old side)) result
             (bytes_now self.old) (bytes_now self.new) }
         ensures images { ⊤ → Leaves (OnSide side (Torn at (length bytes.now))) result
             (StopMayLeave self.old) (StopMayLeave self.new) }
@@ -208,7 +208,7 @@ impl Disk for MemoryDisk {
         ensures cause { HasCause self.old.faults self.new.faults result }
 
         // Exactly which calls fail, and what each leaves.
-        ensures failing { IsErr result ↔ (IsRefused self.old ⊎ LacksRoom self.old (length bytes.now)) }
+        ensures failing { IsErr result ↔ (RefusesCall self.old ⊎ LacksRoom self.old (length bytes.now)) }
         ensures done { OnOk result (self.new ≡ served (wrote side at bytes.now) self.old) }
         ensures fault { OnErr result (self.new ≡ failed (tore side at (length bytes.now)) self.old) }
     {
@@ -228,7 +228,7 @@ impl Disk for MemoryDisk {
 
     fn cut(&mut self, side: Side, len: u64) -> Result<(), Failed>
         requires within { ⊤ → «len» ≤ length (bytes_now self.old side) }
-        ensures bytes { ⊤ → Reads side (take «len» (bytes_now self.old side)) result
+        ensures bytes { ⊤ → ReadsSide side (take «len» (bytes_now self.old side)) result
             (bytes_now self.old) (bytes_now self.new) }
         ensures images { ⊤ → Leaves (OnSide side (TornCut «len»)) result
             (StopMayLeave self.old) (StopMayLeave self.new) }
@@ -237,7 +237,7 @@ impl Disk for MemoryDisk {
         ensures cause { HasCause self.old.faults self.new.faults result }
 
         // Exactly which calls fail, and what each leaves.
-        ensures failing { IsErr result ↔ IsRefused self.old }
+        ensures failing { IsErr result ↔ RefusesCall self.old }
         ensures done { OnOk result (self.new ≡ served (was_cut side «len») self.old) }
         ensures fault { OnErr result (self.new ≡ failed (tore_cut side «len») self.old) }
     {
@@ -260,7 +260,7 @@ impl Disk for MemoryDisk {
         ensures cause { HasCause self.old.faults self.new.faults result }
 
         // Exactly which calls fail, and what each leaves.
-        ensures failing { IsErr result ↔ IsRefused self.old }
+        ensures failing { IsErr result ↔ RefusesCall self.old }
         ensures done { OnOk result (self.new ≡ served (synced side) self.old) }
         ensures fault { OnErr result (self.new ≡ failed nothing self.old) }
     {

@@ -69,7 +69,7 @@ impl MemorySink {
 }
 
 impl Sink for MemorySink {
-    ghost use Rattle.outside.specs.Cause.{counted};
+    ghost use Rattle.outside.specs.Cause.{next_count};
     ghost use Rattle.outside.specs.Memory.{IsFull, IsListed};
 
     ghost written = { λ s. Some s.taken };
@@ -91,9 +91,9 @@ impl Sink for MemorySink {
             (IsListed self.old.fails self.old.calls ⊎ IsFull self.old piece.now) }
         ensures count { IfOk result (λ n. n ≡ min (length piece.now) (self.old.room - length self.old.taken)) }
         ensures taken { IfOk result (λ n. self.new ≡
-            record self.old { taken = self.old.taken ++ take n piece.now; calls = counted self.old.calls }) }
+            record self.old { taken = self.old.taken ++ take n piece.now; calls = next_count self.old.calls }) }
         ensures fault { OnErr result (self.new ≡
-            record self.old { calls = counted self.old.calls; faults = counted self.old.faults }) }
+            record self.old { calls = next_count self.old.calls; faults = next_count self.old.faults }) }
     {
         let is_full = self.is_full(piece);
         let is_listed = self.calls.begin();
@@ -109,9 +109,9 @@ impl Sink for MemorySink {
         ensures cause { HasCause self.old.faults self.new.faults result }
         ensures failing { IsErr result ↔ IsListed self.old.fails self.old.calls }
         ensures kept { IfOk result (λ _. self.new ≡
-            record self.old { calls = counted self.old.calls }) }
+            record self.old { calls = next_count self.old.calls }) }
         ensures fault { OnErr result (self.new ≡
-            record self.old { calls = counted self.old.calls; faults = counted self.old.faults }) }
+            record self.old { calls = next_count self.old.calls; faults = next_count self.old.faults }) }
     {
         if self.calls.begin() {
             return Err(self.calls.fail());

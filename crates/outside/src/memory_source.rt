@@ -51,7 +51,7 @@ impl MemorySource {
 }
 
 impl Source for MemorySource {
-    ghost use Rattle.outside.specs.Cause.{counted};
+    ghost use Rattle.outside.specs.Cause.{next_count};
     ghost use Rattle.outside.specs.Memory.{IsListed};
 
     ghost left = { λ s. Some s.left };
@@ -71,9 +71,9 @@ impl Source for MemorySource {
         ensures failing { IsErr result ↔ IsListed self.old.fails self.old.calls }
         ensures count { IfOk result (λ n. n ≡ count_given self.old.left (length into.new) self.old.most) }
         ensures rest { IfOk result (λ n. self.new ≡
-            record self.old { left = drop n self.old.left; calls = counted self.old.calls }) }
+            record self.old { left = drop n self.old.left; calls = next_count self.old.calls }) }
         ensures fault { OnErr result (self.new ≡
-            record self.old { calls = counted self.old.calls; faults = counted self.old.faults }) }
+            record self.old { calls = next_count self.old.calls; faults = next_count self.old.faults }) }
     {
         if self.calls.begin() {
             return Err(self.calls.fail());

@@ -4,7 +4,7 @@ ghost use Rattle.outside.specs.Disk.{overwritten, ReadsAt};
 ghost use Rattle.outside.specs.DiskCalls.{by_side, bytes_in, contents, noted, seen, wrote, was_cut, synced};
 ghost use Rattle.outside.specs.Private.{IsInside, IsStill};
 ghost use Rattle.outside.specs.DiskLog.{calls_of};
-ghost use Rattle.outside.specs.PrivateDiskKept.{IsSame};
+ghost use Rattle.outside.specs.PrivateDiskKept.{IsSameSetup};
 
 use crate::Side;
 use crate::disk_entry::Log;
@@ -108,7 +108,7 @@ impl Recorded {
         requires inside { IsInside 0 entry }
         requires unchanged { IsStill (seen [] entry) }
         ensures calls { calls_of self.new.log ≡ noted self.old.log.limit (seen [] entry) (calls_of self.old.log) }
-        ensures same { IsSame self.old self.new }
+        ensures same { IsSameSetup self.old self.new }
     {
         self.log.note_if_room(entry);
     }
@@ -119,7 +119,7 @@ impl Recorded {
         requires space { length (calls_of self.old.log) < self.old.log.limit }
         requires fits { bytes_in (calls_of self.old.log) + length bytes.now ≤ self.old.log.room }
         ensures calls { calls_of self.new.log ≡ wrote side at bytes.now ∷ calls_of self.old.log }
-        ensures same { IsSame self.old self.new }
+        ensures same { IsSameSetup self.old self.new }
     {
         match side {
             Side::Left => {
@@ -138,7 +138,7 @@ impl Recorded {
             (contents (by_side self.old.first_left.items self.old.first_right.items) (calls_of self.old.log) side) }
         requires space { length (calls_of self.old.log) < self.old.log.limit }
         ensures calls { calls_of self.new.log ≡ was_cut side «len» ∷ calls_of self.old.log }
-        ensures same { IsSame self.old self.new }
+        ensures same { IsSameSetup self.old self.new }
     {
         match side {
             Side::Left => {
@@ -161,7 +161,7 @@ impl Recorded {
     pub(crate) fn sync(&mut self, side: Side)
         requires space { length (calls_of self.old.log) < self.old.log.limit }
         ensures calls { calls_of self.new.log ≡ synced side ∷ calls_of self.old.log }
-        ensures same { IsSame self.old self.new }
+        ensures same { IsSameSetup self.old self.new }
     {
         self.log.note(Entry::Synced { side });
     }

@@ -23,13 +23,13 @@ use Rattle.math_grammar.specs.declared.levels.Binding.TheVariants as binding
 use Rattle.math_grammar.specs.declared.symbols.Symbol.{Symbol}
 use Rattle.math_grammar.specs.declared.symbols.Symbol.TheVariants as sign
 use Rattle.math_grammar.specs.declared.shapes.Shape.{Shape}
-use Rattle.math_grammar.specs.Levels.{rank, level, right_of, takes_left, reaches, fits, inside, suffixes, goes_on, infix_of, is_typing, is_declaration, prefix_hole, call_hole, call_grade, call_parts, has_room, binding_grade, binder_of, implicit_of, takes_names, takes_shape, is_closed}
+use Rattle.math_grammar.specs.Levels.{rank, level, right_of, takes_left, reaches, fits, inside, suffixes, goes_on, infix_of, is_typing, is_declaration, prefix_hole, call_hole, call_grade, call_parts, has_room, binding_grade, binder_of, implicit_of, takes_names, takes_shape, is_braced}
 use Rattle.math_grammar.specs.Tokens.{Item}
 use Rattle.math_grammar.specs.Grammar as grammar
-use Rattle.math_grammar.specs.Grammar.{item, lone, joined, place_of, bound, between, type_with, Ends, Spells}
+use Rattle.math_grammar.specs.Grammar.{item, lone, joined_shape, place_of, bound, between, type_with, Ends, Spells}
 use Rattle.math_parse.specs.declared.frames.Frame.{Frame}
 use Rattle.math_parse.specs.declared.frames.Frame.TheVariants as frame
-use Rattle.math_parse.specs.Machine.{hole_of, place, State, want, have, calling, shape_want, shape_have, after_shape, bound_of, bounds_of, body_of, opened, after_names}
+use Rattle.math_parse.specs.Machine.{hole_of, hole_wanted, ParseState, want, have, calling, shape_want, shape_have, after_shape, bound_from, bounds_from, binding_body, binding_opened, after_names}
 use Rattle.math_parse.proofs.Reach.{Stop, reach, outcome, run_reaches}
 use Rattle.math_parse.proofs.Basics.{name_of-name, typed_name_of-between, bound_of-name, bound_of-between, bounds_of-more, both, fits_reaches, reached, reached_least, reaches_left, fits_expression, declaration_rank, Opens, group_opens, prefix_begins, binding_begins}
 use Rattle.math_parse.proofs.Complete.{suffix_reaches, attach_on, attach_infix, attach_suffix, suffix_closes, ends_finished, takes_sign, begins, goes, Stops, complete_atom}
@@ -60,7 +60,7 @@ pair_ends grade.Reaching o = refl
 pair_ends grade.Suffixed o = refl
 pair_ends grade.Primary o = refl
 
-opened_shape : (c : Binding) (fs : List Frame) (p : ℕ) → takes_shape c ≡ true → opened c fs p ≡ want (frame.Listed c true [] p ∷ fs)
+opened_shape : (c : Binding) (fs : List Frame) (p : ℕ) → takes_shape c ≡ true → binding_opened c fs p ≡ want (frame.Listed c true [] p ∷ fs)
 opened_shape binding.Set fs p h = refl
 opened_shape (binding.Reaching b) fs p h = refl
 opened_shape (binding.Quantified b) fs p h = cc
@@ -129,7 +129,7 @@ module _ (limit : Option ℕ) (goal : Hole) where
   right_side : {fs : List Frame} {g h : Grade} {l : Level} {o : RawOp} {x : Symbol} {p : ℕ} {w : List ℕ} {m rest : List Item} {y z : Stop} (e : Grade) → AsTight g e → z ≡ y →
       Turn limit goal fs e l o x p w m y →
       ((j : Grade) (a : Raw) (top : List Frame) → Reached (frame.Between o l (level l j) a ∷ top) h (reach limit goal (want (frame.Between o l (level l j) a ∷ top)) m) rest) →
-      infix_of x ≡ Some (l, o) → takes_left l g ≡ true → fits (right_of l) h ≡ true → reaches (place goal fs) (level l g) ≡ true →
+      infix_of x ≡ Some (l, o) → takes_left l g ≡ true → fits (right_of l) h ≡ true → reaches (hole_wanted goal fs) (level l g) ≡ true →
       Reached fs (level l g) z rest
   right_side {fs} {g} {h} {l} {o} {x} {p} {w} {m} {rest} e tight same (within top j a there path off) next is takes fit room =
       let b = next j a top in
@@ -145,7 +145,7 @@ module _ (limit : Option ℕ) (goal : Hole) where
   right_side {fs} {g} {h} {l} {o} {x} {p} {w} {m} {rest} e tight same (outside u there) next is takes fit room =
       earlier
       (same ∙ there
-      ∙ goes limit goal fs e u x p w (want (frame.Between o l (level l e) u ∷ fs)) m (attach_infix limit goal fs e u x l o is (takes_tighter l g e tight takes) (room_tighter (place goal fs) l g e room)))
+      ∙ goes limit goal fs e u x p w (want (frame.Between o l (level l e) u ∷ fs)) m (attach_infix limit goal fs e u x l o is (takes_tighter l g e tight takes) (room_tighter (hole_wanted goal fs) l g e room)))
       (looser (level_tight l g e) (closing (closes_between o l e u) fit (next e u fs)))
 
   -- two sides of a type: ⦂ is taken by a form that is open in the first, or stands behind it
@@ -171,10 +171,10 @@ module _ (limit : Option ℕ) (goal : Hole) where
 
   -- what names lead to
   abbrev Named : List Frame → Binding → ℕ → Stop → List Item → Type 0
-  Named fs c p z rest = (names : List RawBound) × (z ≡ reach limit goal (want (body_of c names [] p ∷ fs)) rest)
+  Named fs c p z rest = (names : List RawBound) × (z ≡ reach limit goal (want (binding_body c names [] p ∷ fs)) rest)
 
   opened_names : (fs : List Frame) (c : Binding) (p : ℕ) (s rest : List Item) → takes_names c ≡ true →
-      Named fs c p (reach limit goal (want (frame.Names c [] p ∷ fs)) s) rest → Named fs c p (reach limit goal (want (frame.Listed c true [] p ∷ fs)) s) rest → Named fs c p (reach limit goal (opened c fs p) s) rest
+      Named fs c p (reach limit goal (want (frame.Names c [] p ∷ fs)) s) rest → Named fs c p (reach limit goal (want (frame.Listed c true [] p ∷ fs)) s) rest → Named fs c p (reach limit goal (binding_opened c fs p) s) rest
   opened_names fs binding.Set p s rest takes named listed = listed
   opened_names fs (binding.Reaching b) p s rest takes named listed = listed
   opened_names fs (binding.Quantified b) p s rest takes named listed = named
@@ -182,31 +182,31 @@ module _ (limit : Option ℕ) (goal : Hole) where
 
   -- a name in a list: it is held, or its type is complete
   data Declared (fs : List Frame) (c : Binding) (items : List Raw) (before : List RawBound) (p : ℕ) (x : Symbol) (q : ℕ) (w : List ℕ) (rest : List Item) (z : Stop) : Type 0 where
-    as_item : (g : Grade) (t : Raw) (b : RawBound) → is_declaration g ≡ true → bound_of t ≡ Some b → z ≡ reach limit goal (have (frame.Listed c true items p ∷ fs) g t) (item x q w ∷ rest) →
+    as_item : (g : Grade) (t : Raw) (b : RawBound) → is_declaration g ≡ true → bound_from t ≡ Some b → z ≡ reach limit goal (have (frame.Listed c true items p ∷ fs) g t) (item x q w ∷ rest) →
         Declared fs c items before p x q w rest z
     as_type : (b : RawBound) → ((f : Frame) → after_names c (before ++ b ∷ []) p x ≡ Some f → z ≡ reach limit goal (want (f ∷ fs)) rest) → Declared fs c items before p x q w rest z
 
   -- the dot behind the last name in a list
-  last_listed : (fs : List Frame) (c : Binding) (items : List Raw) (before : List RawBound) (p q : ℕ) (w : List ℕ) (rest : List Item) {z : Stop} → bounds_of items ≡ Some before →
+  last_listed : (fs : List Frame) (c : Binding) (items : List Raw) (before : List RawBound) (p q : ℕ) (w : List ℕ) (rest : List Item) {z : Stop} → bounds_from items ≡ Some before →
       Declared fs c items before p sign.Dot q w rest z → Named fs c p z rest
   last_listed fs c items before p q w rest all (as_item g t b d is same) = (
     before ++ b ∷ [],
-    same ∙ takes_sign limit goal (frame.Listed c true items p) fs g t sign.Dot q w (want (body_of c (before ++ b ∷ []) [] p ∷ fs)) rest (fits_expression g (declaration_rank g d)) refl refl
+    same ∙ takes_sign limit goal (frame.Listed c true items p) fs g t sign.Dot q w (want (binding_body c (before ++ b ∷ []) [] p ∷ fs)) rest (fits_expression g (declaration_rank g d)) refl refl
         (rw (d, bounds_of-more items t before b all is) refl),
   )
-  last_listed fs c items before p q w rest all (as_type b k) = (before ++ b ∷ [], k (body_of c (before ++ b ∷ []) [] p) refl)
+  last_listed fs c items before p q w rest all (as_type b k) = (before ++ b ∷ [], k (binding_body c (before ++ b ∷ []) [] p) refl)
 
   -- the comma behind another one
-  next_listed : (fs : List Frame) (c : Binding) (items : List Raw) (before : List RawBound) (p q : ℕ) (w : List ℕ) (m rest : List Item) {z : Stop} → bounds_of items ≡ Some before →
+  next_listed : (fs : List Frame) (c : Binding) (items : List Raw) (before : List RawBound) (p q : ℕ) (w : List ℕ) (m rest : List Item) {z : Stop} → bounds_from items ≡ Some before →
       Declared fs c items before p sign.Comma q w m z →
-      ((more : List Raw) (names : List RawBound) → bounds_of more ≡ Some names → Named fs c p (reach limit goal (want (frame.Listed c true more p ∷ fs)) m) rest) →
+      ((more : List Raw) (names : List RawBound) → bounds_from more ≡ Some names → Named fs c p (reach limit goal (want (frame.Listed c true more p ∷ fs)) m) rest) →
       ((names : List RawBound) → Named fs c p (reach limit goal (want (frame.Names c names p ∷ fs)) m) rest) → Named fs c p z rest
-  next_listed fs c items before p q w m rest {z} all (as_item g t b d is same) listed named = go (is_closed c) refl
+  next_listed fs c items before p q w m rest {z} all (as_item g t b d is same) listed named = go (is_braced c) refl
     where
-      more : bounds_of (items ++ t ∷ []) ≡ Some (before ++ b ∷ [])
+      more : bounds_from (items ++ t ∷ []) ≡ Some (before ++ b ∷ [])
       more = bounds_of-more items t before b all is
 
-      go : (v : Bool) → is_closed c ≡ v → Named fs c p z rest
+      go : (v : Bool) → is_braced c ≡ v → Named fs c p z rest
       go true v =
           let n = listed (items ++ t ∷ []) (before ++ b ∷ []) more in (
             n.0,
@@ -233,7 +233,7 @@ module _ (limit : Option ℕ) (goal : Hole) where
   listed_typed fs c items n pn q p w o s e = rw e refl
 
   mutual
-    reads : (fs : List Frame) {g : Grade} {s rest : List Item} → Plain limit false g s rest → reaches (place goal fs) g ≡ true → Reached fs g (reach limit goal (want fs) s) rest
+    reads : (fs : List Frame) {g : Grade} {s rest : List Item} → Plain limit false g s rest → reaches (hole_wanted goal fs) g ≡ true → Reached fs g (reach limit goal (want fs) s) rest
     reads fs (plain.a_name {n} {p} {rest} e) b = at_once fs grade.Name (raw.Name n p) (begins limit goal fs sign.Word p n (have fs grade.Name (raw.Name n p)) rest (rw e refl))
     reads fs (plain.a_number {n} {p} {w} {rest}) b = at_once fs grade.Primary (raw.Int n p) (begins limit goal fs (sign.Number n) p w (have fs grade.Primary (raw.Int n p)) rest (rw b refl))
     reads fs (plain.a_truth {o} {p} {w} {rest}) b =
@@ -242,28 +242,28 @@ module _ (limit : Option ℕ) (goal : Hole) where
         at_once fs grade.Primary (raw.Node (rawop.Plain o) [] p) (begins limit goal fs (sign.Constant o) p w (have fs grade.Primary (raw.Node (rawop.Plain o) [] p)) rest (rw b refl))
     reads fs (plain.prefixed {g} {k} {q} {x} {p} {w} {s} {rest} is r fit lv) b =
         subst (λ j. Reached fs j (reach limit goal (want fs) (item x p w ∷ s)) rest) lv
-        (earlier (begins limit goal fs x p w (want (frame.Prefixed q p ∷ fs)) s (prefix_begins (place goal fs) fs p w x q is (rw lv b)))
+        (earlier (begins limit goal fs x p w (want (frame.Prefixed q p ∷ fs)) s (prefix_begins (hole_wanted goal fs) fs p w x q is (rw lv b)))
         (closing (closes_prefixed q p) fit (reads (frame.Prefixed q p ∷ fs) r (fits_reaches (prefix_hole q) g fit))))
     reads fs (plain.two_sides {g} {h} {k} {l} {o} {x} {p} {w} {s} {m} {rest} left is takes r fit lv) b =
-        let room : reaches (place goal fs) (level l g) ≡ true = rw lv b in
-        let a = reads fs left (reaches_left (place goal fs) l g takes room) in
+        let room : reaches (hole_wanted goal fs) (level l g) ≡ true = rw lv b in
+        let a = reads fs left (reaches_left (hole_wanted goal fs) l g takes room) in
         subst (λ j. Reached fs j (reach limit goal (want fs) s) rest) lv
         (right_side a.e a.tight a.same (turn limit goal a.path a.t l o x p w m is) (λ j u top. reads (frame.Between o l (level l j) u ∷ top) r (fits_reaches (right_of l) h fit)) is takes fit room)
     reads fs (plain.in_parentheses {g} {k} {p} {q} {w} {v} {s} {rest} r lv) b =
-        let o : Opens (place goal fs) g = group_opens (place goal fs) g (rw lv b) in
-        let a = settled (item (sign.Close bracket.Round) q v ∷ rest) (λ _ _. refl) (reads (frame.Group (inside (place goal fs)) ∷ fs) r o.low) in
+        let o : Opens (hole_wanted goal fs) g = group_opens (hole_wanted goal fs) g (rw lv b) in
+        let a = settled (item (sign.Close bracket.Round) q v ∷ rest) (λ _ _. refl) (reads (frame.Group (inside (hole_wanted goal fs)) ∷ fs) r o.low) in
         at_once fs k a.t
-        (begins limit goal fs (sign.Open bracket.Round) p w (want (frame.Group (inside (place goal fs)) ∷ fs)) s (rw o.room refl)
+        (begins limit goal fs (sign.Open bracket.Round) p w (want (frame.Group (inside (hole_wanted goal fs)) ∷ fs)) s (rw o.room refl)
         ∙ a.same
-        ∙ takes_sign limit goal (frame.Group (inside (place goal fs))) fs a.e a.t (sign.Close bracket.Round) q v (have fs k a.t) rest (fits_tighter (inside (place goal fs)) g a.e a.tight o.fit) refl refl
+        ∙ takes_sign limit goal (frame.Group (inside (hole_wanted goal fs))) fs a.e a.t (sign.Close bracket.Round) q v (have fs k a.t) rest (fits_tighter (inside (hole_wanted goal fs)) g a.e a.tight o.fit) refl refl
         (ap (λ l. Some (have fs l a.t)) (sym (grouped_same g a.e a.tight) ∙ lv)))
     reads fs (plain.called {k} {c} {o} {p} {q} {w} {v} {s} {rest} r lv) b =
         let parts = more fs c o p [] r refl refl refl in
         at_once fs k (raw.Node o parts.0 p)
-        (begins limit goal fs (sign.Call c o) p w (calling fs c o p) (item (sign.Open bracket.Round) q v ∷ s) (let b' : reaches (place goal fs) (call_grade c) ≡ true = rw lv b in rw b' refl)
+        (begins limit goal fs (sign.Call c o) p w (calling fs c o p) (item (sign.Open bracket.Round) q v ∷ s) (let b' : reaches (hole_wanted goal fs) (call_grade c) ≡ true = rw lv b in rw b' refl)
         ∙ parts.1 ∙ ap (λ l. reach limit goal (have fs l (raw.Node o parts.0 p)) rest) lv)
     reads fs (plain.applied {g} {h} {b = br} {o} {x} {p} {q} {w} {v} {s} {m} {rest} left is ready r fit) b =
-        let f = unopened (item x p w ∷ m) (suffix_high g ready) (reads fs left (suffix_reaches (place goal fs) g ready b)) in
+        let f = unopened (item x p w ∷ m) (suffix_high g ready) (reads fs left (suffix_reaches (hole_wanted goal fs) g ready b)) in
         let a = settled (item (sign.Close br) q v ∷ rest) (λ _ _. refl) (reads (frame.Suffixed br o f.t ∷ fs) r (fits_reaches hole.Expression h fit)) in
         at_once fs grade.Suffixed (between o f.t a.t)
         (f.same
@@ -271,7 +271,7 @@ module _ (limit : Option ℕ) (goal : Hole) where
         ∙ a.same
         ∙ takes_sign limit goal (frame.Suffixed br o f.t) fs a.e a.t (sign.Close br) q v (have fs grade.Suffixed (between o f.t a.t)) rest (fits_tighter hole.Expression h a.e a.tight fit) refl refl (suffix_closes limit x br o fs a.e f.t a.t is))
     reads fs (plain.converted {g} {p} {w} {s} {rest} left ready) b =
-        let f = unopened (item sign.Converse p w ∷ rest) (suffix_high g ready) (reads fs left (suffix_reaches (place goal fs) g ready b)) in
+        let f = unopened (item sign.Converse p w ∷ rest) (suffix_high g ready) (reads fs left (suffix_reaches (hole_wanted goal fs) g ready b)) in
         let whole' : Raw = raw.Node (rawop.Plain op.Converse) (f.t ∷ []) (place_of f.t) in
         at_once fs grade.Suffixed whole'
         (f.same
@@ -280,16 +280,16 @@ module _ (limit : Option ℕ) (goal : Hole) where
     reads fs (plain.set_by_members {x} {p} {w} {s} {rest} is r) b =
         let parts = members fs true [] p r in
         at_once fs grade.Primary (raw.Node (rawop.Plain op.SetExtension) parts.0 p)
-        (begins limit goal fs x p w (want (frame.Listed binding.Set true [] p ∷ fs)) s (binding_begins (place goal fs) fs p w x binding.Set is b) ∙ parts.1)
+        (begins limit goal fs x p w (want (frame.Listed binding.Set true [] p ∷ fs)) s (binding_begins (hole_wanted goal fs) fs p w x binding.Set is b) ∙ parts.1)
     reads fs (plain.by_names {k} {c} {x} {p} {w} {s} {m} {rest} is takes d r lv) b =
         let n = opened_names fs c p s m takes (form_names fs c [] p d) (listed fs c [] [] p refl d) in
         subst (λ j. Reached fs j (reach limit goal (want fs) (item x p w ∷ s)) rest) lv
-        (earlier (begins limit goal fs x p w (opened c fs p) s (binding_begins (place goal fs) fs p w x c is (rw lv b)) ∙ n.1) (body fs c n.0 [] p r))
+        (earlier (begins limit goal fs x p w (binding_opened c fs p) s (binding_begins (hole_wanted goal fs) fs p w x c is (rw lv b)) ∙ n.1) (body fs c n.0 [] p r))
     reads fs (plain.by_shape {g} {k} {c} {x} {p} {q} {w} {v} {s} {m} {rest} is takes r fit end lv) b =
         let a = settled (item sign.Bar q v ∷ m) (λ _ _. refl) (reads (frame.Listed c true [] p ∷ fs) r (fits_reaches hole.Expression g fit)) in
         subst (λ j. Reached fs j (reach limit goal (want fs) (item x p w ∷ s)) rest) lv
         (earlier
-        (begins limit goal fs x p w (opened c fs p) s (binding_begins (place goal fs) fs p w x c is (rw lv b))
+        (begins limit goal fs x p w (binding_opened c fs p) s (binding_begins (hole_wanted goal fs) fs p w x c is (rw lv b))
         ∙ ap (λ st. reach limit goal st s) (opened_shape c fs p takes)
         ∙ a.same
         ∙ takes_sign limit goal (frame.Listed c true [] p) fs a.e a.t sign.Bar q v (want (frame.Last c hole.Predicate (implicit_of c) [] (a.t ∷ []) p ∷ fs)) m (fits_tighter hole.Expression g a.e a.tight fit) refl refl refl)
@@ -350,7 +350,7 @@ module _ (limit : Option ℕ) (goal : Hole) where
 
     -- what follows the names
     body : (fs : List Frame) (c : Binding) (names : List RawBound) (before : List Raw) (p : ℕ) {s rest : List Item} →
-        PlainBody limit false c s rest → Reached fs (binding_grade c) (reach limit goal (want (body_of c names before p ∷ fs)) s) rest
+        PlainBody limit false c s rest → Reached fs (binding_grade c) (reach limit goal (want (binding_body c names before p ∷ fs)) s) rest
     body fs c names before p (plain.a_predicate is r) = earlier (rw is refl) (last fs c hole.Predicate (binder_of c) names before p (inl (omega arith)) r)
     body fs c names before p (plain.a_value {g = g} {p = q} {w} {s} {m} {rest} is r fit end) =
         let a = settled (item sign.Bar q w ∷ m) (λ _ _. refl) (reads (frame.Given c names before p ∷ fs) r (fits_reaches hole.Predicate g fit)) in
@@ -362,7 +362,7 @@ module _ (limit : Option ℕ) (goal : Hole) where
     -- the names of a form
     form_names : (fs : List Frame) (c : Binding) (before : List RawBound) (p : ℕ) {s rest : List Item} → PlainNames limit false s rest → Named fs c p (reach limit goal (want (frame.Names c before p ∷ fs)) s) rest
     form_names fs c before p (plain.last_name r) =
-        let b = form_name fs c before p r (λ _ _. refl, refl) in (before ++ b.0 ∷ [], b.1 (body_of c (before ++ b.0 ∷ []) [] p) refl)
+        let b = form_name fs c before p r (λ _ _. refl, refl) in (before ++ b.0 ∷ [], b.1 (binding_body c (before ++ b.0 ∷ []) [] p) refl)
     form_names fs c before p (plain.next_name r others) =
         let b = form_name fs c before p r (λ _ _. refl, refl) in
         let n = form_names fs c (before ++ b.0 ∷ []) p others in
@@ -399,13 +399,13 @@ module _ (limit : Option ℕ) (goal : Hole) where
         ]
 
     -- names that may be members too
-    listed : (fs : List Frame) (c : Binding) (items : List Raw) (before : List RawBound) (p : ℕ) {s rest : List Item} → bounds_of items ≡ Some before →
+    listed : (fs : List Frame) (c : Binding) (items : List Raw) (before : List RawBound) (p : ℕ) {s rest : List Item} → bounds_from items ≡ Some before →
         PlainNames limit false s rest → Named fs c p (reach limit goal (want (frame.Listed c true items p ∷ fs)) s) rest
     listed fs c items before p all (plain.last_name {p = q} {w} {rest = rest} r) = last_listed fs c items before p q w rest all (declared fs c items before p all r (λ _ _. refl, refl))
     listed fs c items before p all (plain.next_name {p = q} {w} {m = m} {rest = rest} r others) =
         next_listed fs c items before p q w m rest all (declared fs c items before p all r (λ _ _. refl, refl)) (λ items' names' all'. listed fs c items' names' p all' others) (λ names'. form_names fs c names' p others)
 
-    declared : (fs : List Frame) (c : Binding) (items : List Raw) (before : List RawBound) (p : ℕ) {x : Symbol} {q : ℕ} {w : List ℕ} {s rest : List Item} → bounds_of items ≡ Some before →
+    declared : (fs : List Frame) (c : Binding) (items : List Raw) (before : List RawBound) (p : ℕ) {x : Symbol} {q : ℕ} {w : List ℕ} {s rest : List Item} → bounds_from items ≡ Some before →
         PlainName limit false s (item x q w ∷ rest) → Stops limit x → Declared fs c items before p x q w rest (reach limit goal (want (frame.Listed c true items p ∷ fs)) s)
     declared fs c items before p {x} {q} {w} {s} {rest} all (plain.bare {n} {p = pn} e) off = as_item grade.Name (raw.Name n pn) (bound n pn None) refl (bound_of-name n pn) (rw e refl)
     declared fs c items before p {x} {q} {w} {s} {rest} all (plain.of_type {g} {o} {n} {w = w'} {p = pn} {q = q'} {s = s'} e r fit) off =
@@ -435,13 +435,13 @@ module _ (limit : Option ℕ) (goal : Hole) where
     -- a pattern, up to the sign behind it
     pattern : (fs : List Frame) (inner : Bool) (p : ℕ) (before : Option Shape) {x : Symbol} {q : ℕ} {w : List ℕ} {s rest : List Item} →
         PlainPattern limit false s (item x q w ∷ rest) → (is_maplet x ≡ false → (h : Hole) (g : Grade) → goes_on h g x ≡ false) → is_typing x ≡ false →
-        (shape : Shape) × ((st : State) → after_shape fs inner shape p x ≡ Some st → reach limit goal (shape_want (frame.Pattern inner before p ∷ fs)) s ≡ reach limit goal st rest)
+        (shape : Shape) × ((st : ParseState) → after_shape fs inner shape p x ≡ Some st → reach limit goal (shape_want (frame.Pattern inner before p ∷ fs)) s ≡ reach limit goal st rest)
     pattern fs inner p before (plain.last_atom r) still off =
         let a = atom (frame.Pattern inner before p ∷ fs) r still off in
-        (joined before a.0, λ st e. a.1 ∙ rw e refl)
+        (joined_shape before a.0, λ st e. a.1 ∙ rw e refl)
     pattern fs inner p before (plain.next_atom r others) still off =
         let a = atom (frame.Pattern inner before p ∷ fs) r (λ no _ _. cc) refl in
-        let shape = pattern fs inner p (Some (joined before a.0)) others still off in
+        let shape = pattern fs inner p (Some (joined_shape before a.0)) others still off in
         (shape.0, λ st e. a.1 ∙ shape.1 st e)
 
     atom : (fs : List Frame) {x : Symbol} {q : ℕ} {w : List ℕ} {s rest : List Item} →

@@ -16,7 +16,7 @@ use Rattle.math_grammar.specs.declared.levels.Prefix.TheVariants as prefix
 use Rattle.math_grammar.specs.declared.levels.Binding.{Binding}
 use Rattle.math_grammar.specs.declared.levels.Binding.TheVariants as binding
 use Rattle.math_grammar.specs.declared.symbols.Symbol.{Symbol}
-use Rattle.math_grammar.specs.Levels.{rank, level, left_of, agrees, right_of, takes_left, least, most, reaches, fits, goes_on, infix_of, prefix_hole, prefix_grade, prefix_op, binding_grade, is_closed}
+use Rattle.math_grammar.specs.Levels.{rank, level, left_of, agrees, right_of, takes_left, least, most, reaches, fits, goes_on, infix_of, prefix_hole, prefix_grade, prefix_op, binding_grade, is_braced}
 use Rattle.math_grammar.specs.Tokens.{Item}
 use Rattle.math_grammar.specs.Grammar.{item, between, Ends}
 use Rattle.math_parse.specs.declared.frames.Frame.{Frame}
@@ -58,14 +58,14 @@ prefix_low prefix.Minus = omega arith
 pub closes_prefixed : (q : Prefix) (p : ℕ) → Closes (frame.Prefixed q p) (prefix_grade q)
 closes_prefixed q p = record { tree = λ t. raw.Node (prefix_op q) (t ∷ []) p; is = λ t. refl; low = prefix_low q; sorted = sorted_prefix q }
 
-open_low : (c : Binding) → is_closed c ≡ false → rank (binding_grade c) ≤ 13
+open_low : (c : Binding) → is_braced c ≡ false → rank (binding_grade c) ≤ 13
 open_low binding.Set e = cc
 open_low (binding.Quantified b) e = omega arith
 open_low (binding.Reaching b) e = omega arith
 open_low binding.Lambda e = omega arith
 
 pub closes_last : (c : Binding) (h : Hole) (b : RawBinder) (names : List RawBound) (parts : List Raw) (p : ℕ) →
-    is_closed c ≡ false → IsSorted h → Closes (frame.Last c h b names parts p) (binding_grade c)
+    is_braced c ≡ false → IsSorted h → Closes (frame.Last c h b names parts p) (binding_grade c)
 closes_last c h b names parts p e sorted = record { tree = λ t. raw.Bind b names (parts ++ t ∷ []) p; is = λ t. rw e refl; low = open_low c e; sorted = sorted }
 
 -- With the forms of the stack closed down to fs, what was of the grade g on its top is of the grade e there.

@@ -12,30 +12,30 @@ use Rattle.math_grammar.specs.Grammar.{item}
 abbrev pub sign : Symbol → Item
 sign x = item x 0 []
 
-abbrev pub lambda : Item
-lambda = sign (sym.Binder binding.Lambda)
+abbrev pub lambda_sign : Item
+lambda_sign = sign (sym.Binder binding.Lambda)
 
 abbrev pub a : Item
 a = item sym.Word 0 (97 ∷ [])
 
-abbrev pub typed : Item
-typed = sign (sym.Infix lev.Typing rawop.OfType)
+abbrev pub of_type_sign : Item
+of_type_sign = sign (sym.Infix lev.Typing rawop.OfType)
 
-abbrev pub maplet : Item
-maplet = sign (sym.Infix lev.Maplet (rawop.Plain op.Maplet))
+abbrev pub maplet_sign : Item
+maplet_sign = sign (sym.Infix lev.Maplet (rawop.Plain op.Maplet))
 
-abbrev pub dot : Item
-dot = sign sym.Dot
+abbrev pub dot_sign : Item
+dot_sign = sign sym.Dot
 
-abbrev pub top : Item
-top = sign (sym.Truth op.Top)
+abbrev pub top_sign : Item
+top_sign = sign (sym.Truth op.Top)
 
-abbrev pub bar : Item
-bar = sign sym.Bar
+abbrev pub bar_sign : Item
+bar_sign = sign sym.Bar
 
 -- λ a ⦂ λ a · ⊤ ∣ a ⦂ a ↦ a ⦂ a · ⊤ ∣ a
 abbrev pub open_type : List Item
 open_type =
-    lambda ∷ a ∷ typed ∷ lambda ∷ a ∷ dot ∷ top ∷ bar ∷ a ∷ typed ∷ a
-    ∷ maplet ∷ a ∷ typed ∷ a
-    ∷ dot ∷ top ∷ bar ∷ a ∷ []
+    lambda_sign ∷ a ∷ of_type_sign ∷ lambda_sign ∷ a ∷ dot_sign ∷ top_sign ∷ bar_sign ∷ a ∷ of_type_sign ∷ a
+    ∷ maplet_sign ∷ a ∷ of_type_sign ∷ a
+    ∷ dot_sign ∷ top_sign ∷ bar_sign ∷ a ∷ []

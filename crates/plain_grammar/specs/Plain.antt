@@ -18,7 +18,7 @@ use Rattle.math_grammar.specs.declared.levels.Binding.{Binding}
 use Rattle.math_grammar.specs.declared.levels.Binding.TheVariants as binding
 use Rattle.math_grammar.specs.declared.symbols.Symbol.{Symbol}
 use Rattle.math_grammar.specs.declared.symbols.Symbol.TheVariants as sym
-use Rattle.math_grammar.specs.Levels.{suffix_of, level, right_of, takes_left, fits, grouped, suffixes, infix_of, prefix_of, prefix_hole, prefix_grade, call_hole, call_grade, call_parts, has_room, opens, binding_grade, is_quantified, takes_names, takes_shape, is_closed}
+use Rattle.math_grammar.specs.Levels.{suffix_of, level, right_of, takes_left, fits, grouped, suffixes, infix_of, prefix_of, prefix_hole, prefix_grade, call_hole, call_grade, call_parts, has_room, opens, binding_grade, is_quantified, takes_names, takes_shape, is_braced}
 use Rattle.math_grammar.specs.Tokens.{Item}
 use Rattle.math_grammar.specs.Grammar.{item, Ends, Reads}
 
@@ -124,10 +124,10 @@ mutual
   -- the last part of a form: up to its brace, or as far as one likes
   pub data PlainLast (limit : Option ℕ) (everywhere : Bool) : Binding → Hole → List Item → List Item → Type 0 where
     up_to_brace : {c : Binding} {h : Hole} {g : Grade} {p : ℕ} {w : List ℕ} {s rest : List Item} →
-        is_closed c ≡ true → Plain limit everywhere g s (item (sym.Close bracket.Brace) p w ∷ rest) → fits h g ≡ true →
+        is_braced c ≡ true → Plain limit everywhere g s (item (sym.Close bracket.Brace) p w ∷ rest) → fits h g ≡ true →
         PlainLast limit everywhere c h s rest
     reaching : {c : Binding} {h : Hole} {g : Grade} {s rest : List Item} →
-        is_closed c ≡ false → Plain limit everywhere g s rest → fits h g ≡ true → PlainLast limit everywhere c h s rest
+        is_braced c ≡ false → Plain limit everywhere g s rest → fits h g ≡ true → PlainLast limit everywhere c h s rest
 
   -- a pattern of λ
   pub data PlainPattern (limit : Option ℕ) (everywhere : Bool) : List Item → List Item → Type 0 where

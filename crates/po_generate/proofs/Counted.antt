@@ -6,7 +6,7 @@ use Rattle.std.proofs.lemmas.Bool.Decides.{Decides-ltb}
 use Rattle.sequent_core.specs.declared.sequent.Obligation.{Obligation}
 use Rattle.po_rules.specs.Gathering.{Gathered, nodes_of, table_nodes, table_limit, with_one, gathered}
 use Rattle.po_machine.proofs.Gathering.{full}
-use Rattle.po_generate.specs.Laws.{behind}
+use Rattle.po_generate.specs.Laws.{begun_at}
 
 same_counted : (os ps : List Obligation) (n m : ℕ) → os ≡ ps → n ≡ m → (let g : Gathered = record { obligations = os; nodes = n } in g) ≡ record { obligations = ps; nodes = m }
 same_counted os ps n m e f = λ i. record { obligations = e i; nodes = f i }
@@ -80,9 +80,9 @@ too_many_from g (o ∷ rows) h over = elim (less_or table_limit (g.nodes + nodes
 ]
 
 pub all_gathered : (n : ℕ) (rows : List Obligation) → n + table_nodes rows ≤ table_limit
-    → gathered (behind n) rows ≡ record { obligations = rows; nodes = n + table_nodes rows }
-all_gathered n rows h = all_from (behind n) rows h
+    → gathered (begun_at n) rows ≡ record { obligations = rows; nodes = n + table_nodes rows }
+all_gathered n rows h = all_from (begun_at n) rows h
 
 pub too_many : (n : ℕ) (rows : List Obligation) → n ≤ table_limit → table_limit < n + table_nodes rows
-    → (table_limit < (gathered (behind n) rows).nodes) × ((gathered (behind n) rows).nodes ≤ n + table_nodes rows)
-too_many n rows h over = too_many_from (behind n) rows h over
+    → (table_limit < (gathered (begun_at n) rows).nodes) × ((gathered (begun_at n) rows).nodes ≤ n + table_nodes rows)
+too_many n rows h over = too_many_from (begun_at n) rows h over

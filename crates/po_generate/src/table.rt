@@ -6,7 +6,7 @@ ghost use Rattle.po_rules.specs.Gathering.{gathered};
 ghost use Rattle.model_core.specs.declared.checked.Checked.TheVariants.{Machine};
 ghost use Rattle.po_rules.specs.Tables.{all_rows, machine_rows, obligations_of, row_of_event};
 ghost use Rattle.po_machine.specs.Shared.{view, parts_in};
-ghost use Rattle.po_generate.specs.Laws.{behind};
+ghost use Rattle.po_generate.specs.Laws.{begun_at};
 ghost use Rattle.po_generate.specs.Lists.{machine_obligations_of, refine_obligations_of, rows_alone, rows_beside};
 ghost use Rattle.po_generate.specs.Private.{event_rows_in, invariants_beside, rows_in};
 
@@ -193,7 +193,7 @@ pub fn add_obligations(
 }
 
 fn nothing(alloc: Global) -> Gathered
-    ensures { view result ≡ behind 0 }
+    ensures { view result ≡ begun_at 0 }
 {
     Gathered {
         obligations: Vec::new(alloc),
@@ -209,7 +209,7 @@ pub fn obligations(
     abstraction: Option<&CheckedMachine>,
 ) -> Result<Gathered, OutOfMemory>
     ensures { IfOk result (λ out.
-        view out ≡ gathered (behind 0) (obligations_of checked.now (option_copied abstraction.entry))) }
+        view out ≡ gathered (begun_at 0) (obligations_of checked.now (option_copied abstraction.entry))) }
 {
     let mut out = nothing(alloc);
     add_obligations(alloc, &mut out, checked, abstraction)?;
@@ -252,7 +252,7 @@ pub fn machine_obligations(
     abstraction: Option<&CheckedMachine>,
 ) -> Result<Gathered, OutOfMemory>
     ensures { IfOk result (λ out.
-        view out ≡ gathered (behind 0) (machine_obligations_of checked.now (option_copied abstraction.entry))) }
+        view out ≡ gathered (begun_at 0) (machine_obligations_of checked.now (option_copied abstraction.entry))) }
 {
     let mut out = nothing(alloc);
     add_obligations_alone(alloc, &mut out, checked, abstraction)?;
@@ -295,7 +295,7 @@ pub fn refine_obligations(
     abstraction: Option<&CheckedMachine>,
 ) -> Result<Gathered, OutOfMemory>
     ensures { IfOk result (λ out.
-        view out ≡ gathered (behind 0) (refine_obligations_of checked.now (option_copied abstraction.entry))) }
+        view out ≡ gathered (begun_at 0) (refine_obligations_of checked.now (option_copied abstraction.entry))) }
 {
     let mut out = nothing(alloc);
     add_obligations_beside(alloc, &mut out, checked, abstraction)?;

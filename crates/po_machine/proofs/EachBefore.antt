@@ -8,13 +8,13 @@ use Rattle.po_rules.specs.Gathering.{Gathered, gathered}
 use Rattle.po_rules.specs.Parts.{formulas}
 use Rattle.po_rules.specs.Rows.{labelled_rows}
 use Rattle.po_machine.specs.declared.labelled.Site.{Site}
-use Rattle.po_machine.specs.Private.{path_of, row_at, rows_at}
+use Rattle.po_machine.specs.Private.{site_path, row_at, rows_at}
 use Rattle.po_machine.proofs.Gathering.{gathered_append}
 use Rattle.po_machine.proofs.Lists.{map_append}
 
 -- the rows in the words of the code
 pub rows_are : (s : Site) (hyps : List Formula) (before own : List Labelled)
-    → at_each (labelled_rows (path_of s) s.env.now hyps) before own ≡ rows_at s (hyps ++ formulas before) own
+    → at_each (labelled_rows (site_path s) s.env.now hyps) before own ≡ rows_at s (hyps ++ formulas before) own
 rows_are s hyps before [] = refl
 rows_are s hyps before (l ∷ own) =
     ap (λ rows. row_at s (hyps ++ formulas before) l ++ rows)

@@ -7,7 +7,7 @@ ghost use Rattle.formula_core.specs.Wellness.{type_of};
 ghost use Rattle.formula_core.specs.declared.raw.Action.TheVariants as action;
 ghost use Rattle.model_core.specs.Each.{for_each};
 ghost use Rattle.po_rules.specs.Parts.{as_term, before_after, new_values, open_targets, with_prime};
-ghost use Rattle.po_machine.specs.Private.{is_wanted, wanted_of};
+ghost use Rattle.po_machine.specs.Private.{is_wanted_name, wanted_of};
 
 use crate::names::Names;
 use crate::predicates::{instead_of, of_two};
@@ -22,7 +22,7 @@ pub(crate) enum Wanted<'a> {
 }
 
 fn is_wanted(wanted: &Wanted<'_>, name: &Name) -> bool
-    ensures { result ≡ is_wanted wanted.now name.now }
+    ensures { result ≡ is_wanted_name wanted.now name.now }
 {
     match wanted {
         Wanted::All => true,

@@ -2,7 +2,7 @@
 ghost use Rattle.std.specs.Prelude.{◌≡◌, ◌++◌, IfOk, OnOk, map};
 ghost use Rattle.po_rules.specs.Parts.{base, formulas, initialises, machine_hyps};
 ghost use Rattle.po_machine.specs.Shared.{parts_in};
-ghost use Rattle.po_machine.specs.Private.{behind};
+ghost use Rattle.po_machine.specs.Private.{referenced};
 
 use crate::parts::SharedParts;
 use formula_core::{Formula, Name, OutOfMemory};
@@ -20,7 +20,7 @@ pub(crate) fn add_labelled<'a>(
     labelled: &'a [Labelled],
     found: &mut Vec<&'a Formula>,
 ) -> Result<(), OutOfMemory>
-    ensures { OnOk result (behind found.new.items ≡ behind found.old.items ++ formulas labelled.entry.now) }
+    ensures { OnOk result (referenced found.new.items ≡ referenced found.old.items ++ formulas labelled.entry.now) }
 {
     for one in labelled {
         found.push(&one.formula)?;
@@ -29,7 +29,7 @@ pub(crate) fn add_labelled<'a>(
 }
 
 fn add_formulas<'a>(more: &'a [Formula], found: &mut Vec<&'a Formula>) -> Result<(), OutOfMemory>
-    ensures { OnOk result (behind found.new.items ≡ behind found.old.items ++ more.entry.now) }
+    ensures { OnOk result (referenced found.new.items ≡ referenced found.old.items ++ more.entry.now) }
 {
     for formula in more {
         found.push(formula)?;
@@ -41,7 +41,7 @@ fn add_witnesses<'a>(
     witnesses: &'a [(Name, Formula)],
     found: &mut Vec<&'a Formula>,
 ) -> Result<(), OutOfMemory>
-    ensures { OnOk result (behind found.new.items ≡ behind found.old.items ++ map (λ w. w.1) witnesses.entry.now) }
+    ensures { OnOk result (referenced found.new.items ≡ referenced found.old.items ++ map (λ w. w.1) witnesses.entry.now) }
 {
     for witness in witnesses {
         found.push(&witness.1)?;
@@ -54,7 +54,7 @@ pub(crate) fn labelled_hypotheses<'a>(
     alloc: Global,
     labelled: &'a [Labelled],
 ) -> Result<Vec<&'a Formula>, OutOfMemory>
-    ensures { IfOk result (λ hyps. behind hyps.items ≡ formulas labelled.now) }
+    ensures { IfOk result (λ hyps. referenced hyps.items ≡ formulas labelled.now) }
 {
     let mut hyps = Vec::new(alloc);
     add_labelled(labelled, &mut hyps)?;
@@ -66,7 +66,7 @@ pub(crate) fn machine_hypotheses<'a>(
     alloc: Global,
     machine: &'a CheckedMachine,
 ) -> Result<Vec<&'a Formula>, OutOfMemory>
-    ensures { IfOk result (λ hyps. behind hyps.items ≡ machine_hyps machine.now) }
+    ensures { IfOk result (λ hyps. referenced hyps.items ≡ machine_hyps machine.now) }
 {
     let mut hyps = labelled_hypotheses(alloc, machine.axioms.items())?;
     add_labelled(machine.invariants.items(), &mut hyps)?;
@@ -79,7 +79,7 @@ fn guarded_hypotheses<'a>(
     machine: &'a CheckedMachine,
     event: &'a CheckedEvent,
 ) -> Result<Vec<&'a Formula>, OutOfMemory>
-    ensures { IfOk result (λ hyps. behind hyps.items ≡ machine_hyps machine.now ++ formulas event.now.guards) }
+    ensures { IfOk result (λ hyps. referenced hyps.items ≡ machine_hyps machine.now ++ formulas event.now.guards) }
 {
     let mut hyps = machine_hypotheses(alloc, machine)?;
     add_labelled(event.guards.items(), &mut hyps)?;
@@ -92,7 +92,7 @@ fn base_of<'a>(
     machine: &'a CheckedMachine,
     event: &'a CheckedEvent,
 ) -> Result<Vec<&'a Formula>, OutOfMemory>
-    ensures { IfOk result (λ hyps. behind hyps.items ≡ base machine.now event.now) }
+    ensures { IfOk result (λ hyps. referenced hyps.items ≡ base machine.now event.now) }
 {
     if initialises(event) {
         return labelled_hypotheses(alloc, machine.axioms.items());
@@ -104,7 +104,7 @@ pub(crate) fn base_hypotheses<'a>(
     alloc: Global,
     parts: &'a SharedParts<'_>,
 ) -> Result<Vec<&'a Formula>, OutOfMemory>
-    ensures { IfOk result (λ hyps. behind hyps.items ≡ (parts_in parts.now).base) }
+    ensures { IfOk result (λ hyps. referenced hyps.items ≡ (parts_in parts.now).base) }
 {
     base_of(alloc, parts.machine, parts.event)
 }
@@ -114,7 +114,7 @@ pub(crate) fn choice_hypotheses<'a>(
     alloc: Global,
     parts: &'a SharedParts<'_>,
 ) -> Result<Vec<&'a Formula>, OutOfMemory>
-    ensures { IfOk result (λ hyps. behind hyps.items ≡ (parts_in parts.now).base ++ (parts_in parts.now).choices) }
+    ensures { IfOk result (λ hyps. referenced hyps.items ≡ (parts_in parts.now).base ++ (parts_in parts.now).choices) }
 {
     let mut hyps = base_hypotheses(alloc, parts)?;
     add_formulas(&parts.choices, &mut hyps)?;
@@ -126,7 +126,7 @@ pub(crate) fn witness_hypotheses<'a>(
     alloc: Global,
     parts: &'a SharedParts<'_>,
 ) -> Result<Vec<&'a Formula>, OutOfMemory>
-    ensures { IfOk result (λ hyps. behind hyps.items
+    ensures { IfOk result (λ hyps. referenced hyps.items
         ≡ (parts_in parts.now).base ++ (parts_in parts.now).choices ++ map (λ w. w.1) (parts_in parts.now).witnesses) }
 {
     let mut hyps = choice_hypotheses(alloc, parts)?;

@@ -4,7 +4,7 @@ ghost use Rattle.formula_core.specs.Texts.{is_kind};
 ghost use Rattle.po_rules.specs.Gathering.{gathered};
 ghost use Rattle.po_rules.specs.Rows.{axiom_rows, guard_rows, own_invariant_rows};
 ghost use Rattle.po_machine.specs.Shared.{parts_in, view};
-ghost use Rattle.po_machine.specs.Private.{behind, name_at, needed_at, own_rows_at, row_at, rows_at, theorem_at};
+ghost use Rattle.po_machine.specs.Private.{referenced, obligation_name, needed_at, own_rows_at, row_at, rows_at, theorem_at};
 
 use crate::gathered::Gathered;
 use crate::hypotheses::{add_labelled, labelled_hypotheses, machine_hypotheses};
@@ -46,7 +46,7 @@ pub(crate) struct Site<'a> {
 
 fn name_at(alloc: Global, site: &Site<'_>, label: &Label, kind: &str) -> Result<PoName, OutOfMemory>
     requires { IsTrue (is_kind kind.now) }
-    ensures { IfOk result (λ name. name ≡ name_at site.now label.now kind.now) }
+    ensures { IfOk result (λ name. name ≡ obligation_name site.now label.now kind.now) }
 {
     match site.event {
         None => PoName::of_labelled(alloc, site.component, label, kind),
@@ -66,7 +66,7 @@ fn add_at(
     goal: Formula,
 ) -> Result<(), OutOfMemory>
     requires { IsTrue (is_kind kind.now) }
-    ensures { OnOk result (view out.new ≡ gathered (view out.old) (needed_at site.entry.now (behind hyps.entry.now) label.entry.now kind.entry.now goal)) }
+    ensures { OnOk result (view out.new ≡ gathered (view out.old) (needed_at site.entry.now (referenced hyps.entry.now) label.entry.now kind.entry.now goal)) }
 {
     if is_idle(out, &goal) {
         return instead_of(goal, Ok(()));
@@ -85,7 +85,7 @@ fn add_theorem(
     hyps: &[&Formula],
     labelled: &Labelled,
 ) -> Result<(), OutOfMemory>
-    ensures { OnOk result (view out.new ≡ gathered (view out.old) (theorem_at site.entry.now (behind hyps.entry.now) labelled.entry.now)) }
+    ensures { OnOk result (view out.new ≡ gathered (view out.old) (theorem_at site.entry.now (referenced hyps.entry.now) labelled.entry.now)) }
 {
     if !labelled.theorem {
         return Ok(());
@@ -102,7 +102,7 @@ fn add_row(
     hyps: &[&Formula],
     labelled: &Labelled,
 ) -> Result<(), OutOfMemory>
-    ensures { OnOk result (view out.new ≡ gathered (view out.old) (row_at site.entry.now (behind hyps.entry.now) labelled.entry.now)) }
+    ensures { OnOk result (view out.new ≡ gathered (view out.old) (row_at site.entry.now (referenced hyps.entry.now) labelled.entry.now)) }
 {
     if is_full(out) {
         return Ok(());
@@ -120,7 +120,7 @@ fn add_rows<'a>(
     hyps: Vec<&'a Formula>,
     own: &'a [Labelled],
 ) -> Result<(), OutOfMemory>
-    ensures { OnOk result (view out.new ≡ gathered (view out.old) (rows_at site.entry.now (behind hyps.entry.items) own.entry.now)) }
+    ensures { OnOk result (view out.new ≡ gathered (view out.old) (rows_at site.entry.now (referenced hyps.entry.items) own.entry.now)) }
 {
     let mut hyps = hyps;
     for labelled in own {
@@ -139,7 +139,7 @@ fn add_own_rows<'a>(
     all: &'a [Labelled],
     own_from: u32,
 ) -> Result<(), OutOfMemory>
-    ensures { OnOk result (view out.new ≡ gathered (view out.old) (own_rows_at site.entry.now (behind hyps.entry.items) all.entry.now own_from)) }
+    ensures { OnOk result (view out.new ≡ gathered (view out.old) (own_rows_at site.entry.now (referenced hyps.entry.items) all.entry.now own_from)) }
 {
     let mut hyps = hyps;
     add_labelled(first_items(all, own_from), &mut hyps)?;

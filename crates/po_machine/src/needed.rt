@@ -6,7 +6,7 @@ ghost use Rattle.well_defined.specs.Connectives.{is_top};
 ghost use Rattle.po_rules.specs.Gathering.{gathered, table_limit};
 ghost use Rattle.po_rules.specs.Rows.{from_base, from_choices, from_witnesses, needed, of_kind};
 ghost use Rattle.po_machine.specs.Shared.{parts_in, view};
-ghost use Rattle.po_machine.specs.Private.{added_within, behind, obligation_of};
+ghost use Rattle.po_machine.specs.Private.{added_within, referenced, obligation_of};
 
 use crate::gathered::Gathered;
 use crate::hypotheses::{base_hypotheses, choice_hypotheses, witness_hypotheses};
@@ -34,7 +34,7 @@ pub(crate) fn is_idle(out: &Gathered, goal: &Formula) -> bool
 }
 
 fn nodes_of_all(formulas: &[&Formula]) -> u64
-    ensures { result ≡ min (sum (map formula_nodes (behind formulas.now))) (2 ^ 64 - 1) }
+    ensures { result ≡ min (sum (map formula_nodes (referenced formulas.now))) (2 ^ 64 - 1) }
 {
     let mut total: u64 = 0;
     for formula in formulas {
@@ -45,7 +45,7 @@ fn nodes_of_all(formulas: &[&Formula]) -> u64
 
 /// The nodes that were counted before, with those of one sequent more.
 fn nodes_with(before: u64, hyps: &[&Formula], goal: &Formula) -> u64
-    ensures { result ≡ min (before + (sum (map formula_nodes (behind hyps.now)) + formula_nodes goal.now)) (2 ^ 64 - 1) }
+    ensures { result ≡ min (before + (sum (map formula_nodes (referenced hyps.now)) + formula_nodes goal.now)) (2 ^ 64 - 1) }
 {
     before
         .saturating_add(nodes_of_all(hyps))
@@ -53,7 +53,7 @@ fn nodes_with(before: u64, hyps: &[&Formula], goal: &Formula) -> u64
 }
 
 fn copied(alloc: Global, formulas: &[&Formula]) -> Result<List<Formula>, OutOfMemory>
-    ensures { IfOk result (λ copies. copies ≡ behind formulas.now) }
+    ensures { IfOk result (λ copies. copies ≡ referenced formulas.now) }
 {
     let mut copies = Vec::with_capacity(alloc, formulas.len())?;
     for formula in formulas {
@@ -70,7 +70,7 @@ fn add_obligation(
     hyps: &[&Formula],
     goal: Formula,
 ) -> Result<(), OutOfMemory>
-    ensures { OnOk result (obligations.new.items ≡ obligations.old.items ++ obligation_of name env.now (behind hyps.now) goal ∷ []) }
+    ensures { OnOk result (obligations.new.items ≡ obligations.old.items ++ obligation_of name env.now (referenced hyps.now) goal ∷ []) }
 {
     let Ok(env) = env.copy(alloc) else {
         return instead_of(goal, Err(OutOfMemory));
@@ -93,7 +93,7 @@ fn add_within(
     hyps: &[&Formula],
     goal: Formula,
 ) -> Result<(), OutOfMemory>
-    ensures { OnOk result (obligations.new.items ≡ added_within nodes obligations.old.items (obligation_of name env.now (behind hyps.now) goal)) }
+    ensures { OnOk result (obligations.new.items ≡ added_within nodes obligations.old.items (obligation_of name env.now (referenced hyps.now) goal)) }
 {
     if nodes > TABLE_LIMIT {
         return instead_of(goal, Ok(()));
@@ -111,7 +111,7 @@ pub(crate) fn add_one(
     goal: Formula,
 ) -> Result<(), OutOfMemory>
     requires { (is_top goal || nat_lt table_limit out.old.nodes) ≡ false }
-    ensures { OnOk result (view out.new ≡ gathered (view out.old) (needed name env.now (behind hyps.now) goal)) }
+    ensures { OnOk result (view out.new ≡ gathered (view out.old) (needed name env.now (referenced hyps.now) goal)) }
 {
     let nodes = nodes_with(out.nodes, hyps, &goal);
     add_within(alloc, &mut out.obligations, nodes, name, env, hyps, goal)?;

@@ -10,7 +10,7 @@ ghost use Rattle.model_core.specs.Components.{is_convergent, is_ordinary};
 ghost use Rattle.model_core.specs.Each.{for_each};
 ghost use Rattle.well_defined.specs.Predicates.{predicate};
 ghost use Rattle.po_rules.specs.Gathering.{gathered};
-ghost use Rattle.po_rules.specs.Parts.{machine_hyps, slash};
+ghost use Rattle.po_rules.specs.Parts.{machine_hyps, path_with};
 ghost use Rattle.po_rules.specs.Rows.{decrease, decrease_rows, needed, variant_rows, was_convergent};
 ghost use Rattle.po_machine.specs.Shared.{parts_in, view};
 ghost use Rattle.po_machine.specs.Private.{decrease_row, finite_row, natural_row};
@@ -41,7 +41,7 @@ fn add_of_machine(
     goal: Formula,
 ) -> Result<(), OutOfMemory>
     requires { IsTrue (is_kind kind.now) }
-    ensures { OnOk result (view out.new ≡ gathered (view out.old) (needed (slash machine.now.name kind.now) machine.now.env (machine_hyps machine.now) goal)) }
+    ensures { OnOk result (view out.new ≡ gathered (view out.old) (needed (path_with machine.now.name kind.now) machine.now.env (machine_hyps machine.now) goal)) }
 {
     if is_idle(out, &goal) {
         return instead_of(goal, Ok(()));

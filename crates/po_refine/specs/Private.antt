@@ -12,7 +12,7 @@ use Rattle.model_core.specs.declared.checked.Labelled.{Labelled}
 use Rattle.model_core.specs.Each.{for_each, is_among}
 use Rattle.sequent_core.specs.declared.sequent.Obligation.{Obligation}
 use Rattle.po_rules.specs.Parts.{EventParts, formulas, as_term, with_prime}
-use Rattle.po_rules.specs.Rows.{chain, conditions, equal, from_witnesses, of_kind}
+use Rattle.po_rules.specs.Rows.{chain, conditions, equal_terms, from_witnesses, of_kind}
 use Rattle.po_refine.specs.declared.equality.Changes.{Changes}
 
 -- the element of a list of one
@@ -46,7 +46,7 @@ abbrev pub value_of_primed : EventParts → List ℕ × Ty → List ℕ × Formu
 value_of_primed p x = ((with_prime x).0, substituted p.after (as_term x))
 
 abbrev pub equality_of : EventParts → List ℕ → Ty → List Obligation
-equality_of p v t = from_witnesses p (of_kind v (codes "EQL")) (equal (substituted p.after (as_term (v, t))) (as_term (v, t)))
+equality_of p v t = from_witnesses p (of_kind v (codes "EQL")) (equal_terms (substituted p.after (as_term (v, t))) (as_term (v, t)))
 
 -- the obligation at one variable
 abbrev pub equality_at : Changes → EventParts → List ℕ → List Obligation

@@ -28,8 +28,8 @@ pub record EventParts : Type 0 where
   pub witnesses : List (List ℕ × Formula)
   pub after : List (List ℕ × Formula)
 
-abbrev pub slash : List ℕ → List ℕ → List ℕ
-slash path word = path ++ 47 ∷ word
+abbrev pub path_with : List ℕ → List ℕ → List ℕ
+path_with path word = path ++ 47 ∷ word
 
 abbrev pub formulas : List Labelled → List Formula
 formulas labelled = map (λ l. l.formula) labelled
@@ -112,7 +112,7 @@ base m e = if initialises e then formulas m.axioms else (machine_hyps m ++ formu
 
 abbrev pub parts_of : CheckedMachine → CheckedEvent → List CheckedEvent → EventParts
 parts_of m e refined = record {
-  path = slash m.name e.name;
+  path = path_with m.name e.name;
   env = obligation_env m e refined;
   base = base m e;
   choices = for_each before_after (actions_of e);

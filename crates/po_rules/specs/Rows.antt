@@ -27,7 +27,7 @@ use Rattle.model_core.specs.Components.{is_ordinary, is_convergent}
 use Rattle.model_core.specs.Each.{at_each, for_each, is_among}
 use Rattle.sequent_core.specs.declared.sequent.Obligation.{Obligation}
 use Rattle.formula_core.specs.Same.{same_action}
-use Rattle.po_rules.specs.Parts.{EventParts, slash, formulas, initialises, is_extended, actions_of, actions_of_first, open_targets, with_prime, as_term, new_values, before_after, machine_hyps}
+use Rattle.po_rules.specs.Parts.{EventParts, path_with, formulas, initialises, is_extended, actions_of, actions_of_first, open_targets, with_prime, as_term, new_values, before_after, machine_hyps}
 
 -- the obligation of this name, and none where the goal is ⊤
 abbrev pub needed : List ℕ → List (List ℕ × Ty) → List Formula → Formula → List Obligation
@@ -35,16 +35,17 @@ needed name env hyps goal = if is_top goal then [] else (record { name = name; s
 
 -- The obligations of an event are called `e/KIND` or `e/l/KIND`. Their hypotheses are the base, or the base and N, or the base, N and W.
 abbrev pub from_base : EventParts → List ℕ → Formula → List Obligation
-from_base p name goal = needed (slash p.path name) p.env p.base goal
+from_base p name goal = needed (path_with p.path name) p.env p.base goal
 
 abbrev pub from_choices : EventParts → List ℕ → Formula → List Obligation
-from_choices p name goal = needed (slash p.path name) p.env (p.base ++ p.choices) goal
+from_choices p name goal = needed (path_with p.path name) p.env (p.base ++ p.choices) goal
 
 abbrev pub from_witnesses : EventParts → List ℕ → Formula → List Obligation
-from_witnesses p name goal = needed (slash p.path name) p.env (p.base ++ p.choices ++ map (λ w. w.1) p.witnesses) goal
+from_witnesses p name goal =
+    needed (path_with p.path name) p.env (p.base ++ p.choices ++ map (λ w. w.1) p.witnesses) goal
 
 abbrev pub of_kind : List ℕ → List ℕ → List ℕ
-of_kind label word = slash label word
+of_kind label word = path_with label word
 
 -- chains associate to the left; the one of nothing is ⊤
 abbrev pub chain : (Formula → Formula → Formula) → List Formula → Formula
@@ -58,14 +59,14 @@ for_some_of ids p = quantified binder.Exists (map (λ x. x.1) ids) (abstracted i
 abbrev pub for_every_of : List (List ℕ × Ty) → Formula → Formula
 for_every_of ids p = for_every (map (λ x. x.1) ids) (abstracted ids 0 p)
 
-abbrev pub equal : Formula → Formula → Formula
-equal a b = predicate op.Equal (a ∷ b ∷ [])
+abbrev pub equal_terms : Formula → Formula → Formula
+equal_terms a b = predicate op.Equal (a ∷ b ∷ [])
 
 -- `l/WD`, and `l/THM` of a theorem, from these hypotheses and the labelled formulas before l
 abbrev pub labelled_rows : List ℕ → List (List ℕ × Ty) → List Formula → List Labelled → Labelled → List Obligation
 labelled_rows path env hyps before l =
-    needed (slash path (of_kind l.label (codes "WD"))) env (hyps ++ formulas before) (wd_of l.formula)
-    ++ (if l.theorem then needed (slash path (of_kind l.label (codes "THM"))) env (hyps ++ formulas before) l.formula else [])
+    needed (path_with path (of_kind l.label (codes "WD"))) env (hyps ++ formulas before) (wd_of l.formula)
+    ++ (if l.theorem then needed (path_with path (of_kind l.label (codes "THM"))) env (hyps ++ formulas before) l.formula else [])
 
 -- own axioms, in order
 abbrev pub axiom_rows : CheckedContext → List Obligation
@@ -78,8 +79,8 @@ own_invariant_rows m = at_each (labelled_rows m.name m.env (formulas m.axioms)) 
 -- `VWD`, and `FIN` of a set
 abbrev pub variant_rows : CheckedMachine → Formula → List Obligation
 variant_rows m v =
-    needed (slash m.name (codes "VWD")) m.env (machine_hyps m) (wd_of v)
-    ++ (if is_integer (type_of v) then [] else needed (slash m.name (codes "FIN")) m.env (machine_hyps m) (finite v))
+    needed (path_with m.name (codes "VWD")) m.env (machine_hyps m) (wd_of v)
+    ++ (if is_integer (type_of v) then [] else needed (path_with m.name (codes "FIN")) m.env (machine_hyps m) (finite v))
 
 -- `e/g/WD` and `e/g/THM`
 abbrev pub guard_rows : CheckedMachine → CheckedEvent → EventParts → List Obligation
@@ -130,7 +131,7 @@ action_rows e p = for_each (action_row p) (drop e.own_actions_from e.actions)
 
 -- `after(x) = E` of a variable that is not lost
 abbrev pub simulated_value : CheckedMachine → EventParts → List ℕ × Formula → List Formula
-simulated_value m p x = if is_among m.lost x.0 then [] else (equal (substituted p.after (as_term (x.0, type_of x.1))) x.1 ∷ [])
+simulated_value m p x = if is_among m.lost x.0 then [] else (equal_terms (substituted p.after (as_term (x.0, type_of x.1))) x.1 ∷ [])
 
 -- what an abstract action says of the values after the event
 abbrev pub simulated : CheckedMachine → EventParts → Action → Formula
@@ -155,7 +156,7 @@ kept_variables (Some abstract) = abstract.variables
 abbrev pub equality_row : Option CheckedMachine → List CheckedEvent → EventParts → List ℕ → List Obligation
 equality_row abstraction refined p v =
     if is_among (kept_variables abstraction) v && is_among (keys_of p.after) v && not (is_among (keys_of (for_each new_values (actions_of_first refined))) v)
-    then for_each (λ t. from_witnesses p (of_kind v (codes "EQL")) (equal (substituted p.after (as_term (v, t))) (as_term (v, t)))) (option_to_list (type_in p.env v))
+    then for_each (λ t. from_witnesses p (of_kind v (codes "EQL")) (equal_terms (substituted p.after (as_term (v, t))) (as_term (v, t)))) (option_to_list (type_in p.env v))
     else []
 
 abbrev pub equality_rows : CheckedMachine → Option CheckedMachine → List CheckedEvent → EventParts → List Obligation

@@ -24,27 +24,27 @@ use Rattle.prover_pool.specs.Work.{EndsMarked}
 use Rattle.pool_run.specs.declared.tray.Step.{Step as Action}
 use Rattle.pool_run.specs.declared.tray.Entry.{Entry}
 use Rattle.pool_run.specs.declared.tray.Entry.TheVariants.{Step, Mark}
-use Rattle.pool_run.specs.Tray.{mark_of, meaning}
+use Rattle.pool_run.specs.Tray.{marks_of_action, tray_meaning}
 
 -- the log of a tray with these steps and this fault
 abbrev pub log_with : List Action → Option Action → List Entry
-log_with steps fault = map Step steps ++ mark_of fault
+log_with steps fault = map Step steps ++ marks_of_action fault
 
 -- one step more, where no fault is kept
 pub one_more : (steps : List Action) (fault : Option Action) (a : Action) → fault ≡ None → log_with (steps ++ a ∷ []) fault ≡ log_with steps fault ++ Step a ∷ []
-one_more [] fault a none = ap (λ f. Step a ∷ mark_of f) none ∙ ap (λ f. mark_of f ++ Step a ∷ []) (sym none)
+one_more [] fault a none = ap (λ f. Step a ∷ marks_of_action f) none ∙ ap (λ f. marks_of_action f ++ Step a ∷ []) (sym none)
 one_more (s ∷ steps) fault a none = ap (λ l. Step s ∷ l) (one_more steps fault a none)
 
 -- a fault, where none was kept
 pub marked : (steps : List Action) (fault : Option Action) (a : Action) → fault ≡ None → log_with steps (Some a) ≡ log_with steps fault ++ Mark a ∷ []
-marked [] fault a none = ap (λ f. mark_of f ++ Mark a ∷ []) (sym none)
+marked [] fault a none = ap (λ f. marks_of_action f ++ Mark a ∷ []) (sym none)
 marked (s ∷ steps) fault a none = ap (λ l. Step s ∷ l) (marked steps fault a none)
 
 -- a tray that keeps a fault ends in its mark
-pub ends_marked : (steps : List Action) (a : Action) → EndsMarked meaning (log_with steps (Some a))
+pub ends_marked : (steps : List Action) (a : Action) → EndsMarked tray_meaning (log_with steps (Some a))
 ends_marked steps a = (map Step steps, Mark a, refl, refl)
 
-pub kept_marked : (steps : List Action) (fault : Option Action) → is_some fault ≡ true → EndsMarked meaning (log_with steps fault)
+pub kept_marked : (steps : List Action) (fault : Option Action) → is_some fault ≡ true → EndsMarked tray_meaning (log_with steps fault)
 kept_marked steps (Some a) h = ends_marked steps a
 kept_marked steps None h = absurd (false≢true h)
 

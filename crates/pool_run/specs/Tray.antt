@@ -15,17 +15,17 @@ use Rattle.pool_run.specs.declared.tray.Entry.TheVariants.{Step, Mark}
 use Rattle.pool_run.specs.declared.tray.Tray.{Tray}
 
 -- the mark of the fault, if one is kept
-abbrev pub mark_of : Option Action → List Entry
-mark_of None = []
-mark_of (Some a) = Mark a ∷ []
+abbrev pub marks_of_action : Option Action → List Entry
+marks_of_action None = []
+marks_of_action (Some a) = Mark a ∷ []
 
 -- the steps, and after them the mark of the fault
 abbrev pub log_of : Tray → List Entry
-log_of t = map Step t.steps.items ++ mark_of t.fault
+log_of t = map Step t.steps.items ++ marks_of_action t.fault
 
-abbrev pub chair_of : Entry → ℕ
-chair_of (Step a) = a.chair
-chair_of (Mark a) = a.chair
+abbrev pub chair_of_entry : Entry → ℕ
+chair_of_entry (Step a) = a.chair
+chair_of_entry (Mark a) = a.chair
 
 abbrev pub outcome_of : Attempt → Outcome
 outcome_of (Found tree) = outcome.Proof
@@ -38,9 +38,9 @@ IsNumber (Some n) (Some ticket) = ticket.number ≡ n
 IsNumber None None = Unit {0}
 IsNumber _ _ = ⊥
 
-abbrev pub IsTake : What → Option Ticket → Type 0
-IsTake (Take number) ticket = IsNumber number ticket
-IsTake (Finish n o) ticket = ⊥
+abbrev pub IsTakeOf : What → Option Ticket → Type 0
+IsTakeOf (Take number) ticket = IsNumber number ticket
+IsTakeOf (Finish n o) ticket = ⊥
 
 abbrev pub IsFinish : What → ℕ → Attempt → Type 0
 IsFinish (Take number) n attempt = ⊥
@@ -51,7 +51,7 @@ is_mark (Step a) = false
 is_mark (Mark a) = true
 
 abbrev pub StepIsTake : Entry → Option Ticket → Type 0
-StepIsTake (Step a) ticket = IsTake a.what ticket
+StepIsTake (Step a) ticket = IsTakeOf a.what ticket
 StepIsTake (Mark a) ticket = ⊥
 
 abbrev pub StepIsFinish : Entry → ℕ → Attempt → Type 0
@@ -59,21 +59,21 @@ StepIsFinish (Step a) n attempt = IsFinish a.what n attempt
 StepIsFinish (Mark a) n attempt = ⊥
 
 -- what the entries mean to workers
-abbrev pub meaning : Meaning Entry ℕ
-meaning = record {
+abbrev pub tray_meaning : Meaning Entry ℕ
+tray_meaning = record {
   is_mark = is_mark;
   is_take = λ base before e ticket. StepIsTake e ticket;
   is_finish = λ base before e n attempt. StepIsFinish e n attempt;
-  is_failed_take = λ base before e. (a : Action) × (e ≡ Mark a) × IsTake a.what None;
+  is_failed_take = λ base before e. (a : Action) × (e ≡ Mark a) × IsTakeOf a.what None;
   is_failed_finish = λ base before e n attempt. (a : Action) × (e ≡ Mark a) × IsFinish a.what n attempt;
 }
 
-short : (fault : Option Action) → length (mark_of fault) ≤ 1
+short : (fault : Option Action) → length (marks_of_action fault) ≤ 1
 short None = omega arith
 short (Some a) = omega arith
 
-pub tray_marks_last : (t : Tray) → HasMarkLast meaning (log_of t)
-tray_marks_last t = marks_last meaning Step (λ a. refl) t.steps.items (mark_of t.fault) (short t.fault)
+pub tray_marks_last : (t : Tray) → HasMarkLast tray_meaning (log_of t)
+tray_marks_last t = marks_last tray_meaning Step (λ a. refl) t.steps.items (marks_of_action t.fault) (short t.fault)
 
 unmarked_take : (e : Entry) (ticket : Option Ticket) → StepIsTake e ticket → is_mark e ≡ false
 unmarked_take (Step a) ticket is = refl
@@ -83,7 +83,7 @@ unmarked_finish : (e : Entry) (n : ℕ) (attempt : Attempt) → StepIsFinish e n
 unmarked_finish (Step a) n attempt is = refl
 unmarked_finish (Mark a) n attempt is = absurd is
 
-pub tray_marks_no_other : MarksNoOther meaning
+pub tray_marks_no_other : MarksNoOther tray_meaning
 tray_marks_no_other = record {
   take = λ base before e ticket is. unmarked_take e ticket is;
   finish = λ base before e n attempt is. unmarked_finish e n attempt is;

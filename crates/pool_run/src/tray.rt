@@ -54,19 +54,19 @@ impl Kept for Tray {
 
     type Base = usize;
 
-    ghost use Rattle.pool_run.specs.Tray.{log_of, chair_of};
+    ghost use Rattle.pool_run.specs.Tray.{log_of, chair_of_entry};
 
     ghost log = { λ t. log_of t };
 
-    ghost chair_of = { chair_of };
+    ghost chair_of = { chair_of_entry };
 
     ghost base = { λ t. t.room };
 }
 
 impl Work for Tray {
-    ghost use Rattle.pool_run.specs.Tray.{meaning, tray_marks_last, tray_marks_no_other};
+    ghost use Rattle.pool_run.specs.Tray.{tray_meaning, tray_marks_last, tray_marks_no_other};
 
-    ghost meaning = { meaning };
+    ghost meaning = { tray_meaning };
 
     ghost marks_last = { tray_marks_last };
 

@@ -4,7 +4,7 @@ ghost use Rattle.std.specs.Thread.{IsSync};
 ghost use Rattle.turn_desk.specs.Log.{NoneFrom};
 ghost use Rattle.turn_desk.specs.Chairs.{IsOf, AreSame, IsSameChair};
 ghost use Rattle.prover_pool.specs.Shift.{fair, EachServed, WasServed};
-ghost use Rattle.pool_run.specs.Tray.{log_of, chair_of, meaning};
+ghost use Rattle.pool_run.specs.Tray.{log_of, chair_of_entry, tray_meaning};
 
 use crate::tray::{CountFinishes, Tray};
 use outside::Gate;
@@ -107,8 +107,8 @@ pub fn work_beside<R: Threads + Wait + Sync, P: Prover + Sync, G: Gate + Sync>(
 ) -> Result<Tray, Tray>
     requires { (log_of tray ≡ []) × (workers + 1 < 2 ^ 32) }
     ensures served { IfOk result (λ done. (k : ℕ) → 0 < k → k ≤ workers
-        → WasServed chair_of meaning (fair (P.answers prover.now) (P.sure prover.now)) tray.room k [] (log_of done)) }
-    ensures no_other { IfOk result (λ done. NoneFrom chair_of (workers + 1) (log_of done)) }
+        → WasServed chair_of_entry tray_meaning (fair (P.answers prover.now) (P.sure prover.now)) tray.room k [] (log_of done)) }
+    ensures no_other { IfOk result (λ done. NoneFrom chair_of_entry (workers + 1) (log_of done)) }
     ensures refused { IfErr result (λ same. same ≡ tray) }
 {
     let Ok(mut chairs) = Vec::with_capacity(alloc, workers as usize) else {
@@ -128,7 +128,7 @@ pub fn work_beside<R: Threads + Wait + Sync, P: Prover + Sync, G: Gate + Sync>(
         { use_desk(rt, &desk, first, &notices, shut) },
         || -> Vec<Chair<Tray>>
             requires { IsSync R.row × All (IsOf desk) chairs.items }
-            ensures { AreSame chairs.items result.items × EachServed chair_of meaning (fair (P.answers prover.entry.now) (P.sure prover.entry.now)) desk.base chairs.items result.items }
+            ensures { AreSame chairs.items result.items × EachServed chair_of_entry tray_meaning (fair (P.answers prover.entry.now) (P.sure prover.entry.now)) desk.base chairs.items result.items }
         { serve_all(rt, alloc, &desk, chairs, &notices, prover, gate) },
     );
     first.join_all(&desk, chairs);

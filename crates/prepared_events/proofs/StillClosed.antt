@@ -8,7 +8,7 @@ use Rattle.sequent_core.specs.declared.Obligation.{Obligation}
 use Rattle.sequent_core.specs.declared.Ticket.{Ticket}
 use Rattle.sequent_core.specs.declared.Sequent.{Sequent}
 use Rattle.build_core.specs.Projects.{Project}
-use Rattle.build_core.specs.Tables.{IsTable as IsTableOf}
+use Rattle.build_core.specs.Tables.{IsTableOf}
 use Rattle.proof_entries.specs.declared.Proof.{Proof}
 use Rattle.proof_entries.specs.declared.Entry.{Entry}
 use Rattle.proof_entries.specs.declared.Entry.TheVariants.{SetProof}
@@ -23,7 +23,7 @@ use Rattle.prepared_events.specs.declared.moves.TicketMove.{TicketMove}
 use Rattle.prepared_events.specs.declared.moves.TicketMove.TheVariants.{Stay, SendOut, TakeIn, Try}
 use Rattle.prepared_events.specs.Closed.{AreClosedBefore, IsThere}
 use Rattle.prepared_events.specs.Private.{AreOthersBefore}
-use Rattle.prepared_events.specs.Prepared.{FitsMove, moved, changed, without, tried_of, Ready}
+use Rattle.prepared_events.specs.Prepared.{FitsMove, moved, changed_by, without_ticket, tried_of, Ready}
 
 -- an obligation whose stored proof and last tried sequent stay is closed as before, where no ticket for it came in
 pub stays : (s t : State) (o : Obligation) → get t.durable.proofs o.name ≡ get s.durable.proofs o.name → get t.tried o.name ≡ get s.tried o.name →
@@ -60,7 +60,7 @@ none_closed s table of = tt
 
 -- no ticket for another name came in
 without_other : (out : List Ticket) (at : ℕ) (k : Ticket) (o : Obligation) → at < length out → k ≡ get_or out at k → o.name ≢ k.name →
-    AllByRecursion (λ t. IsFor o t → ⊥) (without at out) → AllByRecursion (λ t. IsFor o t → ⊥) out
+    AllByRecursion (λ t. IsFor o t → ⊥) (without_ticket at out) → AllByRecursion (λ t. IsFor o t → ⊥) out
 without_other out at k o lt is apart none =
     let P : Ticket → Type 0 = λ t. IsFor o t → ⊥ in
     subst (AllByRecursion P) (sym (split out at k lt is))
@@ -99,7 +99,7 @@ moved_durable (TakeIn at) s = refl
 moved_durable (Try at) s = refl
 
 -- the entry may come after what happens to the tickets
-pub changed_after : (p : Ready) (s : State) → record (moved p.tickets s) { durable = entered_if (moved p.tickets s).durable p.entry } ≡ changed p s
+pub changed_after : (p : Ready) (s : State) → record (moved p.tickets s) { durable = entered_if (moved p.tickets s).durable p.entry } ≡ changed_by p s
 changed_after p s = by p.tickets where
   by : (tickets : TicketMove) → record (moved tickets s) { durable = entered_if (moved tickets s).durable p.entry } ≡ moved tickets (record s { durable = entered_if s.durable p.entry })
   by Stay = refl
@@ -118,7 +118,7 @@ there out tried next a b (Try at) fits = fits.0
 pub commit_closed : (s : State) (p : Ready) (project : Project) (old mid new : ℕ) → project ≡ entries s.durable.built → AreClosedBefore s old →
     ((t : State) → project ≡ entries t.durable.built → t.out ≡ s.out → AreClosedBefore t old → AreClosedBefore (moved p.tickets t) mid) →
     ((t : State) → project ≡ entries t.durable.built → AreClosedBefore t mid → AreClosedBefore (record t { durable = entered_if t.durable p.entry }) new) →
-    AreClosedBefore (changed p s) new
+    AreClosedBefore (changed_by p s) new
 commit_closed s p project old mid new is closed beside after =
     let same : project ≡ entries (moved p.tickets s).durable.built = is ∙ ap (λ d. entries d.built) (sym (moved_durable p.tickets s)) in
     subst (λ t. AreClosedBefore t new) (changed_after p s) (after (moved p.tickets s) same (beside s is refl closed))

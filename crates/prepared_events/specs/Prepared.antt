@@ -15,8 +15,8 @@ use Rattle.prepared_events.specs.declared.moves.TicketMove.{TicketMove}
 use Rattle.prepared_events.specs.declared.moves.TicketMove.TheVariants.{Stay, SendOut, TakeIn, Try}
 
 -- the tickets without the one at a place
-abbrev pub without : ℕ → List Ticket → List Ticket
-without at tickets = take at tickets ++ drop (at + 1) tickets
+abbrev pub without_ticket : ℕ → List Ticket → List Ticket
+without_ticket at tickets = take at tickets ++ drop (at + 1) tickets
 
 -- the sequent of the ticket is the last tried one of its name
 abbrev pub tried_of : FinMap text_cmp Sequent → Option Ticket → FinMap text_cmp Sequent
@@ -27,8 +27,8 @@ tried_of tried (Some ticket) = insert tried ticket.name ticket.sequent
 abbrev pub moved : TicketMove → State → State
 moved Stay s = s
 moved (SendOut ticket) s = record s { out = s.out ++ ticket ∷ []; next = s.next + 1 }
-moved (TakeIn at) s = record s { out = without at s.out }
-moved (Try at) s = record s { out = without at s.out; tried = tried_of s.tried (slice_get s.out at) }
+moved (TakeIn at) s = record s { out = without_ticket at s.out }
+moved (Try at) s = record s { out = without_ticket at s.out; tried = tried_of s.tried (slice_get s.out at) }
 
 -- a reply, an entry, what happens to a ticket, the texts that were built, and for how many elements there is memory
 pub record Ready : Type 0 where
@@ -42,8 +42,8 @@ pub record Ready : Type 0 where
   pub ticket_room : ℕ
 
 -- the state after it
-abbrev pub changed : Ready → State → State
-changed p s = moved p.tickets (record s { durable = entered_if s.durable p.entry })
+abbrev pub changed_by : Ready → State → State
+changed_by p s = moved p.tickets (record s { durable = entered_if s.durable p.entry })
 
 -- there is memory for what the entry adds to the texts or to the proofs
 abbrev pub FitsEntry : ProjectMap → FinMap text_cmp Proof → ℕ → ℕ → Option Entry → Type 0

@@ -4,7 +4,7 @@ use Rattle.std.specs.FinMap.{FinMap, insert, remove, len, contains_key}
 use Rattle.std.specs.List.{AllByRecursion}
 use Rattle.sequent_core.specs.declared.Obligation.{Obligation}
 use Rattle.build_core.specs.Projects.{Project}
-use Rattle.build_core.specs.Tables.{IsTable as IsTableOf}
+use Rattle.build_core.specs.Tables.{IsTableOf}
 use Rattle.proof_entries.specs.declared.Entry.{Entry}
 use Rattle.proof_entries.specs.declared.Entry.TheVariants.{Put, Drop, Build, SetProof, Purge}
 use Rattle.proof_entries.specs.declared.Proof.{Proof}

@@ -2,7 +2,7 @@
 use Rattle.std.proofs.Common.{◌≡◌, ◌∙◌, inl, inr, ⊎_elim, ◌⊎◌, sym, ap, subst, refl, ℕ, ◌+◌, Option, Some, None, List, [], ◌∷◌, ◌++◌, map}
 use Rattle.outside.specs.Disk.{Sides}
 use Rattle.outside.specs.declared.side.Side.{Side}
-use Rattle.journal_core.specs.Sides.{StandsAt, IsBeforeOrAfter, IsBeforeOrOne, other}
+use Rattle.journal_core.specs.Sides.{StandsAt, IsBeforeOrAfterAppend, IsBeforeOrOne, other}
 use Rattle.proof_entries.specs.declared.Entry.{Entry}
 use Rattle.core_steps.specs.declared.durable.Durable.{Durable}
 use Rattle.core_steps.specs.declared.events.Event.{Event}
@@ -43,7 +43,7 @@ module _ (side : Side) (generation : ℕ) (d : Durable) (bodies : List (List ℕ
     leads = leads_on no_texts bodies d body (entry ∷ []) leads is small;
   }
 
-  pub before_or_after : (entry : Entry) (body : List ℕ) → IsBody body (entry ∷ []) → IsSmall (entered d entry) → (c : Sides) → IsBeforeOrAfter side generation bodies body c → Recovers c d ⊎ Recovers c (entered d entry)
+  pub before_or_after : (entry : Entry) (body : List ℕ) → IsBody body (entry ∷ []) → IsSmall (entered d entry) → (c : Sides) → IsBeforeOrAfterAppend side generation bodies body c → Recovers c d ⊎ Recovers c (entered d entry)
   before_or_after entry body is small c stands =
       ⊎_elim (λ old. inl (side, generation, record { bodies = bodies; stands = old; leads = leads })) (λ new. inr (side, generation, one_further entry body is small c new)) stands
 

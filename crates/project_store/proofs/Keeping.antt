@@ -19,7 +19,7 @@ use Rattle.store_log.specs.declared.fault.StoreFault.TheVariants.{Failed, Sessio
 use Rattle.project_store.specs.declared.fault.KeptFault.{KeptFault}
 use Rattle.project_store.specs.Records.{IsSmall, Recovers, RecoversAt}
 use Rattle.project_store.specs.Private.{IsDone, IsUndone, IsActed, IsStopped}
-use Rattle.project_store.specs.Store.{met, StoreState, IsSound, IsBeforeOrAfter, IsImage, IsTooHeavy, HasNoRoomFor, HasCauseOf, weight}
+use Rattle.project_store.specs.Store.{met, StoreState, IsSoundStore, IsBeforeOrAfter, IsImage, IsTooHeavy, HasNoRoomFor, HasCauseOf, weight}
 use Rattle.project_store.proofs.Preparing.{no_memory}
 
 run_on : (s : State) (xs : List Exchange) (t : State) (x : Exchange) (u : State) → Runs s xs t → IsStepOf t x u → Runs s (xs ++ x ∷ []) u
@@ -39,7 +39,7 @@ module _ {D : Type 0} (told : Type 0) (bytes_of : D → Sides) (images : D → S
   store journal core history kept = record { journal = journal; core = core; history = history; kept = kept; base = base; count = count }
 
   abbrev pub Sound : JournalState D → State → List (ℕ × Event) → Option KeptFault → Type 0
-  Sound journal core history kept = IsSound told bytes_of images faults (store journal core history kept)
+  Sound journal core history kept = IsSoundStore told bytes_of images faults (store journal core history kept)
 
   module _ (journal : JournalState D) (core : State) (history : List (ℕ × Event)) (s : Sound journal core history None) where
     -- without a fault the journal is sound

@@ -14,12 +14,12 @@ use Rattle.core_steps.specs.declared.events.Reply.{Reply}
 use Rattle.core_steps.specs.Laws.{IsOrderly, HasOneAnswer, StaysOrderly, EntersAll, GrowsSlowly}
 use Rattle.core_steps.specs.State.{State, entered_if}
 use Rattle.core_steps.specs.Step.{Does}
-use Rattle.prepared_events.specs.Prepared.{Ready, IsReady, changed}
+use Rattle.prepared_events.specs.Prepared.{Ready, IsReady, changed_by}
 use Rattle.store_log.specs.declared.fault.StoreFault.{StoreFault}
 use Rattle.store_log.specs.declared.fault.StoreFault.TheVariants.{Failed, SessionFull, OutOfMemory, JournalFull, DiskFault}
 use Rattle.project_store.specs.Records.{IsSmall, Recovers, RecoversAt}
 use Rattle.journal_core.specs.State.{JournalState}
-use Rattle.project_store.specs.Private.{IsEither, LacksRoom, IsPreparedFor, IsDone, IsUndone}
+use Rattle.project_store.specs.Private.{IsEither, LacksEntryRoom, IsPreparedFor, IsDone, IsUndone}
 use Rattle.project_store.specs.Store.{IsBeforeOrAfter, HasNoRoomFor}
 use Rattle.project_store.proofs.Moments.{weaken}
 use Rattle.project_store.proofs.Further.{as_event}
@@ -30,15 +30,15 @@ unfolding IsDistinct
 no_steps old new n = ([], tt, tt, omega arith)
 
 -- what is known of what is prepared, by the laws of the core
-pub prepared_for : (s : State) (event : Event) (p : Ready) → IsOrderly s → Does s event p.reply p.entry (changed p s) → IsReady s p → HasOneAnswer → EntersAll → GrowsSlowly → StaysOrderly → IsPreparedFor s event p
+pub prepared_for : (s : State) (event : Event) (p : Ready) → IsOrderly s → Does s event p.reply p.entry (changed_by p s) → IsReady s p → HasOneAnswer → EntersAll → GrowsSlowly → StaysOrderly → IsPreparedFor s event p
 prepared_for s event p orderly does ready one_answer enters_all grows_slowly stays_orderly = record {
   does = does;
   ready = ready;
-  enters = enters_all s event p.reply p.entry (changed p s) does;
+  enters = enters_all s event p.reply p.entry (changed_by p s) does;
   small = omega (arith, ready.texts.0, len-entries (entered_if s.durable p.entry).texts);
-  next = (grows_slowly s event p.reply p.entry (changed p s) does).0;
-  orderly = stays_orderly s event p.reply p.entry (changed p s) orderly does;
-  only = λ reply entry new other. (one_answer s event p.reply reply p.entry entry (changed p s) new orderly does other).1;
+  next = (grows_slowly s event p.reply p.entry (changed_by p s) does).0;
+  orderly = stays_orderly s event p.reply p.entry (changed_by p s) orderly does;
+  only = λ reply entry new other. (one_answer s event p.reply reply p.entry entry (changed_by p s) new orderly does other).1;
 }
 
 -- what a stop leaves, by the entry of the event, if it adds one
@@ -49,11 +49,11 @@ event_moments clock moments old now s d event reply entry new leaves is does ent
 
 -- an entry that has no room is the one that the event adds
 pub lacks_room : {D : Type 0} (journal : JournalState D) (s : State) (event : Event) (found : Option Entry) → ((reply : Reply) (entry : Option Entry) (new : State) → Does s event reply entry new → found ≡ entry)
-    → HasNoRoomFor journal s event → LacksRoom journal.gate journal.generation s.durable found
-lacks_room journal s event found only none = subst (LacksRoom journal.gate journal.generation s.durable) (sym (only none.0 (Some none.1) none.2 none.3)) none.4
+    → HasNoRoomFor journal s event → LacksEntryRoom journal.gate journal.generation s.durable found
+lacks_room journal s event found only none = subst (LacksEntryRoom journal.gate journal.generation s.durable) (sym (only none.0 (Some none.1) none.2 none.3)) none.4
 
 pub no_room_for : {D : Type 0} (journal : JournalState D) (s : State) (event : Event) (reply : Reply) (found : Option Entry) (new : State) → Does s event reply found new
-    → LacksRoom journal.gate journal.generation s.durable found → HasNoRoomFor journal s event
+    → LacksEntryRoom journal.gate journal.generation s.durable found → HasNoRoomFor journal s event
 no_room_for journal s event reply None new does none = absurd none
 no_room_for journal s event reply (Some entry) new does none = (reply, entry, new, does, none)
 
@@ -64,8 +64,8 @@ pub record IsRecorded {D : Type 0} {T : Type 0} (told : Type 0) (bytes_of : D �
   pub reads : told → OnOk recorded (RecoversAt (bytes_of new.disk) new.side new.generation (entered_if d entry))
   pub sound : OnOk recorded (new.failed ≡ false)
   pub causes : (IsErrOf recorded SessionFull → ⊥) × (IsErrOf recorded Failed → ⊥)
-  pub full : IsErrOf recorded JournalFull → LacksRoom old.gate old.generation d entry
-  pub refused : LacksRoom old.gate old.generation d entry → OnOk recorded ⊥ × (IsErrOf recorded DiskFault → ⊥)
+  pub full : IsErrOf recorded JournalFull → LacksEntryRoom old.gate old.generation d entry
+  pub refused : LacksEntryRoom old.gate old.generation d entry → OnOk recorded ⊥ × (IsErrOf recorded DiskFault → ⊥)
   pub fault : IsErrOf recorded DiskFault → Rose (faults old.disk) (faults new.disk)
   pub failed : OnErr recorded (((new ≡ old) × (IsErrOf recorded DiskFault → ⊥)) ⊎ (IsErrOf recorded DiskFault × (new.failed ≡ true)))
 
@@ -80,7 +80,7 @@ module _ {D : Type 0} (told : Type 0) (bytes_of : D → Sides) (images : D → S
   Outcome t result = MatchResult result (λ reply. IsDone told bytes_of images old new s t event reply) (λ fault. IsUndone faults old new s t event fault)
 
   -- the event, with what was recorded for it
-  pub done : {T : Type 0} (ok : T) → IsRecorded told bytes_of images faults old new s.durable p.entry (Ok ok) → IsDone told bytes_of images old new s (changed p s) event p.reply
+  pub done : {T : Type 0} (ok : T) → IsRecorded told bytes_of images faults old new s.durable p.entry (Ok ok) → IsDone told bytes_of images old new s (changed_by p s) event p.reply
   done ok r = record {
     entry = p.entry;
     does = known.does;
@@ -100,14 +100,14 @@ module _ {D : Type 0} (told : Type 0) (bytes_of : D → Sides) (images : D → S
     stays = ⊎_elim (λ w. inl (w.0, λ e. w.1 (err_is fault DiskFault e))) (λ w. inr (fault_is fault DiskFault w.0, w.1)) r.failed;
     first = λ e. r.causes.1 (err_is fault Failed e);
     light = λ e. r.causes.0 (err_is fault SessionFull e);
-    full = λ e. no_room_for old s event p.reply p.entry (changed p s) known.does (r.full (err_is fault JournalFull e));
+    full = λ e. no_room_for old s event p.reply p.entry (changed_by p s) known.does (r.full (err_is fault JournalFull e));
     room = λ none e. (r.refused (lacks_room old s event p.entry known.only none)).1 (err_is fault DiskFault e);
     rose = λ e. r.fault (err_is fault DiskFault e);
   }
 
   -- what was recorded took effect, or a fault was met
   pub finished : {T : Type 0} (recorded : Result T StoreFault) (result : Result Reply StoreFault) (t : State) → IsRecorded told bytes_of images faults old new s.durable p.entry recorded
-      → MatchResult recorded (λ _. (result ≡ Ok p.reply) × (t ≡ changed p s)) (λ fault. (result ≡ Err fault) × (t ≡ s)) → Outcome t result
+      → MatchResult recorded (λ _. (result ≡ Ok p.reply) × (t ≡ changed_by p s)) (λ fault. (result ≡ Err fault) × (t ≡ s)) → Outcome t result
   finished (Ok ok) result t r commits = subst (Outcome t) (sym commits.0) (subst (λ u. Outcome u (Ok p.reply)) (sym commits.1) (done ok r))
   finished (Err fault) result t r commits = subst (Outcome t) (sym commits.0) (subst (λ u. Outcome u (Err fault)) (sym commits.1) (undone fault r))
 

@@ -4,7 +4,7 @@ use Rattle.outside.specs.Disk.{Sides}
 use Rattle.outside.specs.declared.side.Side.{Side}
 use Rattle.std.specs.List.{AllByRecursion}
 use Rattle.journal_core.specs.Sides.{StandsAt, open_records}
-use Rattle.journal_core.specs.Start.{Meaning as JournalMeaning, meaning_of, StandsFor as JournalStandsFor, StandsAs as JournalStandsAs, StandsAsSome as JournalStandsAsSome, IsAnswerFor as IsJournalAnswerFor, IsCause as IsJournalCause, foreign as no_journal, damaged as no_record}
+use Rattle.journal_core.specs.Start.{JournalMeaning, meaning_of, JournalStandsFor, JournalStandsAs, JournalStandsAsSome, IsJournalAnswerFor, IsJournalCause, foreign as no_journal, damaged as no_record}
 use Rattle.journal_core.specs.State.{JournalState}
 use Rattle.journal_core.specs.declared.piece.JournalFault.{JournalFault}
 use Rattle.journal_core.specs.declared.piece.JournalFault.TheVariants as why
@@ -15,9 +15,9 @@ use Rattle.core_steps.specs.State.{State, opened, no_texts}
 use Rattle.project_store.specs.declared.fault.OpenFault.{OpenFault}
 use Rattle.project_store.specs.declared.fault.OpenFault.TheVariants.{Foreign, Damaged, TableFull, DiskFault, OutOfMemory}
 use Rattle.project_store.specs.Records.{IsBody, IsSmall, after_all, Leads}
-use Rattle.project_store.specs.Opening.{Meaning, durable, foreign, damaged, StandsFor, StandsAs, StandsAsSome, IsStop, IsCause, IsAnswerFor}
+use Rattle.project_store.specs.Opening.{StoreMeaning, durable, foreign, damaged, StandsFor, StandsAs, StandsAsSome, IsStop, IsCause, IsAnswerFor}
 use Rattle.project_store.specs.Private.{IsSingle, FindsStop, IsCoreFault, opening_fault}
-use Rattle.project_store.specs.Store.{IsSound, weight}
+use Rattle.project_store.specs.Store.{IsSoundStore, weight}
 
 means_stands : (sides : Sides) (side : Side) (generation : ℕ) (bodies : List (List ℕ)) → JournalStandsFor sides (meaning_of side generation bodies) → StandsAt sides side generation bodies
 means_stands sides side generation [] is = is
@@ -129,7 +129,7 @@ module _ (sides : Sides) (side : Side) (generation : ℕ) (bodies : List (List �
   the_bodies s m xs stands = same_bodies s side m generation xs bodies (exactly (meaning_of s m xs) (stands_means sides s m xs stands))
 
   -- a start that opens the core
-  pub opened_means : (d : Durable) → Leads no_texts bodies d → AllByRecursion IsSingle bodies → (meaning : Meaning) → StandsFor sides meaning → meaning ≡ durable d
+  pub opened_means : (d : Durable) → Leads no_texts bodies d → AllByRecursion IsSingle bodies → (meaning : StoreMeaning) → StandsFor sides meaning → meaning ≡ durable d
   opened_means d leads single (durable e) is =
       ap durable (one_end no_texts bodies e d single (subst (λ bs. Leads no_texts bs e) (the_bodies is.0 is.1 is.2.bodies is.2.stands) is.2.leads) leads)
   opened_means d leads single (foreign f) is = absurd (not_foreign f side generation bodies (exactly (no_journal f) is))
@@ -140,7 +140,7 @@ module _ (sides : Sides) (side : Side) (generation : ℕ) (bodies : List (List �
       (front_single bad.stop.before bad.stop.first bad.stop.behind (subst (AllByRecursion IsSingle) (sym parts) single)) bad.stop.leads bad.stop.stop (subst (λ bs. Leads no_texts bs d) (sym parts) leads))
 
   -- a start that finds a record which doesn't lead on
-  stopped_means : (gate : ℕ) → FindsStop bodies gate → (meaning : Meaning) → StandsFor sides meaning → meaning ≡ damaged side gate
+  stopped_means : (gate : ℕ) → FindsStop bodies gate → (meaning : StoreMeaning) → StandsFor sides meaning → meaning ≡ damaged side gate
   stopped_means gate found (durable e) is =
       let leads = subst (λ bs. Leads no_texts bs e) (the_bodies is.0 is.1 is.2.bodies is.2.stands ∙ found.stop.parts) is.2.leads in
       absurd (no_end no_texts found.stop.before found.stop.first found.stop.behind found.stop.durable e found.single found.stop.leads found.stop.stop leads)
@@ -160,7 +160,7 @@ module _ (sides : Sides) (side : Side) (generation : ℕ) (bodies : List (List �
       its_side s m (x ∷ xs) stands before first behind is = same_side s side m generation x xs bodies (exactly (meaning_of s m (x ∷ xs)) stands)
 
   -- a start that is refused by its core
-  pub refused_means : (fault : OpenFault) → IsCoreFault bodies side fault → (meaning : Meaning) → StandsFor sides meaning → IsAnswerFor meaning fault
+  pub refused_means : (fault : OpenFault) → IsCoreFault bodies side fault → (meaning : StoreMeaning) → StandsFor sides meaning → IsAnswerFor meaning fault
   refused_means (TableFull n) far meaning is = (far.durable, opened_means far.durable far.leads far.single meaning is, far.full)
   refused_means (Damaged s gate) stop meaning is = subst (λ x. meaning ≡ damaged x gate) (sym stop.0) (stopped_means gate stop.1 meaning is)
   refused_means (Foreign s) stop meaning is = absurd stop
@@ -168,7 +168,7 @@ module _ (sides : Sides) (side : Side) (generation : ℕ) (bodies : List (List �
   refused_means OutOfMemory stop meaning is = tt
 
 -- a start that is refused by the journal
-pub journal_means : (sides : Sides) (fault : JournalFault) → ((m : JournalMeaning) → JournalStandsFor sides m → IsJournalAnswerFor m fault) → (meaning : Meaning) → StandsFor sides meaning → IsAnswerFor meaning (opening_fault fault)
+pub journal_means : (sides : Sides) (fault : JournalFault) → ((m : JournalMeaning) → JournalStandsFor sides m → IsJournalAnswerFor m fault) → (meaning : StoreMeaning) → StandsFor sides meaning → IsAnswerFor meaning (opening_fault fault)
 journal_means sides (why.Foreign side) exactly (durable e) is = absurd (not_foreign side is.0 is.1 is.2.bodies (sym (exactly (meaning_of is.0 is.1 is.2.bodies) (stands_means sides is.0 is.1 is.2.bodies is.2.stands))))
 journal_means sides (why.Foreign side) exactly (foreign f) is = let same : f ≡ side = (let e = exactly (no_journal f) is in cc) in ap foreign same
 journal_means sides (why.Foreign side) exactly (damaged s at) (inl broken) = absurd (let e = exactly (no_record s at) broken in cc)
@@ -188,7 +188,7 @@ module _ {D : Type 0} (told : Type 0) (bytes_of : D → Sides) (images : D → S
   pub sound_at_first : (bodies : List (List ℕ)) → base ≡ core.durable → core ≡ opened core.durable → IsOrderly core → IsSmall core.durable → Leads no_texts bodies core.durable → journal.failed ≡ false
       → (told → StandsAt (bytes_of journal.disk) journal.side journal.generation bodies) → (told → (c : Sides) → images journal.disk c → StandsAt c journal.side journal.generation bodies)
       → count ≤ faults journal.disk → history ≡ []
-      → IsSound told bytes_of images faults (record { journal = journal; core = core; history = history; kept = None; base = base; count = count }) × (0 ≡ weight history)
+      → IsSoundStore told bytes_of images faults (record { journal = journal; core = core; history = history; kept = None; base = base; count = count }) × (0 ≡ weight history)
   sound_at_first bodies is begun orderly small leads sound reads standing later none = (
     record {
       exchanges = [];

@@ -3,7 +3,7 @@ use Rattle.std.specs.Prelude.{◌≡◌, ◌⊎◌, ⊤, ℕ, ◌+◌, List, ◌
 use Rattle.outside.specs.Disk.{Sides}
 use Rattle.outside.specs.declared.side.Side.{Side}
 use Rattle.journal_core.specs.Sides.{StandsAt, open_records}
-use Rattle.journal_core.specs.Start.{StandsFor as JournalStandsFor, foreign as no_journal, damaged as no_record}
+use Rattle.journal_core.specs.Start.{JournalStandsFor, foreign as no_journal, damaged as no_record}
 use Rattle.proof_entries.specs.declared.Entry.{Entry}
 use Rattle.core_steps.specs.declared.durable.Durable.{Durable}
 use Rattle.core_steps.specs.State.{no_texts}
@@ -35,19 +35,19 @@ pub record HasBadRecord (sides : Sides) (side : Side) (gate : ℕ) : Type 0 wher
   pub stop : HasStop bodies gate
 
 -- what sides may stand for
-pub data Meaning : Type 0 where
-  durable : Durable → Meaning
-  foreign : Side → Meaning
-  damaged : Side → ℕ → Meaning
+pub data StoreMeaning : Type 0 where
+  durable : Durable → StoreMeaning
+  foreign : Side → StoreMeaning
+  damaged : Side → ℕ → StoreMeaning
 
-abbrev pub StandsFor : Sides → Meaning → Type 0
+abbrev pub StandsFor : Sides → StoreMeaning → Type 0
 StandsFor sides (durable d) = Recovers sides d
 StandsFor sides (foreign side) = JournalStandsFor sides (no_journal side)
 StandsFor sides (damaged side gate) = JournalStandsFor sides (no_record side gate) ⊎ HasBadRecord sides side gate
 
 -- what one stands for, the other does
 abbrev pub StandsAs : Sides → Sides → Type 0
-StandsAs old new = (meaning : Meaning) → StandsFor old meaning → StandsFor new meaning
+StandsAs old new = (meaning : StoreMeaning) → StandsFor old meaning → StandsFor new meaning
 
 -- a stop left what stands for what a stop left then
 abbrev pub StandsAsSome : (Sides → Type 0) → Sides → Type 0
@@ -62,7 +62,7 @@ IsCause sides DiskFault = ⊤
 IsCause sides OutOfMemory = ⊤
 
 -- what sides that stand for this make a start answer; a fault of the disk and want of memory come before it
-abbrev pub IsAnswerFor : Meaning → OpenFault → Type 0
+abbrev pub IsAnswerFor : StoreMeaning → OpenFault → Type 0
 IsAnswerFor meaning (Foreign side) = meaning ≡ foreign side
 IsAnswerFor meaning (Damaged side gate) = meaning ≡ damaged side gate
 IsAnswerFor meaning (TableFull n) = (d : Durable) × (meaning ≡ durable d) × IsTooLarge d.built n

@@ -14,7 +14,7 @@ use Rattle.core_steps.specs.Laws.{IsOrderly}
 use Rattle.core_steps.specs.State.{State, entered, entered_if, no_texts}
 use Rattle.core_steps.specs.Step.{Does}
 use Rattle.core_steps.specs.Table.{IsTooLarge}
-use Rattle.prepared_events.specs.Prepared.{Ready, IsReady, changed}
+use Rattle.prepared_events.specs.Prepared.{Ready, IsReady, changed_by}
 use Rattle.store_log.specs.declared.fault.StoreFault.{StoreFault}
 use Rattle.store_log.specs.declared.fault.StoreFault.TheVariants as store
 use Rattle.outside.specs.declared.side.Side.{Side}
@@ -27,13 +27,13 @@ use Rattle.project_store.specs.Opening.{HasStop}
 use Rattle.project_store.specs.Store.{StoreState, HasNoRoom, HasNoRoomFor, IsTooHeavy, Performs, met}
 
 -- each text of the project has at most 65,536 bytes
-abbrev pub AreShort : ProjectMap → Type 0
-AreShort project = AllByRecursion (λ e. length e.1 ≤ 65536) (entries project)
+abbrev pub AreShortTexts : ProjectMap → Type 0
+AreShortTexts project = AllByRecursion (λ e. length e.1 ≤ 65536) (entries project)
 
 -- so have the texts and the built ones
 pub record HasShortTexts (d : Durable) : Type 0 where
-  pub texts : AreShort d.texts
-  pub built : AreShort d.built
+  pub texts : AreShortTexts d.texts
+  pub built : AreShortTexts d.built
 
 -- the sides stand for the durable, or for the one after the entry, if there is one
 abbrev pub IsEither : Durable → Option Entry → Sides → Type 0
@@ -73,18 +73,18 @@ IsCoreFault bodies on (Foreign side) = ⊥
 IsCoreFault bodies on DiskFault = ⊥
 
 -- the entry, if there is one, has no room
-abbrev pub LacksRoom : ℕ → ℕ → Durable → Option Entry → Type 0
-LacksRoom gate generation d None = ⊥
-LacksRoom gate generation d (Some entry) = HasNoRoom gate generation d (length (record_body (entry ∷ [])))
+abbrev pub LacksEntryRoom : ℕ → ℕ → Durable → Option Entry → Type 0
+LacksEntryRoom gate generation d None = ⊥
+LacksEntryRoom gate generation d (Some entry) = HasNoRoom gate generation d (length (record_body (entry ∷ [])))
 
 -- what is known of what is prepared for an event in an orderly state
 pub record IsPreparedFor (s : State) (event : Event) (p : Ready) : Type 0 where
-  pub does : Does s event p.reply p.entry (changed p s)
+  pub does : Does s event p.reply p.entry (changed_by p s)
   pub ready : IsReady s p
-  pub enters : (changed p s).durable ≡ entered_if s.durable p.entry
+  pub enters : (changed_by p s).durable ≡ entered_if s.durable p.entry
   pub small : IsSmall (entered_if s.durable p.entry)
-  pub next : (changed p s).next ≤ s.next + 1
-  pub orderly : IsOrderly (changed p s)
+  pub next : (changed_by p s).next ≤ s.next + 1
+  pub orderly : IsOrderly (changed_by p s)
   pub only : (reply : Reply) (entry : Option Entry) (new : State) → Does s event reply entry new → p.entry ≡ entry
 
 -- An event was done in this state, with this reply. Then this is the state, and this is the journal.

@@ -103,7 +103,7 @@ pub record IsHistoryOf {D : Type 0} (s : StoreState D) (xs : List (ℕ × Exchan
   pub run : Runs (opened s.base) (exchanges_of xs) s.core
 
 -- what holds of a store before and after each call
-pub record IsSound {D : Type 0} (told : Type 0) (bytes_of : D → Sides) (images : D → Sides → Type 0) (faults : D → ℕ) (s : StoreState D) : Type 0 where
+pub record IsSoundStore {D : Type 0} (told : Type 0) (bytes_of : D → Sides) (images : D → Sides → Type 0) (faults : D → ℕ) (s : StoreState D) : Type 0 where
   pub exchanges : List (ℕ × Exchange)
   pub run : IsHistoryOf s exchanges
   pub small : IsSmall s.core.durable

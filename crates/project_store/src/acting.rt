@@ -7,11 +7,11 @@ ghost use Rattle.build_core.specs.Moved.{HasFewSteps};
 ghost use Rattle.core_steps.specs.declared.events.Event.{Event};
 ghost use Rattle.core_steps.specs.Laws.{IsOrderly};
 ghost use Rattle.core_steps.specs.State.{entered_if};
-ghost use Rattle.prepared_events.specs.Prepared.{IsReady, changed};
+ghost use Rattle.prepared_events.specs.Prepared.{IsReady, changed_by};
 ghost use Rattle.core_steps.specs.Step.{Does};
 ghost use Rattle.store_log.specs.declared.fault.StoreFault.{StoreFault};
 ghost use Rattle.project_store.specs.Records.{IsSmall, Recovers, RecoversAt};
-ghost use Rattle.project_store.specs.Private.{IsEither, LacksRoom, IsPreparedFor, IsDone, IsUndone};
+ghost use Rattle.project_store.specs.Private.{IsEither, LacksEntryRoom, IsPreparedFor, IsDone, IsUndone};
 ghost use Rattle.project_store.specs.Store.{IsBeforeOrAfter};
 
 use crate::recording::record;
@@ -50,8 +50,8 @@ fn record_prepared<D: Disk>(
     ensures sound { OnOk result (journal.new.failed ≡ false) }
     ensures causes { (IsErrOf result StoreFault.SessionFull → ⊥) × (IsErrOf result StoreFault.Failed → ⊥) }
     ensures full { IsErrOf result StoreFault.JournalFull
-        → LacksRoom journal.old.gate journal.old.generation durable.now prepared.now.entry }
-    ensures refused { LacksRoom journal.old.gate journal.old.generation durable.now prepared.now.entry
+        → LacksEntryRoom journal.old.gate journal.old.generation durable.now prepared.now.entry }
+    ensures refused { LacksEntryRoom journal.old.gate journal.old.generation durable.now prepared.now.entry
         → OnOk result ⊥ × (IsErrOf result StoreFault.DiskFault → ⊥) }
     ensures fault { IsErrOf result StoreFault.DiskFault → Rose (D.faults journal.old.disk) (D.faults journal.new.disk) }
     ensures failed { OnErr result (((journal.new ≡ journal.old) × (IsErrOf result StoreFault.DiskFault → ⊥))
@@ -67,7 +67,7 @@ fn record_prepared<D: Disk>(
 // What is known of what is prepared, by the laws of the core.
 fn know(core: &Core, event: &Event, prepared: &Prepared)
     requires orderly { IsOrderly core.now }
-    requires does { Does core.now event.now prepared.now.reply prepared.now.entry (changed prepared.now core.now) }
+    requires does { Does core.now event.now prepared.now.reply prepared.now.entry (changed_by prepared.now core.now) }
     requires ready { IsReady core.now prepared.now }
     ensures known { IsPreparedFor core.now event.now prepared.now }
 {
@@ -108,7 +108,7 @@ fn commit_if(
 ) -> Result<Reply, StoreFault>
     requires { IsReady core.old prepared }
     ensures { MatchResult recorded
-        (λ _. (result ≡ Ok prepared.reply) × (core.new ≡ changed prepared core.old))
+        (λ _. (result ≡ Ok prepared.reply) × (core.new ≡ changed_by prepared core.old))
         (λ fault. (result ≡ Err fault) × (core.new ≡ core.old)) }
 {
     match recorded {

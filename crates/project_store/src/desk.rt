@@ -6,7 +6,7 @@ ghost use Rattle.core_steps.specs.declared.events.Event.{Event};
 ghost use Rattle.core_steps.specs.declared.events.Reply.{Reply};
 ghost use Rattle.turn_desk.specs.Log.{Grows};
 ghost use Rattle.store_log.specs.StoreLog.{chair_of};
-ghost use Rattle.store_log.specs.Storing.{Applies};
+ghost use Rattle.store_log.specs.Storing.{Handles};
 ghost use Rattle.project_store.specs.Store.{base_in, log_in};
 
 use crate::store::Store;
@@ -31,7 +31,7 @@ fn apply_counted<D: Disk, L: Ledger>(
     requires name { blank.name ≡ L.name }
     requires parts { blank.parts ≡ L.parts }
     requires some { 0 < blank.parts }
-    ensures applied { Applies (base_in store.old) chair event (log_in store.old) result (log_in store.new) }
+    ensures applied { Handles (base_in store.old) chair event (log_in store.old) result (log_in store.new) }
     ensures log { Grows chair_of chair (log_in store.old) (log_in store.new) }
     ensures base { base_in store.new ≡ base_in store.old }
     ensures taken { event ≡ Event.Take None
@@ -45,7 +45,7 @@ fn apply_counted<D: Disk, L: Ledger>(
 }
 
 fn apply_alone<D: Disk>(store: &mut Store<D>, chair: u32, event: Event) -> Result<Reply, StoreFault>
-    ensures applied { Applies (base_in store.old) chair event (log_in store.old) result (log_in store.new) }
+    ensures applied { Handles (base_in store.old) chair event (log_in store.old) result (log_in store.new) }
     ensures log { Grows chair_of chair (log_in store.old) (log_in store.new) }
     ensures base { base_in store.new ≡ base_in store.old }
     ensures taken { event ≡ Event.Take None

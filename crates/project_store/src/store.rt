@@ -13,7 +13,7 @@ ghost use Rattle.store_log.specs.declared.fault.StoreFault.{StoreFault};
 ghost use Rattle.project_store.specs.declared.fault.KeptFault.{KeptFault};
 ghost use Rattle.project_store.specs.Records.{Recovers};
 ghost use Rattle.project_store.specs.Private.{IsActed, IsStopped, opening_fault};
-ghost use Rattle.project_store.specs.Opening.{Meaning, StandsFor, durable, IsCause, IsAnswerFor, StandsAsSome};
+ghost use Rattle.project_store.specs.Opening.{StoreMeaning, StandsFor, durable, IsCause, IsAnswerFor, StandsAsSome};
 ghost use Rattle.project_store.specs.Store.{IsBeforeOrAfter, IsDiskFault, HasNoRoomFor, IsTooHeavy, Performs, again, failed_act, met};
 
 use crate::acting::perform;
@@ -82,7 +82,7 @@ pub struct Store<D: Disk> {
 
 impl<D: Disk> Model for Store<D> {
     ghost use Rattle.std.specs.Prelude.{◌≡◌};
-    ghost use Rattle.project_store.specs.Store.{StoreState, IsSound, weight as weight_of_all};
+    ghost use Rattle.project_store.specs.Store.{StoreState, IsSoundStore, weight as weight_of_all};
 
     ghost Value = { StoreState D };
 
@@ -106,7 +106,7 @@ impl<D: Disk> Model for Store<D> {
       count = s.count;
     } };
 
-    ghost invariant = { λ s. IsSound D.told D.bytes_of D.images D.faults (record {
+    ghost invariant = { λ s. IsSoundStore D.told D.bytes_of D.images D.faults (record {
       journal = s.journal;
       core = s.core;
       history = s.history.items;
@@ -117,7 +117,7 @@ impl<D: Disk> Model for Store<D> {
 }
 
 impl<D: Disk> Store<D> {
-    ghost use Rattle.project_store.specs.Store.{IsSound};
+    ghost use Rattle.project_store.specs.Store.{IsSoundStore};
 
     /// Opens the project on a disk. It may stop at any moment, and then the disk stands for what it stood for.
     pub fn start<L: Ledger>(
@@ -130,7 +130,7 @@ impl<D: Disk> Store<D> {
             (λ store. Recovers (D.bytes_of disk) store.base)
             (λ refused. IsCause (D.bytes_of disk) refused.1) }
         // Sides stand for one thing at most, so a start answers exactly that, if the disk doesn't fail and memory is there.
-        ensures exactly { D.told → (meaning : Meaning) → StandsFor (D.bytes_of disk) meaning → MatchResult result
+        ensures exactly { D.told → (meaning : StoreMeaning) → StandsFor (D.bytes_of disk) meaning → MatchResult result
             (λ store. meaning ≡ durable store.base)
             (λ refused. IsAnswerFor meaning refused.1) }
         ensures fits { IfOk result (λ store. (table : List Obligation) × IsTableWithin store.base.built table) }
@@ -301,7 +301,7 @@ impl<D: Disk> Store<D> {
 
     /// What holds of every store.
     pub fn facts(&self)
-        ensures facts { IsSound D.told D.bytes_of D.images D.faults self.now }
+        ensures facts { IsSoundStore D.told D.bytes_of D.images D.faults self.now }
     {
         let _alloc = &self.alloc;
     }
@@ -311,7 +311,7 @@ impl<D: Disk> Store<D> {
         ensures disk { result.0 ≡ self.journal.disk }
         ensures history { result.1.items ≡ self.history }
         ensures durable { result.2 ≡ self.core.durable }
-        ensures facts { IsSound D.told D.bytes_of D.images D.faults self }
+        ensures facts { IsSoundStore D.told D.bytes_of D.images D.faults self }
     {
         let Store {
             alloc: _,

@@ -15,7 +15,7 @@ use Rattle.proof_codec.specs.Private.{IsReadAs, Misses, IsGoodAntecedent}
 use Rattle.proof_codec.specs.Parts.{IsAny, IsPair, pair_bytes, IsOption, option_bytes, IsList, list_bytes}
 use Rattle.proof_codec.specs.Formulas.{formula_bytes, IsGoodFormula}
 use Rattle.proof_codec.specs.Rules.{kind_bytes, IsGoodKind, identifier_bytes, IsGoodIdentifier, antecedent_parts, antecedent_bytes, rule_parts, rule_bytes, IsGoodRule}
-use Rattle.proof_codec.specs.ProofTrees.{tree_bytes, IsGoodTree}
+use Rattle.proof_codec.specs.ProofTrees.{tree_bytes, IsWritableTree}
 use Rattle.proof_codec.specs.Entries.{origin_bytes, proof_parts, proof_bytes, IsGoodProof, old_proof_bytes, IsGoodOldProof}
 
 module _ {A B : Type 0} (P : A → Type 0) (f : A → List ℕ) (parts : B → A) (made : A → B) (back : (y : B) → made (parts y) ≡ y) (forth : (x : A) → parts (made x) ≡ x) (old : List ℕ) where
@@ -70,7 +70,7 @@ pub no_rule : (fault : ReadFault) (old : List ℕ) → Misses IsRules rules_byte
 no_rule fault old bad = made_none IsRules rules_bytes rule_parts rule_of (λ y. refl) (λ x. refl) old fault bad
 
 abbrev IsProofs : Origin × Tree → Type 0
-IsProofs = IsPair IsAny IsGoodTree
+IsProofs = IsPair IsAny IsWritableTree
 
 abbrev proofs_bytes : Origin × Tree → List ℕ
 proofs_bytes = pair_bytes origin_bytes tree_bytes
@@ -87,7 +87,7 @@ pub no_proof : (fault : ReadFault) (old : List ℕ) → Misses IsProofs proofs_b
 no_proof faults.OutOfMemory old bad = tt
 no_proof faults.Bad old bad = record { none = λ z others begins. bad.none (z.origin, z.tree) others (record { good = (tt, begins.good); split = begins.split }) }
 
-pub old_proof_read : (old new : List ℕ) (tree : Tree) → IsReadAs IsGoodTree tree_bytes old tree new → IsReadAs IsGoodOldProof old_proof_bytes old (record { tree = tree; origin = Unknown }) new
+pub old_proof_read : (old new : List ℕ) (tree : Tree) → IsReadAs IsWritableTree tree_bytes old tree new → IsReadAs IsGoodOldProof old_proof_bytes old (record { tree = tree; origin = Unknown }) new
 old_proof_read old new tree read = record {
   here = record { good = (read.here.good, refl); split = read.here.split };
   only = λ z others begins.
@@ -97,6 +97,6 @@ old_proof_read old new tree read = record {
   both : (y z : Proof) → y.tree ≡ z.tree → y.origin ≡ z.origin → y ≡ z
   both y z t o = λ i. record { tree = t i; origin = o i }
 
-pub no_old_proof : (fault : ReadFault) (old : List ℕ) → Misses IsGoodTree tree_bytes old fault → Misses IsGoodOldProof old_proof_bytes old fault
+pub no_old_proof : (fault : ReadFault) (old : List ℕ) → Misses IsWritableTree tree_bytes old fault → Misses IsGoodOldProof old_proof_bytes old fault
 no_old_proof faults.OutOfMemory old bad = tt
 no_old_proof faults.Bad old bad = record { none = λ z others begins. bad.none z.tree others (record { good = begins.good.0; split = begins.split }) }

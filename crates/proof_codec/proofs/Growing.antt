@@ -11,14 +11,14 @@ use Rattle.sequent_core.specs.declared.tree.Tree.TheViews.{rolls-Leaf, rolls-Nod
 use Rattle.proof_codec.specs.Numbers.{IsByte, byte}
 use Rattle.proof_codec.specs.Parts.{IsList, list_bytes}
 use Rattle.proof_codec.specs.Rules.{rule_bytes, IsGoodRule, IsFitRule}
-use Rattle.proof_codec.specs.ProofTrees.{tree_bytes, rules_in, HasChildren, IsTreeOf, IsGoodTree, IsFitTree}
+use Rattle.proof_codec.specs.ProofTrees.{tree_bytes, rules_in, HasChildren, IsTreeOf, IsWritableTree, IsFitTree}
 use Rattle.proof_codec.specs.Private.{HasGoodRules, HasFitRules, AreFitTrees, IsWrittenAs, tree_height}
 use Rattle.proof_codec.proofs.Branches.{bytes_at, rules_at, height_at, each_tree, all_trees}
 
 pub small_rules : (tree : Tree) → IsFitTree tree → HasFitRules tree
 small_rules tree is = is.rules
 
-pub tree_written : (tree : Tree) (old new : List ℕ) → IsFitTree tree → IsWrittenAs HasGoodRules tree_bytes tree old new → IsWrittenAs IsGoodTree tree_bytes tree old new
+pub tree_written : (tree : Tree) (old new : List ℕ) → IsFitTree tree → IsWrittenAs HasGoodRules tree_bytes tree old new → IsWrittenAs IsWritableTree tree_bytes tree old new
 tree_written tree old new is written = record { good = record { rules = written.good; few = is.few }; bytes = written.bytes }
 
 -- what a node that may be written has

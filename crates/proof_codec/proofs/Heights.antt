@@ -10,7 +10,7 @@ use Rattle.sequent_core.specs.Trees.{node_count_step, node_count}
 use Rattle.proof_codec.specs.declared.reader.ReadFault.{ReadFault}
 use Rattle.proof_codec.specs.Forms.{BeginsNone}
 use Rattle.proof_codec.specs.Private.{IsReadAs, Misses, tree_height_step, tree_height, IsTreeWithin}
-use Rattle.proof_codec.specs.ProofTrees.{tree_bytes, IsGoodTree}
+use Rattle.proof_codec.specs.ProofTrees.{tree_bytes, IsWritableTree}
 use Rattle.proof_codec.proofs.Narrow.{narrow_read, narrow_out, narrow_none}
 
 sum-cons : (n : ℕ) (ns : List ℕ) → sum (n ∷ ns) ≡ n + sum ns
@@ -31,14 +31,14 @@ step (NodeF r es) =
 low : (tree : Tree) → tree_height tree ≤ node_count tree
 low = ind-Tree (λ tree. tree_height tree ≤ node_count tree) (λ x y is. let Q : Tree-F Tree → Type 0 = λ z. tree_height (roll-Tree z) ≤ node_count (roll-Tree z) in subst Q is (step y))
 
-fewer : (tree : Tree) → IsGoodTree tree → IsTreeWithin 2048 tree
+fewer : (tree : Tree) → IsWritableTree tree → IsTreeWithin 2048 tree
 fewer tree is = record { rules = is.rules; low = omega (arith, low tree, is.few) }
 
-pub tree_read : (old new : List ℕ) (tree : Tree) → IsReadAs (IsTreeWithin 2048) tree_bytes old tree new → node_count tree ≤ 2048 → IsReadAs IsGoodTree tree_bytes old tree new
-tree_read old new tree read few = narrow_read (IsTreeWithin 2048) IsGoodTree tree_bytes fewer old new tree read (record { rules = read.here.good.rules; few = few })
+pub tree_read : (old new : List ℕ) (tree : Tree) → IsReadAs (IsTreeWithin 2048) tree_bytes old tree new → node_count tree ≤ 2048 → IsReadAs IsWritableTree tree_bytes old tree new
+tree_read old new tree read few = narrow_read (IsTreeWithin 2048) IsWritableTree tree_bytes fewer old new tree read (record { rules = read.here.good.rules; few = few })
 
-pub no_tree : (old new : List ℕ) (tree : Tree) → IsReadAs (IsTreeWithin 2048) tree_bytes old tree new → 2048 < node_count tree → BeginsNone IsGoodTree tree_bytes old
-no_tree old new tree read many = narrow_out (IsTreeWithin 2048) IsGoodTree tree_bytes fewer old new tree read (λ is. omega (arith, is.few, many))
+pub no_tree : (old new : List ℕ) (tree : Tree) → IsReadAs (IsTreeWithin 2048) tree_bytes old tree new → 2048 < node_count tree → BeginsNone IsWritableTree tree_bytes old
+no_tree old new tree read many = narrow_out (IsTreeWithin 2048) IsWritableTree tree_bytes fewer old new tree read (λ is. omega (arith, is.few, many))
 
-pub no_tree_there : (fault : ReadFault) (old : List ℕ) → Misses (IsTreeWithin 2048) tree_bytes old fault → Misses IsGoodTree tree_bytes old fault
-no_tree_there fault old bad = narrow_none (IsTreeWithin 2048) IsGoodTree tree_bytes fewer old old fault bad
+pub no_tree_there : (fault : ReadFault) (old : List ℕ) → Misses (IsTreeWithin 2048) tree_bytes old fault → Misses IsWritableTree tree_bytes old fault
+no_tree_there fault old bad = narrow_none (IsTreeWithin 2048) IsWritableTree tree_bytes fewer old old fault bad

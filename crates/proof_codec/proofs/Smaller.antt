@@ -21,7 +21,7 @@ use Rattle.proof_codec.specs.Parts.{IsAny, IsPair, IsOption, IsList}
 use Rattle.proof_codec.specs.Formulas.{is_type, is_coded_step, is_coded, is_counted_step, is_counted, IsGoodFormula, IsFitFormula}
 use Rattle.proof_codec.specs.Rules.{IsGoodKind, IsFitKind, IsGoodIdentifier, IsFitIdentifier, IsGoodRule, IsFitRule}
 use Rattle.proof_codec.specs.Private.{IsGoodAntecedent, IsFitAntecedent}
-use Rattle.proof_codec.specs.ProofTrees.{rules_in, IsGoodTree, IsFitTree, HasChildren}
+use Rattle.proof_codec.specs.ProofTrees.{rules_in, IsWritableTree, IsFitTree, HasChildren}
 use Rattle.proof_codec.specs.Entries.{IsPoName, IsGoodProof, IsFitProof, IsGoodOldProof, IsFitOldProof, IsEntryBy, IsFitBy, IsEntry, IsWritable, IsOldEntry, IsOldWritable}
 
 mapped : {A : Type 0} → (P Q : A → Type 0) → ((x : A) → P x → Q x) → (xs : List A) → AllByRecursion P xs → AllByRecursion Q xs
@@ -109,7 +109,7 @@ small_rule r is = (
   ),
 )
 
-small_tree : (tree : Tree) → IsGoodTree tree → IsFitTree tree
+small_tree : (tree : Tree) → IsWritableTree tree → IsFitTree tree
 small_tree tree is = record {
   rules = mapped (HasChildren IsGoodRule) (HasChildren IsFitRule) (λ node good. (small_rule node.0 good.0, good.1)) (rules_in tree) is.rules;
   few = is.few;

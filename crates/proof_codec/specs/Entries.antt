@@ -14,7 +14,7 @@ use Rattle.proof_codec.specs.Forms.{BeginsNone}
 use Rattle.proof_codec.specs.Names.{IsGoodName}
 use Rattle.proof_codec.specs.Numbers.{IsText, text_bytes}
 use Rattle.proof_codec.specs.Parts.{IsAny, pair_bytes, IsPair, list_bytes, IsList}
-use Rattle.proof_codec.specs.ProofTrees.{tree_bytes, IsGoodTree, IsFitTree}
+use Rattle.proof_codec.specs.ProofTrees.{tree_bytes, IsWritableTree, IsFitTree}
 
 -- the name of a component has no prime
 abbrev pub IsComponentName : List ℕ → Type 0
@@ -45,7 +45,7 @@ abbrev pub proof_bytes : Proof → List ℕ
 proof_bytes proof = pair_bytes origin_bytes tree_bytes (proof_parts proof)
 
 abbrev pub IsGoodProof : Proof → Type 0
-IsGoodProof proof = IsGoodTree proof.tree
+IsGoodProof proof = IsWritableTree proof.tree
 
 abbrev pub IsFitProof : Proof → Type 0
 IsFitProof proof = IsFitTree proof.tree
@@ -55,7 +55,7 @@ abbrev pub old_proof_bytes : Proof → List ℕ
 old_proof_bytes proof = tree_bytes proof.tree
 
 abbrev pub IsGoodOldProof : Proof → Type 0
-IsGoodOldProof proof = IsGoodTree proof.tree × (proof.origin ≡ Unknown)
+IsGoodOldProof proof = IsWritableTree proof.tree × (proof.origin ≡ Unknown)
 
 abbrev pub IsFitOldProof : Proof → Type 0
 IsFitOldProof proof = IsFitTree proof.tree × (proof.origin ≡ Unknown)

@@ -35,8 +35,8 @@ pub record IsTreeOf (IsOfRule : Rule → Type 0) (tree : Tree) : Type 0 where
   pub rules : AllByRecursion (HasChildren IsOfRule) (rules_in tree)
   pub few : node_count tree ≤ 2048
 
-abbrev pub IsGoodTree : Tree → Type 0
-IsGoodTree = IsTreeOf IsGoodRule
+abbrev pub IsWritableTree : Tree → Type 0
+IsWritableTree = IsTreeOf IsGoodRule
 
 -- a tree that may be written
 abbrev pub IsFitTree : Tree → Type 0

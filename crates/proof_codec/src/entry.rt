@@ -4,7 +4,7 @@ ghost use Rattle.proof_entries.specs.declared.entry.Entry.{Entry};
 ghost use Rattle.proof_codec.specs.Private.{ReadsBy, WritesAs};
 ghost use Rattle.proof_codec.specs.Numbers.{IsText, text_bytes};
 ghost use Rattle.proof_codec.specs.Parts.{IsAny, pair_bytes, IsPair};
-ghost use Rattle.proof_codec.specs.ProofTrees.{tree_bytes, IsGoodTree};
+ghost use Rattle.proof_codec.specs.ProofTrees.{tree_bytes, IsWritableTree};
 ghost use Rattle.proof_codec.specs.Entries.{IsUnprimed, IsShortText, origin_bytes, proof_bytes, IsGoodProof, IsFitProof, old_proof_bytes, IsGoodOldProof, IsFitOldProof, IsComponentName, IsPoName, bytes_by, IsEntryBy, IsFitBy, entry_bytes, IsEntry, IsWritable, old_entry_bytes, IsOldEntry, IsOldWritable, AreEntriesBy, AreEntries, AreOldEntries, IsStuckBy, IsStuck, IsOldStuck};
 
 use crate::coded::{Coded, write_pair};

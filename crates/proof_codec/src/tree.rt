@@ -1,6 +1,6 @@
 // Proof trees as bytes.
 ghost use Rattle.proof_codec.specs.Parts.{list_bytes, IsList};
-ghost use Rattle.proof_codec.specs.ProofTrees.{tree_bytes, IsGoodTree, IsFitTree};
+ghost use Rattle.proof_codec.specs.ProofTrees.{tree_bytes, IsWritableTree, IsFitTree};
 ghost use Rattle.proof_codec.specs.Private.{AreChildren, AreFitTrees, HasGoodRules, HasFitRules, ReadsBy, WritesAs, IsTreeWithin};
 
 use crate::coded::Coded;
@@ -15,7 +15,7 @@ use std::alloc::Global;
 const MOST_NODES: u64 = 2_048;
 
 impl Coded for Tree {
-    ghost IsGood = { IsGoodTree };
+    ghost IsGood = { IsWritableTree };
 
     ghost IsFit = { IsFitTree };
 

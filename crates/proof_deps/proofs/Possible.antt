@@ -27,7 +27,7 @@ use Rattle.sequent_core.specs.Trees.{goal_or, Applies}
 use Rattle.proof_deps.specs.declared.deps.Deps.{Deps}
 use Rattle.proof_deps.specs.declared.found.Found.{Found}
 use Rattle.proof_deps.specs.Deps.{FitsIn}
-use Rattle.proof_deps.specs.Private.{Allows, least, IsPossible}
+use Rattle.proof_deps.specs.Private.{Allows, least_sequent, IsPossible}
 use Rattle.proof_deps.proofs.Carried.{Names, at, itself}
 use Rattle.proof_deps.proofs.Envs.{type_there, stands_or, apart}
 use Rattle.proof_deps.proofs.RuleNames.{Avoids}
@@ -42,7 +42,7 @@ goal_is None other = tt
 goal_is (Some g) other = refl
 
 -- the least sequent has what was found, unless that was impossible
-least_allowed : (d : Found) → HasDistinctNames d.used → IsTrue d.possible → AllByRecursion (λ n. type_in d.used n ≡ None) d.fresh.items → Allows d (least d)
+least_allowed : (d : Found) → HasDistinctNames d.used → IsTrue d.possible → AllByRecursion (λ n. type_in d.used n ≡ None) d.fresh.items → Allows d (least_sequent d)
 least_allowed d distinct possible fresh = record { possible = possible; goal = goal_is d.goal top; hyps = itself d.hyps.items; used = entries_stand d.used distinct; fresh = fresh }
 
 apart_each : (d : Found) (s : Sequent) → Allows d s → AllByRecursion (λ n. type_in d.used n ≡ None) d.fresh.items
@@ -64,7 +64,7 @@ module _ (d : Found) (tree : Tree) (law : (s : Sequent) → (Allows d s → Appl
   allowed = (law s).1 applies
 
   abbrev w : Sequent
-  w = least d
+  w = least_sequent d
 
   w_applies : Applies tree w
   w_applies = (law w).0 (least_allowed d distinct allowed.possible (apart_each d s allowed))
@@ -122,8 +122,8 @@ module _ (d : Found) (tree : Tree) (law : (s : Sequent) → (Allows d s → Appl
   possible_of = record { possible = allowed.possible; apart = apart_each d s allowed; typed = least_typed }
 
 -- where it is possible, the tree applies to the least sequent
-pub least_applies : (d : Found) (tree : Tree) → ((s : Sequent) → (Allows d s → Applies tree s) × (Applies tree s → Allows d s)) → HasDistinctNames d.used → IsPossible d → Applies tree (least d)
-least_applies d tree law distinct p = (law (least d)).0 (least_allowed d distinct p.possible p.apart)
+pub least_applies : (d : Found) (tree : Tree) → ((s : Sequent) → (Allows d s → Applies tree s) × (Applies tree s → Allows d s)) → HasDistinctNames d.used → IsPossible d → Applies tree (least_sequent d)
+least_applies d tree law distinct p = (law (least_sequent d)).0 (least_allowed d distinct p.possible p.apart)
 
 -- dependencies with the parts of what was found
 pub same_parts : (d : Found) (deps : Deps) → IsTrue d.possible → deps.goal ≡ d.goal → deps.hyps ≡ d.hyps.items → deps.used ≡ d.used → deps.fresh ≡ d.fresh.items → (s : Sequent) → Allows d s ↔ FitsIn deps s

@@ -13,7 +13,7 @@ use Rattle.formula_core.proofs.Keeping.{both, front, all_more}
 use Rattle.rule_table.specs.declared.rule.Antecedent.{Antecedent}
 use Rattle.rule_table.specs.declared.rule.Rule.{Rule}
 use Rattle.sequent_core.specs.declared.sequent.Sequent.{Sequent}
-use Rattle.rule_table.specs.Rules.{IsRule, antecedent_formulas, needed_formulas, body_of, terms_of, formulas_of, added_by, names_in, in_order, is_named}
+use Rattle.rule_table.specs.Rules.{IsRule, antecedent_formulas, needed_formulas, body_of, terms_of, formulas_of, added_by, names_in, sorted_by_name, is_named}
 use Rattle.sequent_core.specs.Trees.{IsFresh}
 use Rattle.rule_table.proofs.InOrder.{all_in_order, each_in_order}
 use Rattle.proof_deps.proofs.Carried.{Names, at, names_closed}
@@ -32,11 +32,11 @@ module _ (all added : Names) where
   not_added y = not (is_named added y.0)
 
   abbrev used : Names
-  used = in_order (filter not_added all)
+  used = sorted_by_name (filter not_added all)
 
-  used_or_added : AllByRecursion (Stands (in_order all)) all → (x : List ℕ × Ty) → Contains all x → is_named added x.0 ≡ false → Stands used x
+  used_or_added : AllByRecursion (Stands (sorted_by_name all)) all → (x : List ℕ × Ty) → Contains all x → is_named added x.0 ≡ false → Stands used x
   used_or_added one x c e =
-      at (Stands used) (filter not_added all) x (each_in_order (in_order all) (filter not_added all) (filtered not_added (Stands (in_order all)) all one))
+      at (Stands used) (filter not_added all) x (each_in_order (sorted_by_name all) (filter not_added all) (filtered not_added (Stands (sorted_by_name all)) all one))
       (at (λ y. not_added y ≡ true → Contains (filter not_added all) y) all x (kept not_added all) c (ap not e))
 
   used_keep : (P : List ℕ × Ty → Type 0) → AllByRecursion P all → AllByRecursion P used

@@ -15,26 +15,26 @@ use Rattle.proof_deps.specs.declared.way.Way.TheOpen.{Below as BelowF, Root as R
 use Rattle.proof_deps.specs.declared.way.Way.TheVariants.{Below, Root}
 use Rattle.proof_deps.specs.declared.way.Way.TheViews.{rolls-Below, rolls-Root}
 use Rattle.proof_deps.specs.declared.way.Way.TheFolds.{fold-roll-Way}
-use Rattle.proof_deps.specs.Private.{antecedents_step, antecedents_of, at_end, AreFresh}
+use Rattle.proof_deps.specs.Private.{antecedents_on_step, antecedents_on, at_end, AreFresh}
 
-pub antecedents_of-Below : (a : Bor Antecedent) (outer : Bor Way) → antecedents_of (Below a outer) ≡ a.now ∷ antecedents_of outer.now
-antecedents_of-Below a outer = ap antecedents_of (sym (rolls-Below a outer)) ∙ fold-roll-Way (List Antecedent) antecedents_step (BelowF a outer)
+pub antecedents_of-Below : (a : Bor Antecedent) (outer : Bor Way) → antecedents_on (Below a outer) ≡ a.now ∷ antecedents_on outer.now
+antecedents_of-Below a outer = ap antecedents_on (sym (rolls-Below a outer)) ∙ fold-roll-Way (List Antecedent) antecedents_on_step (BelowF a outer)
 
 module _ (self : Way) (a : Bor Antecedent) (outer : Bor Way) (e : self ≡ Below a outer) where
-  pub way_is : antecedents_of self ≡ a.now ∷ antecedents_of outer.now
-  way_is = ap antecedents_of e ∙ antecedents_of-Below a outer
+  pub way_is : antecedents_on self ≡ a.now ∷ antecedents_on outer.now
+  way_is = ap antecedents_on e ∙ antecedents_of-Below a outer
 
-  pub hyps_under : (near : List Formula) → near ≡ a.now.hyps → (s : Sequent) → (at_end (antecedents_of self) s).hyps ≡ (at_end (antecedents_of outer.now) s).hyps ++ near
-  hyps_under near i s = ap (λ w. (at_end w s).hyps) way_is ∙ ap (λ x. (at_end (antecedents_of outer.now) s).hyps ++ x) (sym i)
+  pub hyps_under : (near : List Formula) → near ≡ a.now.hyps → (s : Sequent) → (at_end (antecedents_on self) s).hyps ≡ (at_end (antecedents_on outer.now) s).hyps ++ near
+  hyps_under near i s = ap (λ w. (at_end w s).hyps) way_is ∙ ap (λ x. (at_end (antecedents_on outer.now) s).hyps ++ x) (sym i)
 
-  pub env_under : (near : List (List ℕ × Ty)) → near ≡ a.now.idents → (s : Sequent) → (at_end (antecedents_of self) s).env ≡ (at_end (antecedents_of outer.now) s).env ++ near
-  env_under near i s = ap (λ w. (at_end w s).env) way_is ∙ ap (λ x. (at_end (antecedents_of outer.now) s).env ++ x) (sym i)
+  pub env_under : (near : List (List ℕ × Ty)) → near ≡ a.now.idents → (s : Sequent) → (at_end (antecedents_on self) s).env ≡ (at_end (antecedents_on outer.now) s).env ++ near
+  env_under near i s = ap (λ w. (at_end w s).env) way_is ∙ ap (λ x. (at_end (antecedents_on outer.now) s).env ++ x) (sym i)
 
-  pub outer_fresh : (s : Sequent) → AreFresh (antecedents_of self) s → AreFresh (antecedents_of outer.now) s
+  pub outer_fresh : (s : Sequent) → AreFresh (antecedents_on self) s → AreFresh (antecedents_on outer.now) s
   outer_fresh s f = (subst (λ w. AreFresh w s) way_is f).1
 
-  pub near_fresh : (near : List (List ℕ × Ty)) → near ≡ a.now.idents → (s : Sequent) → AreFresh (antecedents_of self) s → AllByRecursion (λ x. type_in (at_end (antecedents_of outer.now) s).env x.0 ≡ None) near
-  near_fresh near i s f = subst (AllByRecursion (λ x. type_in (at_end (antecedents_of outer.now) s).env x.0 ≡ None)) (sym i) ((subst (λ w. AreFresh w s) way_is f).0)
+  pub near_fresh : (near : List (List ℕ × Ty)) → near ≡ a.now.idents → (s : Sequent) → AreFresh (antecedents_on self) s → AllByRecursion (λ x. type_in (at_end (antecedents_on outer.now) s).env x.0 ≡ None) near
+  near_fresh near i s f = subst (AllByRecursion (λ x. type_in (at_end (antecedents_on outer.now) s).env x.0 ≡ None)) (sym i) ((subst (λ w. AreFresh w s) way_is f).0)
 
 -- a hypothesis that the nearest antecedent adds
 pub here : (all outer near : List Formula) (f : Formula) (b : Bool) (P : Type 0) → all ≡ outer ++ near → IsTrue b → Contains near f → (Contains all f → IsTrue b ⊎ P) × (IsTrue b ⊎ P → Contains all f)
@@ -84,5 +84,5 @@ pub type_here : (all outer near : List (List ℕ × Ty)) (n : List ℕ) (o rest 
 type_here all outer near n o rest e i f g =
     ap (λ x. type_in x n) e ∙ type_in-append outer near n ∙ ap (option_or (type_in outer n)) (sym i) ∙ swapped outer near n rest o i f g
 
-pub antecedents_of-Root : antecedents_of Root ≡ []
-antecedents_of-Root = ap antecedents_of (sym rolls-Root) ∙ fold-roll-Way (List Antecedent) antecedents_step RootF
+pub antecedents_of-Root : antecedents_on Root ≡ []
+antecedents_of-Root = ap antecedents_on (sym rolls-Root) ∙ fold-roll-Way (List Antecedent) antecedents_on_step RootF

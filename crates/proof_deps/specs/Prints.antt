@@ -19,18 +19,18 @@ root_print_at (Bind binder types parts ty) = 128 + binder_number_of binder
 abbrev pub root_print : Formula → ℕ
 root_print f = root_print_at (out-Formula f)
 
-abbrev pub parts_at : Formula-F Formula → List Formula
-parts_at (Node op parts ty) = parts
-parts_at (Bind binder types parts ty) = parts
-parts_at _ = []
+abbrev pub subformulas_at : Formula-F Formula → List Formula
+subformulas_at (Node op parts ty) = parts
+subformulas_at (Bind binder types parts ty) = parts
+subformulas_at _ = []
 
-abbrev pub parts_of : Formula → List Formula
-parts_of f = parts_at (out-Formula f)
+abbrev pub subformulas_of : Formula → List Formula
+subformulas_of f = subformulas_at (out-Formula f)
 
 -- the number of a root and of its parts
 abbrev pub near_print : Formula → ℕ
-near_print f = fold (λ print part. mixed print (root_print part)) (root_print f) (parts_of f)
+near_print f = fold (λ print part. mixed print (root_print part)) (root_print f) (subformulas_of f)
 
 -- the number of a formula: that of its root, of its parts and of theirs
 abbrev pub print_of : Formula → ℕ
-print_of f = fold (λ print part. mixed print (near_print part)) (root_print f) (parts_of f)
+print_of f = fold (λ print part. mixed print (near_print part)) (root_print f) (subformulas_of f)

@@ -13,13 +13,13 @@ use Rattle.proof_deps.specs.declared.way.Way.{Way}
 use Rattle.proof_deps.specs.declared.way.Way.TheOpen.{Way-F, Root, Below}
 use Rattle.proof_deps.specs.declared.way.Way.TheFolds.{fold-Way}
 
-abbrev pub antecedents_step : Way-F (List Antecedent) → List Antecedent
-antecedents_step Root = []
-antecedents_step (Below a above) = a.now ∷ above.now
+abbrev pub antecedents_on_step : Way-F (List Antecedent) → List Antecedent
+antecedents_on_step Root = []
+antecedents_on_step (Below a above) = a.now ∷ above.now
 
 -- the antecedents on the way to a place, the nearest first
-abbrev pub antecedents_of : Way → List Antecedent
-antecedents_of = fold-Way (List Antecedent) antecedents_step
+abbrev pub antecedents_on : Way → List Antecedent
+antecedents_on = fold-Way (List Antecedent) antecedents_on_step
 
 -- the sequent to which the way leads
 abbrev pub at_end : List Antecedent → Sequent → Sequent
@@ -46,11 +46,11 @@ Narrows way P old new =
     (s : Sequent) → (Allows new s → Allows old s) × (AreFresh way s → Allows old s → (Allows new s → P (at_end way s)) × (P (at_end way s) → Allows new s))
 
 -- the least sequent that has what was found; its goal is ⊤ where none is needed
-abbrev pub least : Found → Sequent
-least d = record { env = d.used; hyps = d.hyps.items; goal = goal_or d.goal top }
+abbrev pub least_sequent : Found → Sequent
+least_sequent d = record { env = d.used; hyps = d.hyps.items; goal = goal_or d.goal top }
 
 -- some sequent has what was found: no fresh name is used, and the least that has it is a sequent
 pub record IsPossible (d : Found) : Type 0 where
   pub possible : IsTrue d.possible
   pub apart : AllByRecursion (λ name. type_in d.used name ≡ None) d.fresh.items
-  pub typed : IsSequent (least d)
+  pub typed : IsSequent (least_sequent d)

@@ -5,7 +5,7 @@ ghost use Rattle.formula_core.specs.Env.{type_in};
 ghost use Rattle.formula_core.specs.Typed.{Stands};
 ghost use Rattle.sequent_core.specs.declared.sequent.Sequent.{Sequent};
 ghost use Rattle.sequent_core.specs.Trees.{Meets};
-ghost use Rattle.proof_deps.specs.Private.{antecedents_of, Allows, Narrows};
+ghost use Rattle.proof_deps.specs.Private.{antecedents_on, Allows, Narrows};
 
 use crate::print::print;
 use crate::way::Way;
@@ -47,7 +47,7 @@ impl Found {
         rule: &Rule,
         way: &Way<'_>,
     ) -> Result<(), OutOfMemory>
-        ensures { OnOk result (Narrows (antecedents_of way.now) (Meets rule.now) self.old self.new) }
+        ensures { OnOk result (Narrows (antecedents_on way.now) (Meets rule.now) self.old self.new) }
     {
         self.need_goal(alloc, &rule.needed_goal, way)?;
         self.need_hyps(alloc, rule.needed_hyps.items(), way)?;
@@ -62,7 +62,7 @@ impl Found {
         added: &[(Name, Ty)],
         way: &Way<'_>,
     ) -> Result<(), OutOfMemory>
-        ensures { OnOk result (Narrows (antecedents_of way.now)
+        ensures { OnOk result (Narrows (antecedents_on way.now)
             (λ s. AllByRecursion (λ x. type_in s.env x.0 ≡ None) added.now) self.old self.new) }
     {
         for identifier in added {
@@ -77,7 +77,7 @@ impl Found {
         wanted: &Option<Formula>,
         way: &Way<'_>,
     ) -> Result<(), OutOfMemory>
-        ensures { OnOk result (Narrows (antecedents_of way.now)
+        ensures { OnOk result (Narrows (antecedents_on way.now)
             (λ s. IfSome wanted.now (λ g. g ≡ s.goal)) self.old self.new) }
     {
         let Some(goal) = wanted else {
@@ -105,7 +105,7 @@ impl Found {
         wanted: &[Formula],
         way: &Way<'_>,
     ) -> Result<(), OutOfMemory>
-        ensures { OnOk result (Narrows (antecedents_of way.now)
+        ensures { OnOk result (Narrows (antecedents_on way.now)
             (λ s. AllByRecursion (Contains s.hyps) wanted.now) self.old self.new) }
     {
         for formula in wanted {
@@ -120,7 +120,7 @@ impl Found {
         formula: &Formula,
         way: &Way<'_>,
     ) -> Result<(), OutOfMemory>
-        ensures { OnOk result (Narrows (antecedents_of way.now) (λ s. Contains s.hyps formula.now) self.old self.new) }
+        ensures { OnOk result (Narrows (antecedents_on way.now) (λ s. Contains s.hyps formula.now) self.old self.new) }
     {
         if way.adds(formula) {
             return Ok(());
@@ -154,7 +154,7 @@ impl Found {
         wanted: &[(Name, Ty)],
         way: &Way<'_>,
     ) -> Result<(), OutOfMemory>
-        ensures { OnOk result (Narrows (antecedents_of way.now)
+        ensures { OnOk result (Narrows (antecedents_on way.now)
             (λ s. AllByRecursion (Stands s.env) wanted.now) self.old self.new) }
     {
         for identifier in wanted {
@@ -170,7 +170,7 @@ impl Found {
         ty: &Ty,
         way: &Way<'_>,
     ) -> Result<(), OutOfMemory>
-        ensures { OnOk result (Narrows (antecedents_of way.now)
+        ensures { OnOk result (Narrows (antecedents_on way.now)
             (λ s. Stands s.env (name.now, ty.now)) self.old self.new) }
     {
         if let Some(known) = way.type_of(name) {
@@ -190,7 +190,7 @@ impl Found {
     }
 
     fn need_new(&mut self, alloc: Global, name: &Name, way: &Way<'_>) -> Result<(), OutOfMemory>
-        ensures { OnOk result (Narrows (antecedents_of way.now)
+        ensures { OnOk result (Narrows (antecedents_on way.now)
             (λ s. type_in s.env name.now ≡ None) self.old self.new) }
     {
         if way.type_of(name).is_some() {

@@ -5,7 +5,7 @@ ghost use Rattle.sequent_core.specs.PrivateChildren.{EachApplies};
 ghost use Rattle.sequent_core.specs.Sequents.{IsSequent};
 ghost use Rattle.sequent_core.specs.Trees.{Applies, IsFresh, extended};
 ghost use Rattle.proof_deps.specs.Deps.{AreDepsOf};
-ghost use Rattle.proof_deps.specs.Private.{antecedents_of, Narrows};
+ghost use Rattle.proof_deps.specs.Private.{antecedents_on, Narrows};
 
 use crate::deps::Deps;
 use crate::found::Found;
@@ -28,7 +28,7 @@ pub fn of(alloc: Global, tree: &Tree) -> Result<Option<Deps>, OutOfMemory>
 
 #[cycle(gather)]
 fn gather(alloc: Global, tree: &Tree, way: &Way<'_>, found: &mut Found) -> Result<(), OutOfMemory>
-    ensures { OnOk result (Narrows (antecedents_of way.now) (Applies tree.now) found.old found.new) }
+    ensures { OnOk result (Narrows (antecedents_on way.now) (Applies tree.now) found.old found.new) }
 {
     match tree {
         Tree::Leaf => Ok(()),
@@ -58,7 +58,7 @@ fn gather_each(
     way: &Way<'_>,
     found: &mut Found,
 ) -> Result<(), OutOfMemory>
-    ensures { OnOk result (Narrows (antecedents_of way.now)
+    ensures { OnOk result (Narrows (antecedents_on way.now)
         (EachApplies trees.now antecedents.now) found.old found.new) }
 {
     if trees.len() != antecedents.len() {
@@ -79,7 +79,7 @@ fn gather_below(
     way: &Way<'_>,
     found: &mut Found,
 ) -> Result<(), OutOfMemory>
-    ensures { OnOk result (Narrows (antecedents_of way.now)
+    ensures { OnOk result (Narrows (antecedents_on way.now)
         (λ s. IsFresh s antecedent.now × Applies tree.now (extended s antecedent.now)) found.old found.new) }
 {
     found.need_fresh(alloc, antecedent.idents.items(), &*way)?;

@@ -1,6 +1,6 @@
 //! Numbers of formulas, by which they are found in lists.
 ghost use Rattle.std.specs.Prelude.{◌≡◌, ◌*◌, ◌+◌, ◌%◌, ◌^◌, map, fold, unsigned_abs, IfOk};
-ghost use Rattle.proof_deps.specs.Prints.{mixed, root_print, near_print, print_of, parts_of};
+ghost use Rattle.proof_deps.specs.Prints.{mixed, root_print, near_print, print_of, subformulas_of};
 
 use formula_core::{Formula, List, Name, OutOfMemory};
 use std::alloc::Global;
@@ -56,7 +56,7 @@ fn root_print(formula: &Formula) -> u64
 }
 
 fn parts_of(formula: &Formula) -> &[Formula]
-    ensures { result.now ≡ parts_of formula.now }
+    ensures { result.now ≡ subformulas_of formula.now }
 {
     match formula {
         Formula::Node(_, parts, _) => parts.items(),

@@ -4,7 +4,7 @@ ghost use Rattle.std.specs.Option.{option_copied, option_or};
 ghost use Rattle.formula_core.specs.Env.{type_in};
 ghost use Rattle.sequent_core.specs.declared.sequent.Sequent.{Sequent};
 ghost use Rattle.sequent_core.specs.Trees.{goal_or};
-ghost use Rattle.proof_deps.specs.Private.{antecedents_of, at_end, AreFresh};
+ghost use Rattle.proof_deps.specs.Private.{antecedents_on, at_end, AreFresh};
 
 use formula_core::{Formula, Name, Ty};
 use sequent_core::Antecedent;
@@ -19,7 +19,7 @@ pub enum Way<'a> {
 impl Way<'_> {
     /// The goal at its end, if an antecedent on it has one.
     pub fn goal(&self) -> Option<&Formula>
-        ensures { (s : Sequent) → (at_end (antecedents_of self.now) s).goal ≡ goal_or (option_copied result) s.goal }
+        ensures { (s : Sequent) → (at_end (antecedents_on self.now) s).goal ≡ goal_or (option_copied result) s.goal }
     {
         match self {
             Way::Root => None,
@@ -32,7 +32,7 @@ impl Way<'_> {
 
     /// Whether an antecedent on it adds the hypothesis.
     pub fn adds(&self, formula: &Formula) -> bool
-        ensures { (s : Sequent) → Contains (at_end (antecedents_of self.now) s).hyps formula.now
+        ensures { (s : Sequent) → Contains (at_end (antecedents_on self.now) s).hyps formula.now
             ↔ (IsTrue result ⊎ Contains s.hyps formula.now) }
     {
         match self {
@@ -45,8 +45,8 @@ impl Way<'_> {
 
     /// The type with which an antecedent on it adds the name.
     pub fn type_of(&self, name: &Name) -> Option<&Ty>
-        ensures { (s : Sequent) → AreFresh (antecedents_of self.now) s
-            → type_in (at_end (antecedents_of self.now) s).env name.now
+        ensures { (s : Sequent) → AreFresh (antecedents_on self.now) s
+            → type_in (at_end (antecedents_on self.now) s).env name.now
             ≡ option_or (option_copied result) (type_in s.env name.now) }
     {
         match self {

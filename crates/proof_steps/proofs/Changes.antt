@@ -11,7 +11,7 @@ use Rattle.sequent_core.specs.declared.tree.Tree.TheVariants.{Leaf}
 use Rattle.sequent_core.specs.PrivateChildren.{EachApplies}
 use Rattle.sequent_core.specs.Trees.{extended, IsFresh, Applies}
 use Rattle.sequent_core.proofs.Nodes.{leaf_applies, node_applies, applied_rule}
-use Rattle.proof_steps.specs.Places.{node_at, node_of, if_leaf, child_of, leaf_at, change_at, with_child, put, with_leaves, grown, AppliesTo}
+use Rattle.proof_steps.specs.Places.{rule_and_children_at, node_of, if_leaf, child_of, leaf_at, change_at, with_child, put, with_leaves, grown, AppliesTo}
 use Rattle.proof_steps.proofs.Nodes.{node_is, leaf_is}
 use Rattle.proof_steps.proofs.Descent.{child_is, leaf_below}
 
@@ -30,7 +30,7 @@ module _ (part : Tree) (i : ℕ) (path : List ℕ) (t : Tree) (s : Sequent) (app
   put_in : (x : Tree-F Tree) → out-Tree t ≡ x → Applies (with_child i (put path part) x) s
   put_in LeafF e = leaf_applies s
   put_in (NodeF r trees) e =
-      let node : node_of t ≡ Some (r, trees) = ap node_at e in
+      let node : node_of t ≡ Some (r, trees) = ap rule_and_children_at e in
       let parts = applied_rule r trees s (subst (λ x. Applies x s) (node_is t (r, trees) node) applied) in
       node_applies r (change_at i (put path part) trees) s parts.0 parts.1
       (each_change trees r.antecedents s i (put path part) parts.2 (λ a child f g applies. keep a child (child_is t r trees i a child node f g) applies))

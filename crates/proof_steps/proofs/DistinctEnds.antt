@@ -10,7 +10,7 @@ use Rattle.formula_core.specs.Env.{HasDistinctNames, type_in}
 use Rattle.formula_core.proofs.Distinct.{distinct_with_new}
 use Rattle.rule_table.specs.declared.rule.Antecedent.{Antecedent}
 use Rattle.sequent_core.specs.declared.sequent.Sequent.{Sequent}
-use Rattle.proof_steps.specs.Private.{AreDistinct}
+use Rattle.proof_steps.specs.Private.{HaveDistinctIdentifiers}
 use Rattle.proof_tree.specs.Ways.{at_end, AreFresh}
 use Rattle.proof_tree.proofs.WayEnds.{type_in-append}
 
@@ -39,6 +39,6 @@ distinct_append env (x ∷ ids) d f e =
     subst HasDistinctNames (append_assoc env (x ∷ []) ids)
     (distinct_append (env ++ x ∷ []) ids (distinct_with_new env x.0 x.1 d (ap is_some f.0)) (still_new env ids x e.0 f.1) e.1)
 
-pub distinct_at_end : (way : List Antecedent) (s : Sequent) → HasDistinctNames s.env → AreFresh way s → AreDistinct way → HasDistinctNames (at_end way s).env
+pub distinct_at_end : (way : List Antecedent) (s : Sequent) → HasDistinctNames s.env → AreFresh way s → HaveDistinctIdentifiers way → HasDistinctNames (at_end way s).env
 distinct_at_end [] s d f a = d
 distinct_at_end (x ∷ above) s d f a = distinct_append (at_end above s).env x.idents (distinct_at_end above s d f.1 a.1) f.0 a.0

@@ -5,16 +5,16 @@ use Rattle.sequent_core.specs.declared.tree.Tree.{Tree, out-Tree, roll-Tree}
 use Rattle.sequent_core.specs.declared.tree.Tree.TheOpen.{Tree-F, Leaf as LeafF, Node as NodeF}
 use Rattle.sequent_core.specs.declared.tree.Tree.TheVariants.{Leaf, Node}
 use Rattle.sequent_core.specs.declared.tree.Tree.TheViews.{roll-out-Tree, rolls-Leaf, rolls-Node, outs-Leaf, outs-Node}
-use Rattle.proof_steps.specs.Places.{node_at, node_of, if_leaf_at, if_leaf}
+use Rattle.proof_steps.specs.Places.{rule_and_children_at, node_of, if_leaf_at, if_leaf}
 
 pub node_of-Leaf : node_of Leaf ≡ None
-node_of-Leaf = ap node_at outs-Leaf
+node_of-Leaf = ap rule_and_children_at outs-Leaf
 
 pub node_of-Node : (r : Rule) (trees : List Tree) → node_of (Node r trees) ≡ Some (r, trees)
-node_of-Node r trees = ap node_at (outs-Node r trees)
+node_of-Node r trees = ap rule_and_children_at (outs-Node r trees)
 
 -- a tree with a node at its root
-node_in : (x : Tree-F Tree) (n : Rule × List Tree) → node_at x ≡ Some n → roll-Tree x ≡ Node n.0 n.1
+node_in : (x : Tree-F Tree) (n : Rule × List Tree) → rule_and_children_at x ≡ Some n → roll-Tree x ≡ Node n.0 n.1
 node_in LeafF n e = cc
 node_in (NodeF r trees) n e = let same : (r, trees) ≡ n = cc in rolls-Node r trees ∙ ap (λ m. Node m.0 m.1) same
 

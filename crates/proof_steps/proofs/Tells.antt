@@ -10,21 +10,21 @@ use Rattle.proof_tree.proofs.WayEnds.{root_end}
 use Rattle.proof_steps.specs.declared.steps.StepFault.{StepFault}
 use Rattle.proof_steps.specs.declared.steps.StepFault.TheVariants.{NoFit}
 use Rattle.proof_steps.specs.Places.{AppliesTo, leaf_at}
-use Rattle.proof_steps.specs.Private.{Tells}
+use Rattle.proof_steps.specs.Private.{TellsFit}
 
 -- at the root
 pub told_at : (t : Tree) (items path : List ℕ) (s : Sequent) (r : Rule) (told : Result ⊤ StepFault) → items ≡ path
-    → Tells (leaf_at items t (at_end (antecedents_of Root) s)) r told → Tells (leaf_at path t s) r told
-told_at t items path s r told e h = subst (λ p. Tells (leaf_at p t s) r told) e (subst (λ w. Tells (leaf_at items t w) r told) (root_end s) h)
+    → TellsFit (leaf_at items t (at_end (antecedents_of Root) s)) r told → TellsFit (leaf_at path t s) r told
+told_at t items path s r told e h = subst (λ p. TellsFit (leaf_at p t s) r told) e (subst (λ w. TellsFit (leaf_at items t w) r told) (root_end s) h)
 
 module _ (r : Rule) where
-  pub told_fit : (o : Option Sequent) (done : ⊤) → Tells o r (Ok done) → (at : Sequent) × (o ≡ Some at) × AppliesTo r at
+  pub told_fit : (o : Option Sequent) (done : ⊤) → TellsFit o r (Ok done) → (at : Sequent) × (o ≡ Some at) × AppliesTo r at
   told_fit None done t = cc
   told_fit (Some at) done t = (at, refl, t)
 
-  other_fit : (o : Option Sequent) → Tells o r (Err NoFit) → (at : Sequent) × (o ≡ Some at) × (AppliesTo r at → ⊥)
+  other_fit : (o : Option Sequent) → TellsFit o r (Err NoFit) → (at : Sequent) × (o ≡ Some at) × (AppliesTo r at → ⊥)
   other_fit None t = cc
   other_fit (Some at) t = (at, refl, t)
 
-  pub told_no_fit : (o : Option Sequent) (fault : StepFault) → fault ≡ NoFit → Tells o r (Err fault) → (at : Sequent) × (o ≡ Some at) × (AppliesTo r at → ⊥)
-  told_no_fit o fault e t = other_fit o (subst (λ f. Tells o r (Err f)) e t)
+  pub told_no_fit : (o : Option Sequent) (fault : StepFault) → fault ≡ NoFit → TellsFit o r (Err fault) → (at : Sequent) × (o ≡ Some at) × (AppliesTo r at → ⊥)
+  told_no_fit o fault e t = other_fit o (subst (λ f. TellsFit o r (Err f)) e t)

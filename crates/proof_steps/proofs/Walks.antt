@@ -6,7 +6,7 @@ use Rattle.sequent_core.specs.declared.tree.Tree.{Tree}
 use Rattle.sequent_core.specs.Trees.{Applies}
 use Rattle.proof_tree.specs.Ways.{at_end, AreFresh}
 use Rattle.proof_steps.specs.Places.{if_leaf, child_of, leaf_at}
-use Rattle.proof_steps.specs.Private.{AreDistinct}
+use Rattle.proof_steps.specs.Private.{HaveDistinctIdentifiers}
 use Rattle.proof_steps.proofs.Descent.{child_applies, leaf_below, leaf_nowhere}
 use Rattle.proof_steps.proofs.Rules.{first_of}
 
@@ -37,5 +37,5 @@ module _ (t : Tree) (path : List ℕ) (s : Sequent) (way under : List Antecedent
   pub below_applies : Applies t (at_end way s) → Applies child (at_end under s)
   below_applies applied = subst (λ w. Applies child (at_end w s)) (sym is) (child_applies (get_or path 0 0) t (a, child) (at_end way s) applied found).1
 
-  pub below_distinct : AreDistinct way → Applies t (at_end way s) → AreDistinct under
-  below_distinct distinct applied = subst AreDistinct (sym is) ((child_applies (get_or path 0 0) t (a, child) (at_end way s) applied found).2, distinct)
+  pub below_distinct : HaveDistinctIdentifiers way → Applies t (at_end way s) → HaveDistinctIdentifiers under
+  below_distinct distinct applied = subst HaveDistinctIdentifiers (sym is) ((child_applies (get_or path 0 0) t (a, child) (at_end way s) applied found).2, distinct)

@@ -20,11 +20,11 @@ use Rattle.sequent_core.specs.declared.tree.Tree.TheFolds.{fold-roll-Tree}
 use Rattle.sequent_core.specs.PrivateChildren.{EachApplies}
 use Rattle.sequent_core.specs.Trees.{goal_or, extended, Meets, Applies}
 use Rattle.sequent_core.proofs.Nodes.{all_first, all_last, leaf_applies, node_applies, applied_rule}
-use Rattle.proof_steps.specs.Laws.{names_of, introduced_step, introduced, AreNewStill, IsLarger}
+use Rattle.proof_steps.specs.Laws.{introduced_names, introduced_step, introduced, AreNewStill, IsLarger}
 use Rattle.proof_steps.proofs.Induction.{tree_induction}
 use Rattle.proof_tree.proofs.WayEnds.{type_in-append}
 
-introduced-Node : (r : Rule) (trees : List Tree) → introduced (Node r trees) ≡ joined (map names_of r.antecedents) ++ joined (map introduced trees)
+introduced-Node : (r : Rule) (trees : List Tree) → introduced (Node r trees) ≡ joined (map introduced_names r.antecedents) ++ joined (map introduced trees)
 introduced-Node r trees = ap introduced (sym (rolls-Node r trees)) ∙ fold-roll-Tree (List (List ℕ)) introduced_step (NodeF r trees)
 
 module _ {X : Type 0} {P Q : X → Type 0} (f : (x : X) → P x → Q x) where
@@ -55,7 +55,7 @@ named_among env larger (x ∷ ids) n t new e h =
     (λ r. named_among env larger ids n t new.1 r h) e
 
 module _ (s w : Sequent) (a : Antecedent) where
-  stands_below : ((x : List ℕ × Ty) → Stands s.env x → Stands w.env x) → AreNewStill s.env w.env (names_of a)
+  stands_below : ((x : List ℕ × Ty) → Stands s.env x → Stands w.env x) → AreNewStill s.env w.env (introduced_names a)
       → (x : List ℕ × Ty) → Stands (s.env ++ a.idents) x → Stands (w.env ++ a.idents) x
   stands_below old new x h = by (type_in s.env x.0) refl where
     whole : option_or (type_in s.env x.0) (type_in a.idents x.0) ≡ Some x.1
@@ -75,7 +75,7 @@ module _ (s w : Sequent) (a : Antecedent) where
       (let parts = option_or_none (type_in s.env n) (type_in a.idents n) (sym (type_in-append s.env a.idents n) ∙ none) in
       type_in-append w.env a.idents n ∙ both_none (type_in w.env n) (type_in a.idents n) (keep parts.0) parts.1)) names new
 
-  larger_below : (names : List (List ℕ)) → IsLarger (names_of a) s w → AreNewStill s.env w.env names → IsLarger names (extended s a) (extended w a)
+  larger_below : (names : List (List ℕ)) → IsLarger (introduced_names a) s w → AreNewStill s.env w.env names → IsLarger names (extended s a) (extended w a)
   larger_below names l new = record {
     goal = ap (goal_or a.goal) l.goal;
     hyps = λ f c. ⊎_elim (λ d. Contains-append_left w.hyps a.hyps f (l.hyps f d)) (λ d. Contains-append_right w.hyps a.hyps f d) (Contains-append_cases s.hyps a.hyps f c);
@@ -96,17 +96,17 @@ with_names : (names other : List (List ℕ)) (s w : Sequent) → IsLarger names 
 with_names names other s w l new = record { goal = l.goal; hyps = l.hyps; env = l.env; new = new }
 
 each_weakens : (trees : List Tree) (ants : List Antecedent) (names : List (List ℕ)) (s w : Sequent) → IsLarger names s w → AllByRecursion Weakens trees
-    → AreNewStill s.env w.env (joined (map names_of ants)) → AreNewStill s.env w.env (joined (map introduced trees)) → EachApplies trees ants s → EachApplies trees ants w
+    → AreNewStill s.env w.env (joined (map introduced_names ants)) → AreNewStill s.env w.env (joined (map introduced trees)) → EachApplies trees ants s → EachApplies trees ants w
 each_weakens [] [] names s w l h m n e = tt
 each_weakens [] (a ∷ ants) names s w l h m n e = absurd e
 each_weakens (t ∷ trees) [] names s w l h m n e = absurd e
 each_weakens (t ∷ trees) (a ∷ ants) names s w l h m n e =
-    let near : AreNewStill s.env w.env (names_of a) = all_first (λ k. type_in s.env k ≡ None → type_in w.env k ≡ None) (names_of a) (joined (map names_of ants)) m in
+    let near : AreNewStill s.env w.env (introduced_names a) = all_first (λ k. type_in s.env k ≡ None → type_in w.env k ≡ None) (introduced_names a) (joined (map introduced_names ants)) m in
     let own : AreNewStill s.env w.env (introduced t) = all_first (λ k. type_in s.env k ≡ None → type_in w.env k ≡ None) (introduced t) (joined (map introduced trees)) n in (
       fresh_still s w a.idents near e.0,
-      h.0 (extended s a) (extended w a) (larger_below s w a (introduced t) (with_names names (names_of a) s w l near) own) e.1,
+      h.0 (extended s a) (extended w a) (larger_below s w a (introduced t) (with_names names (introduced_names a) s w l near) own) e.1,
       each_weakens trees ants names s w l h.1
-          (all_last (λ k. type_in s.env k ≡ None → type_in w.env k ≡ None) (names_of a) (joined (map names_of ants)) m)
+          (all_last (λ k. type_in s.env k ≡ None → type_in w.env k ≡ None) (introduced_names a) (joined (map introduced_names ants)) m)
           (all_last (λ k. type_in s.env k ≡ None → type_in w.env k ≡ None) (introduced t) (joined (map introduced trees)) n) e.2,
     )
 
@@ -120,11 +120,11 @@ meets_still r names s w l m = record {
 node_weakens : (r : Rule) (trees : List Tree) → AllByRecursion Weakens trees → Weakens (Node r trees)
 node_weakens r trees h = λ s w l applied.
     let parts = applied_rule r trees s applied in
-    let new : AreNewStill s.env w.env (joined (map names_of r.antecedents) ++ joined (map introduced trees)) = subst (AreNewStill s.env w.env) (introduced-Node r trees) l.new in
+    let new : AreNewStill s.env w.env (joined (map introduced_names r.antecedents) ++ joined (map introduced trees)) = subst (AreNewStill s.env w.env) (introduced-Node r trees) l.new in
     node_applies r trees w parts.0 (meets_still r (introduced (Node r trees)) s w l parts.1)
     (each_weakens trees r.antecedents (introduced (Node r trees)) s w l h
-    (all_first (λ k. type_in s.env k ≡ None → type_in w.env k ≡ None) (joined (map names_of r.antecedents)) (joined (map introduced trees)) new)
-    (all_last (λ k. type_in s.env k ≡ None → type_in w.env k ≡ None) (joined (map names_of r.antecedents)) (joined (map introduced trees)) new) parts.2)
+    (all_first (λ k. type_in s.env k ≡ None → type_in w.env k ≡ None) (joined (map introduced_names r.antecedents)) (joined (map introduced trees)) new)
+    (all_last (λ k. type_in s.env k ≡ None → type_in w.env k ≡ None) (joined (map introduced_names r.antecedents)) (joined (map introduced trees)) new) parts.2)
 
 pub weakens : (t : Tree) (s w : Sequent) → IsLarger (introduced t) s w → Applies t s → Applies t w
 weakens = tree_induction Weakens (λ s w l applied. leaf_applies w) node_weakens

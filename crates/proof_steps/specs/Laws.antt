@@ -13,12 +13,12 @@ use Rattle.sequent_core.specs.declared.tree.Tree.TheOpen.{Tree-F, Leaf, Node}
 use Rattle.sequent_core.specs.declared.tree.Tree.TheFolds.{fold-Tree}
 
 -- the names that an antecedent adds
-abbrev pub names_of : Antecedent → List (List ℕ)
-names_of a = map (λ x. x.0) a.idents
+abbrev pub introduced_names : Antecedent → List (List ℕ)
+introduced_names a = map (λ x. x.0) a.idents
 
 abbrev pub introduced_step : Tree-F (List (List ℕ)) → List (List ℕ)
 introduced_step Leaf = []
-introduced_step (Node r children) = joined (map names_of r.antecedents) ++ joined children
+introduced_step (Node r children) = joined (map introduced_names r.antecedents) ++ joined children
 
 -- the names that the rules of a tree introduce
 abbrev pub introduced : Tree → List (List ℕ)

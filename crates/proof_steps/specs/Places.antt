@@ -11,13 +11,13 @@ use Rattle.sequent_core.specs.declared.tree.Tree.TheOpen.{Tree-F, Leaf, Node}
 use Rattle.sequent_core.specs.declared.tree.Tree.TheVariants as tree
 use Rattle.sequent_core.specs.Trees.{extended, Meets, IsFresh}
 
-abbrev pub node_at : Tree-F Tree → Option (Rule × List Tree)
-node_at Leaf = None
-node_at (Node r children) = Some (r, children)
+abbrev pub rule_and_children_at : Tree-F Tree → Option (Rule × List Tree)
+rule_and_children_at Leaf = None
+rule_and_children_at (Node r children) = Some (r, children)
 
 -- the rule at the root with its children, where the root isn't a leaf
 abbrev pub node_of : Tree → Option (Rule × List Tree)
-node_of t = node_at (out-Tree t)
+node_of t = rule_and_children_at (out-Tree t)
 
 abbrev pub if_leaf_at : {X : Type 0} → Tree-F Tree → X → Option X
 if_leaf_at Leaf x = Some x

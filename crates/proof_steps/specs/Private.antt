@@ -10,14 +10,14 @@ use Rattle.proof_steps.specs.declared.steps.StepFault.TheVariants.{NoLeaf, NoFit
 use Rattle.proof_steps.specs.Places.{AppliesTo}
 
 -- no antecedent adds a name twice
-abbrev pub AreDistinct : List Antecedent → Type 0
-AreDistinct antecedents = AllByRecursion (λ a. HasDistinctNames a.idents) antecedents
+abbrev pub HaveDistinctIdentifiers : List Antecedent → Type 0
+HaveDistinctIdentifiers antecedents = AllByRecursion (λ a. HasDistinctNames a.idents) antecedents
 
 -- what is told of a rule that is tried at a leaf with this sequent, if there is one
-abbrev pub Tells : Option Sequent → Rule → Result ⊤ StepFault → Type 0
-Tells None r told = told ≡ Err NoLeaf
-Tells (Some at) r (Ok done) = AppliesTo r at
-Tells (Some at) r (Err NoLeaf) = ⊥
-Tells (Some at) r (Err NoFit) = AppliesTo r at → ⊥
-Tells (Some at) r (Err TreeFull) = ⊥
-Tells (Some at) r (Err OutOfMemory) = ⊤
+abbrev pub TellsFit : Option Sequent → Rule → Result ⊤ StepFault → Type 0
+TellsFit None r told = told ≡ Err NoLeaf
+TellsFit (Some at) r (Ok done) = AppliesTo r at
+TellsFit (Some at) r (Err NoLeaf) = ⊥
+TellsFit (Some at) r (Err NoFit) = AppliesTo r at → ⊥
+TellsFit (Some at) r (Err TreeFull) = ⊥
+TellsFit (Some at) r (Err OutOfMemory) = ⊤

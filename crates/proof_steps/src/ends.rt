@@ -5,7 +5,7 @@ ghost use Rattle.sequent_core.specs.declared.sequent.Sequent.{Sequent};
 ghost use Rattle.sequent_core.specs.Trees.{IsFresh};
 ghost use Rattle.proof_tree.specs.Ways.{antecedents_of, at_end, AreFresh};
 ghost use Rattle.proof_steps.specs.Places.{AppliesTo};
-ghost use Rattle.proof_steps.specs.Private.{AreDistinct};
+ghost use Rattle.proof_steps.specs.Private.{HaveDistinctIdentifiers};
 
 use formula_core::{Env, Formula, List, Name, OutOfMemory, Ty, copy_formulas, copy_identifiers};
 use proof_tree::Way;
@@ -45,7 +45,7 @@ fn are_fresh(way: &Way<'_>, antecedents: &[Antecedent], sequent: &Sequent) -> bo
 /// The sequent to which the way leads.
 pub fn sequent_at(way: &Way<'_>, alloc: Global, sequent: &Sequent) -> Result<Sequent, OutOfMemory>
     requires fresh { AreFresh (antecedents_of way.now) sequent.now }
-    requires distinct { AreDistinct (antecedents_of way.now) }
+    requires distinct { HaveDistinctIdentifiers (antecedents_of way.now) }
     ensures { IfOk result (λ end. end ≡ at_end (antecedents_of way.now) sequent.now) }
 {
     let mut entries = copy_identifiers(alloc, sequent.env.entries())?.into_vec();

@@ -3,7 +3,7 @@ ghost use Rattle.std.specs.Prelude.{◌≡◌, None, IfOk};
 ghost use Rattle.sequent_core.specs.Trees.{Applies};
 ghost use Rattle.proof_tree.specs.Ways.{antecedents_of, at_end, AreFresh};
 ghost use Rattle.proof_steps.specs.Places.{if_leaf, leaf_at};
-ghost use Rattle.proof_steps.specs.Private.{AreDistinct};
+ghost use Rattle.proof_steps.specs.Private.{HaveDistinctIdentifiers};
 
 use crate::ends::sequent_at;
 use crate::places::child_at;
@@ -37,7 +37,7 @@ fn leaf_below(
     sequent: &Sequent,
 ) -> Result<Option<Sequent>, OutOfMemory>
     requires fresh { AreFresh (antecedents_of way.now) sequent.now }
-    requires distinct { AreDistinct (antecedents_of way.now) }
+    requires distinct { HaveDistinctIdentifiers (antecedents_of way.now) }
     requires applies { Applies tree.now (at_end (antecedents_of way.now) sequent.now) }
     ensures { IfOk result (λ leaf. leaf ≡ leaf_at path.now tree.now (at_end (antecedents_of way.now) sequent.now)) }
 {
@@ -61,7 +61,7 @@ fn leaf_here(
     sequent: &Sequent,
 ) -> Result<Option<Sequent>, OutOfMemory>
     requires fresh { AreFresh (antecedents_of way.now) sequent.now }
-    requires distinct { AreDistinct (antecedents_of way.now) }
+    requires distinct { HaveDistinctIdentifiers (antecedents_of way.now) }
     ensures { IfOk result (λ leaf. leaf ≡ if_leaf tree.now (at_end (antecedents_of way.now) sequent.now)) }
 {
     if !tree.is_leaf() {

@@ -3,7 +3,7 @@ ghost use Rattle.std.specs.Prelude.{◌≡◌, ◌≤◌, ◌<◌, IfOk, OnOk, O
 ghost use Rattle.sequent_core.specs.Trees.{Applies, node_count};
 ghost use Rattle.proof_tree.specs.Ways.{antecedents_of, at_end, AreFresh};
 ghost use Rattle.proof_steps.specs.Places.{AppliesTo, HasLeaf, grown, if_leaf, leaf_at};
-ghost use Rattle.proof_steps.specs.Private.{Tells};
+ghost use Rattle.proof_steps.specs.Private.{TellsFit};
 
 use crate::ends::applies_at;
 use crate::places::{child_at, put};
@@ -100,7 +100,7 @@ fn fits_at(
 ) -> Result<(), StepFault>
     requires fresh { AreFresh (antecedents_of way.now) sequent.now }
     requires applies { Applies tree.now (at_end (antecedents_of way.now) sequent.now) }
-    ensures { Tells (leaf_at path.now tree.now (at_end (antecedents_of way.now) sequent.now)) rule.now result }
+    ensures { TellsFit (leaf_at path.now tree.now (at_end (antecedents_of way.now) sequent.now)) rule.now result }
 {
     let [at, rest @ ..] = path else {
         return fits_here(tree, alloc, &*way, sequent, rule);
@@ -123,7 +123,7 @@ fn fits_here(
     rule: &Rule,
 ) -> Result<(), StepFault>
     requires fresh { AreFresh (antecedents_of way.now) sequent.now }
-    ensures { Tells (if_leaf tree.now (at_end (antecedents_of way.now) sequent.now)) rule.now result }
+    ensures { TellsFit (if_leaf tree.now (at_end (antecedents_of way.now) sequent.now)) rule.now result }
 {
     if !tree.is_leaf() {
         return Err(StepFault::NoLeaf);

@@ -18,8 +18,8 @@ use Rattle.sequent_core.specs.declared.tree.Tree.TheVariants.{Leaf}
 use Rattle.sequent_core.specs.PrivateChildren.{EachApplies}
 use Rattle.sequent_core.specs.Trees.{extended, Applies, IsFresh, node_count, rule_count}
 use Rattle.sequent_core.proofs.Nodes.{leaf_applies, node_applies, node_count-Leaf, node_count-Node, rule_count-Leaf, rule_count-Node}
-use Rattle.proof_strategies.specs.Private.{IsAlone, TellsFault}
-use Rattle.proof_strategies.specs.Strategies.{GivesOne, IfFound, IsRefused}
+use Rattle.proof_strategies.specs.Private.{IsAlone, TellsRuleFault}
+use Rattle.proof_strategies.specs.Strategies.{GivesOne, IfFound, IsRuleRefused}
 
 sum_cons : (x : ℕ) (xs : List ℕ) → sum (x ∷ xs) ≡ x + sum xs
 sum_cons x xs = sum_by-cons (λ n. n) x xs
@@ -70,13 +70,13 @@ module _ (r : Rule) where
   alone_nodes NoProof is = tt
   alone_nodes NoMemory is = tt
 
-  pub alone_refuses : (kind : ℕ) (hint : Hint) (s : Sequent) (x : Attempt) → Answers kind hint s (Ok r) → IsAlone r x → x ≡ NoProof → IsRefused kind hint s
+  pub alone_refuses : (kind : ℕ) (hint : Hint) (s : Sequent) (x : Attempt) → Answers kind hint s (Ok r) → IsAlone r x → x ≡ NoProof → IsRuleRefused kind hint s
   alone_refuses kind hint s (Found tree) made is e = cc
   alone_refuses kind hint s NoProof made many e = inr (r, made, many)
   alone_refuses kind hint s NoMemory made is e = cc
 
   module _ (one : AnswersAreOne) (kind : ℕ) (hint : Hint) (s : Sequent) (made : Answers kind hint s (Ok r)) where
-    not_refused : node_count (with_leaves r) ≤ 2048 → IsRefused kind hint s → ⊥
+    not_refused : node_count (with_leaves r) ≤ 2048 → IsRuleRefused kind hint s → ⊥
     unfolding rule_or
     not_refused few (inl (f, other, why)) = let same : Ok r ≡ Err f = one kind hint s (Ok r) (Err f) (λ e. cc) (λ e. other (cc)) made why in cc
     not_refused few (inr (q, makes, many)) =
@@ -91,17 +91,17 @@ module _ (r : Rule) where
 
 -- why no rule is made, as an attempt
 module _ (fault : RuleFault) (kind : ℕ) (hint : Hint) (s : Sequent) (why : Answers kind hint s (Err fault)) where
-  pub gives_fault : (x : Attempt) → TellsFault fault x → GivesOne kind hint s x
+  pub gives_fault : (x : Attempt) → TellsRuleFault fault x → GivesOne kind hint s x
   gives_fault (Found tree) tells = absurd tells
   gives_fault NoProof other = inl (fault, other, why)
   gives_fault NoMemory tells = tt
 
-  pub fault_refuses : (x : Attempt) → TellsFault fault x → x ≡ NoProof → IsRefused kind hint s
+  pub fault_refuses : (x : Attempt) → TellsRuleFault fault x → x ≡ NoProof → IsRuleRefused kind hint s
   fault_refuses (Found tree) tells e = absurd tells
   fault_refuses NoProof other e = inl (fault, other, why)
   fault_refuses NoMemory tells e = cc
 
-pub finds_none : (fault : RuleFault) (P : Tree → Type 0) (x : Attempt) → TellsFault fault x → IfFound x P
+pub finds_none : (fault : RuleFault) (P : Tree → Type 0) (x : Attempt) → TellsRuleFault fault x → IfFound x P
 finds_none fault P (Found tree) tells = absurd tells
 finds_none fault P NoProof tells = tt
 finds_none fault P NoMemory tells = tt

@@ -10,11 +10,11 @@ use Rattle.sequent_core.proofs.Nodes.{node_count-Leaf, rule_count-Leaf}
 use Rattle.proof_strategies.specs.declared.room.Room.{Room}
 use Rattle.proof_strategies.specs.declared.room.Times.TheVariants.{Once, Again}
 use Rattle.proof_strategies.specs.Growth.{GrowsInto, beside, whole}
-use Rattle.proof_strategies.specs.Private.{Continues, HasGrown}
+use Rattle.proof_strategies.specs.Private.{ContinuesWith, HasGrown}
 use Rattle.proof_strategies.specs.Strategies.{GivesThen, IfFound}
 
 module _ (first second : Sequent → ℕ → Attempt → Type 0) (s : Sequent) (budget : ℕ) where
-  pub gives_then : (start : Tree) (x : Attempt) → first s budget (Found start) → (x ≡ NoProof → ⊥) → IfFound x (Continues second budget start s) → GivesThen first second s budget x
+  pub gives_then : (start : Tree) (x : Attempt) → first s budget (Found start) → (x ≡ NoProof → ⊥) → IfFound x (ContinuesWith second budget start s) → GivesThen first second s budget x
   gives_then start (Found tree) given found goes = (start, goes.0, given, goes.1)
   gives_then start NoProof given found goes = absurd (found (cc))
   gives_then start NoMemory given found goes = tt
@@ -25,7 +25,7 @@ module _ (second : Sequent → ℕ → Attempt → Type 0) (s : Sequent) (budget
   few_rules most = omega (arith, ap (λ r. r.rules) is, most)
 
   module _ (h : HasGrown second Once start s room tree left) where
-    pub continues : Continues second budget start s tree
+    pub continues : ContinuesWith second budget start s tree
     continues = (left, subst (λ r. GrowsInto second Once start s r tree left) is h.grows)
 
     pub continued_rules : rule_count start ≤ budget → rule_count tree ≤ budget

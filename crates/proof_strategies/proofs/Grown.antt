@@ -4,7 +4,7 @@ use Rattle.std.specs.List.{AllByRecursion}
 use Rattle.std.proofs.lemmas.List.{take_more}
 use Rattle.std.proofs.lemmas.List.Sums.{sum-map, sum_by_push, get_or-le-sum_by}
 use Rattle.formula_core.specs.Env.{HasDistinctNames}
-use Rattle.proof_steps.specs.Private.{AreDistinct}
+use Rattle.proof_steps.specs.Private.{HaveDistinctIdentifiers}
 use Rattle.rule_table.specs.declared.rule.Antecedent.{Antecedent}
 use Rattle.rule_table.specs.declared.rule.Rule.{Rule}
 use Rattle.rule_table.specs.Rules.{IsRule}
@@ -22,7 +22,7 @@ use Rattle.proof_strategies.specs.declared.room.Room.{Room}
 use Rattle.proof_strategies.specs.declared.room.Times.{Times}
 use Rattle.proof_strategies.specs.declared.room.Times.TheVariants.{Once, Again}
 use Rattle.proof_strategies.specs.Growth.{GrowsInto, no_rule_left, run_at_leaf, at_rule, EachGrowsInto, no_tree, first_tree, LeafBecomes, refused, too_many, no_rule, once, again, beside, used_up}
-use Rattle.proof_strategies.specs.Private.{HasGrown, HaveGrown, IsLeft, IsPlaced, IsPut, WasTried}
+use Rattle.proof_strategies.specs.Private.{HasGrown, HaveGrown, IsLeft, IsPlacedWithin, IsPut, WasTried}
 
 each_applies : (xs ys : List Tree) (as' bs : List Antecedent) (s : Sequent) → EachApplies xs as' s → EachApplies ys bs s → EachApplies (xs ++ ys) (as' ++ bs) s
 each_applies [] ys [] bs s e f = f
@@ -82,7 +82,7 @@ all_taken (x ∷ xs) (suc i) le = ap (λ ys. x ∷ ys) (all_taken xs i (omega (a
 
 -- what the children of a rule in a tree are
 module _ (tree : Tree) (r : Rule) (trees : List Tree) (s : Sequent) (is : tree ≡ Node r trees) where
-  pub children_apply : Applies tree s → EachApplies trees r.antecedents s × AreDistinct r.antecedents
+  pub children_apply : Applies tree s → EachApplies trees r.antecedents s × HaveDistinctIdentifiers r.antecedents
   children_apply applied = let parts = applied_rule r trees s (subst (λ t. Applies t s) is applied) in (parts.2, parts.0.sound.distinct)
 
   pub children_nodes : node_count tree ≡ sum (map node_count trees) + 1
@@ -91,7 +91,7 @@ module _ (tree : Tree) (r : Rule) (trees : List Tree) (s : Sequent) (is : tree �
 -- the tree at a place, with its antecedent
 module _ (trees : List Tree) (ants : List Antecedent) (s : Sequent) (i : ℕ) (t d : Tree) (a b : Antecedent)
     (lt : i < length trees) (at : t ≡ get_or trees i d) (beside : a ≡ get_or ants i b) where
-  pub child_at : EachApplies trees ants s → AreDistinct ants → IsFresh s a × HasDistinctNames a.idents × Applies t (extended s a)
+  pub child_at : EachApplies trees ants s → HaveDistinctIdentifiers ants → IsFresh s a × HasDistinctNames a.idents × Applies t (extended s a)
   child_at apply distinct =
       let each = each_index trees ants s i d b apply lt in
       let few : i < length ants = omega (arith, lt, each_length trees ants s apply) in
@@ -125,7 +125,7 @@ module _ (gives : Sequent → ℕ → Attempt → Type 0) (s : Sequent) (before 
       less = omega arith;
     })
 
-    pub was_placed : (o : Option Tree) → Applies tree s → rule_count tree ≤ before.rules → node_count tree ≤ 2048 → IsPlaced tree before o after → WasTried gives s before o after
+    pub was_placed : (o : Option Tree) → Applies tree s → rule_count tree ≤ before.rules → node_count tree ≤ 2048 → IsPlacedWithin tree before o after → WasTried gives s before o after
     was_placed None applies rules nodes (inl (is, same)) = was_leaf is same
     was_placed None applies rules nodes (inr (many, same)) = was_large many same
     was_placed (Some t) applies rules nodes (same, gained, fits, room) = subst (λ u. IsPut gives s before u after) (sym same) (record {

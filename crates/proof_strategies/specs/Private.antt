@@ -24,21 +24,21 @@ IsAlone r NoProof = 2048 < node_count (with_leaves r)
 IsAlone r NoMemory = ⊤
 
 -- why no rule is made, as an attempt: no proof, unless memory ran out
-abbrev pub TellsFault : RuleFault → Attempt → Type 0
-TellsFault fault (Found tree) = ⊥
-TellsFault fault NoProof = fault ≡ OutOfMemory → ⊥
-TellsFault fault NoMemory = ⊤
+abbrev pub TellsRuleFault : RuleFault → Attempt → Type 0
+TellsRuleFault fault (Found tree) = ⊥
+TellsRuleFault fault NoProof = fault ≡ OutOfMemory → ⊥
+TellsRuleFault fault NoMemory = ⊤
 
 -- a tree within the budget has grown once
-abbrev pub Continues : (Sequent → ℕ → Attempt → Type 0) → ℕ → Tree → Sequent → Tree → Type 0
-Continues second budget start s tree =
+abbrev pub ContinuesWith : (Sequent → ℕ → Attempt → Type 0) → ℕ → Tree → Sequent → Tree → Type 0
+ContinuesWith second budget start s tree =
     (left : Room) × GrowsInto second Once start s (beside start (whole budget)) tree left
 
 -- what comes of a tree that is found: it is put in, or it is a leaf, or too large
-abbrev pub IsPlaced : Tree → Room → Option Tree → Room → Type 0
-IsPlaced tree before (Some new) after =
+abbrev pub IsPlacedWithin : Tree → Room → Option Tree → Room → Type 0
+IsPlacedWithin tree before (Some new) after =
     (new ≡ tree) × (1 ≤ rule_count tree) × (node_count tree ≤ before.nodes + 1) × (after ≡ beside tree before)
-IsPlaced tree before None after =
+IsPlacedWithin tree before None after =
     ((tree ≡ Leaf) × (after ≡ before)) ⊎ ((before.nodes + 1 < node_count tree) × (after ≡ used_up before))
 
 -- what a strategy gives at a leaf, where it may take its place

@@ -22,16 +22,16 @@ IfFound (Found tree) P = P tree
 IfFound _ P = ⊤
 
 -- no rule is made of a kind and a hint, for another cause than memory, or it leaves too many sequents
-abbrev pub IsRefused : ℕ → Hint → Sequent → Type 0
-IsRefused kind hint s =
+abbrev pub IsRuleRefused : ℕ → Hint → Sequent → Type 0
+IsRuleRefused kind hint s =
     ((f : RuleFault) × (f ≡ OutOfMemory → ⊥) × Answers kind hint s (Err f))
     ⊎ ((r : Rule) × Answers kind hint s (Ok r) × 2048 < node_count (with_leaves r))
 
 -- the rule that is made of a kind and a hint, with a leaf for each sequent that it leaves; no proof exactly where refused
 abbrev pub GivesOne : ℕ → Hint → Sequent → Attempt → Type 0
 GivesOne kind hint s (Found tree) =
-    ¬ IsRefused kind hint s × (r : Rule) × Answers kind hint s (Ok r) × (tree ≡ with_leaves r)
-GivesOne kind hint s NoProof = IsRefused kind hint s
+    ¬ IsRuleRefused kind hint s × (r : Rule) × Answers kind hint s (Ok r) × (tree ≡ with_leaves r)
+GivesOne kind hint s NoProof = IsRuleRefused kind hint s
 GivesOne kind hint s NoMemory = ⊤
 
 -- the first one's tree, grown by the second one with the room that is left; no proof where the first one has none

@@ -2,7 +2,7 @@
 ghost use Rattle.std.specs.Prelude.{◌≡◌, ◌≤◌};
 ghost use Rattle.sequent_core.specs.Trees.{Applies, node_count, rule_count};
 ghost use Rattle.proof_strategies.specs.Growth.{beside, whole};
-ghost use Rattle.proof_strategies.specs.Private.{Continues};
+ghost use Rattle.proof_strategies.specs.Private.{ContinuesWith};
 ghost use Rattle.proof_strategies.specs.Strategies.{GivesOrElse, GivesRepeat, GivesThen, IfFound};
 
 use crate::count::rule_count;
@@ -69,7 +69,7 @@ fn continued<B: Strategy>(
     requires nodes { node_count start.now ≤ 2048 }
     requires most { budget ≤ 2000 }
     ensures found { result ≡ Attempt.NoProof → ⊥ }
-    ensures grows { IfFound result (λ tree. Continues (B.gives second.now) budget start.now sequent.now tree) }
+    ensures grows { IfFound result (λ tree. ContinuesWith (B.gives second.now) budget start.now sequent.now tree) }
     ensures applies { IfFound result (λ tree. Applies tree sequent.now) }
     ensures rules { IfFound result (λ tree. rule_count tree ≤ budget) }
     ensures nodes { IfFound result (λ tree. node_count tree ≤ 2048) }

@@ -1,10 +1,10 @@
 //! Trees that grow at their leaves, from left to right.
 ghost use Rattle.std.specs.Prelude.{◌≡◌, ◌≤◌, IfOk};
 ghost use Rattle.formula_core.specs.Env.{HasDistinctNames};
-ghost use Rattle.proof_steps.specs.Private.{AreDistinct};
+ghost use Rattle.proof_steps.specs.Private.{HaveDistinctIdentifiers};
 ghost use Rattle.sequent_core.specs.PrivateChildren.{EachApplies};
 ghost use Rattle.sequent_core.specs.Trees.{Applies, IsFresh, extended, node_count, rule_count};
-ghost use Rattle.proof_strategies.specs.Private.{HasGrown, HaveGrown, IsPlaced, WasTried};
+ghost use Rattle.proof_strategies.specs.Private.{HasGrown, HaveGrown, IsPlacedWithin, WasTried};
 
 use crate::count::rule_count;
 use crate::ends::extended;
@@ -59,7 +59,7 @@ fn grow_each<S: Strategy>(
     room: &mut Room,
 ) -> Result<List<Tree>, OutOfMemory>
     requires apply { EachApplies trees.now antecedents.now sequent.now }
-    requires distinct { AreDistinct antecedents.now }
+    requires distinct { HaveDistinctIdentifiers antecedents.now }
     requires most { room.old.rules ≤ 2000 }
     ensures { IfOk result (λ new.
         HaveGrown (S.gives strategy.now) times trees.now antecedents.now sequent.now room.old new room.new) }
@@ -146,7 +146,7 @@ fn tried<S: Strategy>(
 /// The tree, where it has a rule and there is room for its nodes; where it has too many, nothing has room any more.
 fn placed(tree: Tree, room: &mut Room) -> Option<Tree>
     requires rules { rule_count tree ≤ room.old.rules }
-    ensures { IsPlaced tree room.old result room.new }
+    ensures { IsPlacedWithin tree room.old result room.new }
 {
     if tree.is_leaf() {
         return None;

@@ -1,7 +1,7 @@
 //! One rule as a strategy.
 ghost use Rattle.std.specs.Prelude.{◌≡◌, IfOk, map};
-ghost use Rattle.proof_strategies.specs.Private.{IsAlone, TellsFault};
-ghost use Rattle.proof_strategies.specs.Strategies.{GivesOne, IsRefused};
+ghost use Rattle.proof_strategies.specs.Private.{IsAlone, TellsRuleFault};
+ghost use Rattle.proof_strategies.specs.Strategies.{GivesOne, IsRuleRefused};
 
 use crate::strategy::Strategy;
 use formula_core::{List, OutOfMemory};
@@ -20,7 +20,7 @@ pub struct One {
 }
 
 impl Strategy for One {
-    ghost may_refuse = { λ p s _. IsRefused p.kind p.hint s };
+    ghost may_refuse = { λ p s _. IsRuleRefused p.kind p.hint s };
 
     ghost gives = { λ p s _ attempt. GivesOne p.kind p.hint s attempt };
 
@@ -36,7 +36,7 @@ impl Strategy for One {
 
 /// No proof, unless memory ran out.
 fn told(fault: &RuleFault) -> Attempt
-    ensures { TellsFault fault.now result }
+    ensures { TellsRuleFault fault.now result }
 {
     match fault {
         RuleFault::OutOfMemory => Attempt::NoMemory,

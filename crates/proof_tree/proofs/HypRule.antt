@@ -10,7 +10,7 @@ use Rattle.rule_table.specs.declared.kind.RuleKind.TheVariants as kind
 use Rattle.rule_table.specs.declared.rule.Body.{Body}
 use Rattle.rule_table.specs.declared.rule.Rule.{Rule}
 use Rattle.rule_table.specs.Rows.{both}
-use Rattle.rule_table.specs.Rules.{names_in, in_order, used_of, IsAllowed, IsRule}
+use Rattle.rule_table.specs.Rules.{names_in, sorted_by_name, used_of, IsAllowed, IsRule}
 use Rattle.rule_table.proofs.InOrder.{all_in_order, each_in_order, filter_added}
 use Rattle.sequent_core.specs.declared.sequent.Sequent.{Sequent}
 use Rattle.sequent_core.specs.declared.tree.Tree.TheVariants.{Node}
@@ -23,8 +23,8 @@ abbrev pub needs : Formula → Body
 needs g = both g (g ∷ []) []
 
 -- its names are those of its two needed formulas
-pub used_by_two : (g : Formula) → used_of kind.Hyp (needs g) ≡ in_order (names_in (g ∷ g ∷ []))
-used_by_two g = ap in_order (filter_added (names_in (g ∷ g ∷ [])))
+pub used_by_two : (g : Formula) → used_of kind.Hyp (needs g) ≡ sorted_by_name (names_in (g ∷ g ∷ []))
+used_by_two g = ap sorted_by_name (filter_added (names_in (g ∷ g ∷ [])))
 
 pub names_twice : (g : Formula) → identifiers g ++ identifiers g ≡ names_in (g ∷ g ∷ [])
 names_twice g = ap (λ n. identifiers g ++ n) (sym (append-nil (identifiers g)))

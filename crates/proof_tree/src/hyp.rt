@@ -2,7 +2,7 @@
 ghost use Rattle.std.specs.Prelude.{◌≡◌, ◌++◌, [], ◌∷◌, Some, Contains, IfOk, OnOk};
 ghost use Rattle.formula_core.specs.Sizes.{IsWithinLimits};
 ghost use Rattle.rule_table.specs.declared.kind.RuleKind.TheVariants as kind;
-ghost use Rattle.rule_table.specs.Rules.{body_of, in_order, names_in, used_of};
+ghost use Rattle.rule_table.specs.Rules.{body_of, sorted_by_name, names_in, used_of};
 ghost use Rattle.sequent_core.specs.declared.sequent.Sequent.{Sequent};
 ghost use Rattle.sequent_core.specs.declared.tree.Tree.TheVariants as tree;
 ghost use Rattle.sequent_core.specs.Sequents.{IsSequent};
@@ -38,7 +38,7 @@ pub fn hypothesis(alloc: Global, goal: &Formula) -> Result<Rule, OutOfMemory>
 /// The names of a goal that is a hypothesis too, each once in byte order.
 #[tactic(auto, using(crate::proofs::HypRule::names_twice))]
 fn used_by(alloc: Global, goal: &Formula) -> Result<List<(Name, Ty)>, OutOfMemory>
-    ensures { IfOk result (λ used. used ≡ in_order (names_in (goal.now ∷ goal.now ∷ []))) }
+    ensures { IfOk result (λ used. used ≡ sorted_by_name (names_in (goal.now ∷ goal.now ∷ []))) }
 {
     let mut names = Vec::new(alloc);
     goal.add_identifiers(alloc, &mut names)?;
@@ -49,7 +49,7 @@ fn used_by(alloc: Global, goal: &Formula) -> Result<List<(Name, Ty)>, OutOfMemor
 }
 
 fn in_order(alloc: Global, names: &[(Name, Ty)]) -> Result<BTreeMap<Name, Ty>, OutOfMemory>
-    ensures { IfOk result (λ sorted. sorted.entries ≡ in_order names.now) }
+    ensures { IfOk result (λ sorted. sorted.entries ≡ sorted_by_name names.now) }
 {
     let mut sorted = BTreeMap::new(alloc);
     for identifier in names {

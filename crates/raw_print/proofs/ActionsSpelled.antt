@@ -17,7 +17,7 @@ use Rattle.math_grammar.specs.Grammar.{item, Reads, Spells}
 use Rattle.math_grammar.specs.Actions.{ref, Targets, last_target, next_target, Values, last_value, next_value, SpellsAction, assigns, applies, chooses_in, chooses_such}
 use Rattle.math_places.specs.Places.{unplaced, unplaced_ref, unplaced_action}
 use Rattle.math_grammar.specs.Characters.{bytes}
-use Rattle.raw_print.specs.Pieces.{Blank, tokens_of, word, close_round, becomes, becomes_such, in_round, behind_commas, separated}
+use Rattle.raw_print.specs.Pieces.{Blank, tokens_of, word_piece, close_round_piece, becomes, becomes_such, in_round, behind_commas, separated_pieces}
 use Rattle.raw_print.specs.Printing.{pieces, target, targets, raw_tokens, action_tokens}
 use Rattle.raw_print.proofs.Grades.{is_predicate, place_sort, fits_expression, at_end, closing}
 use Rattle.raw_print.specs.Back.{AllProper}
@@ -87,23 +87,23 @@ module _ (limit : Option ℕ) where
             (subst (λ s. Values limit others s ((others ++ unplaced e ∷ []) ++ map unplaced (others_own.first ∷ others_own.more))) (back (tokens-append (pieces e) (behind_commas (map pieces (others_own.first ∷ others_own.more))))) all_of);
       }
 
-  all_values : (values : List Raw) → ValuesAgain [] values → Values limit [] (tokens_of (separated (map pieces values))) (map unplaced values)
-  all_values values a = subst (λ vs. Values limit [] (tokens_of (separated (map pieces vs))) (map unplaced vs)) (back a.is) (a.reads [])
+  all_values : (values : List Raw) → ValuesAgain [] values → Values limit [] (tokens_of (separated_pieces (map pieces values))) (map unplaced values)
+  all_values values a = subst (λ vs. Values limit [] (tokens_of (separated_pieces (map pieces vs))) (map unplaced vs)) (back a.is) (a.reads [])
 
   -- the printed tokens of an action that is spelled spell it, without its places
   pub action_spelled : (s : List Item) (a : RawAction) → SpellsAction limit s a → AllProper s → SpellsAction limit (action_tokens a) (unplaced_action a)
   action_spelled s (Assign refs values) (assigns ts vs e) all =
       let names = targets_again ts all in
       let own = values_again vs names.proper.1 in
-      subst (λ u. SpellsAction limit u (Assign (map unplaced_ref refs) (map unplaced values))) (back (tokens-append (targets refs) (Blank ∷ becomes ∷ Blank ∷ separated (map pieces values))))
-      (assigns (all_targets refs _ names sym.Becomes (bytes "≔") (tokens_of (separated (map pieces values)))) (all_values values own) (length-map refs unplaced_ref ∙ e ∙ back (length-map values unplaced)))
+      subst (λ u. SpellsAction limit u (Assign (map unplaced_ref refs) (map unplaced values))) (back (tokens-append (targets refs) (Blank ∷ becomes ∷ Blank ∷ separated_pieces (map pieces values))))
+      (assigns (all_targets refs _ names sym.Becomes (bytes "≔") (tokens_of (separated_pieces (map pieces values)))) (all_values values own) (length-map refs unplaced_ref ∙ e ∙ back (length-map values unplaced)))
   action_spelled s (Apply f a e) (applies {g = g} {n = n} {o = o} is r fit spelled) all =
       let inside = reads_again limit r all.1.1 in
       let argument : Again limit (is_predicate g) a = inside.0 in
       let value : Spells limit hole.Expression (raw_tokens e) (unplaced e) = spelled_again limit hole.Expression _ e refl spelled inside.1.1.1 in
       let behind_it : List Item = item (sym.Close bracket.Round) 0 (bytes ")") ∷ (item sym.Becomes 0 (bytes "≔") ∷ raw_tokens e) in
       let read : Reads limit argument.bare_grade (tokens_of (pieces a) ++ behind_it) (unplaced a) behind_it = subst (λ u. Reads limit argument.bare_grade (tokens_of (pieces a) ++ behind_it) u behind_it) (back argument.is) (argument.bare behind_it (closing refl)) in
-      let text = tokens-append (word n ∷ in_round (pieces a)) (Blank ∷ becomes ∷ Blank ∷ pieces e) ∙ ap (λ u. item sym.Word 0 n ∷ (item (sym.Open bracket.Round) 0 (bytes "(") ∷ u)) (behind (pieces a) (close_round ∷ []) (item sym.Becomes 0 (bytes "≔") ∷ raw_tokens e)) in
+      let text = tokens-append (word_piece n ∷ in_round (pieces a)) (Blank ∷ becomes ∷ Blank ∷ pieces e) ∙ ap (λ u. item sym.Word 0 n ∷ (item (sym.Open bracket.Round) 0 (bytes "(") ∷ u)) (behind (pieces a) (close_round_piece ∷ []) (item sym.Becomes 0 (bytes "≔") ∷ raw_tokens e)) in
       subst (λ u. SpellsAction limit u (Apply (ref n 0) (unplaced a) (unplaced e))) (back text) (applies is read (fits_expression argument.bare_grade (argument.sort ∙ place_sort hole.Expression g refl fit)) value)
   action_spelled s (ChooseIn x e) (chooses_in {n = n} is spelled) all = chooses_in is (spelled_again limit hole.Expression _ e refl spelled all.1.1)
   action_spelled s (ChooseSuch refs t) (chooses_such ts spelled) all =

@@ -12,14 +12,14 @@ use Rattle.formula_core.specs.declared.raw.Raw.TheVariants as raw
 use Rattle.formula_core.specs.declared.raw.Raw.TheViews.{roll-out-RawBound, rolls-Int, rolls-Name, rolls-Node, rolls-Bind}
 use Rattle.formula_core.specs.declared.raw.Raw.TheFolds.{fold-roll-Raw, para-roll-Raw, para-RawBound, para-roll-RawBound, map-RawBound}
 use Rattle.math_grammar.specs.declared.symbols.Symbol.TheVariants as sym
-use Rattle.raw_print.specs.Pieces.{Piece, Token, piece_text, text_of, word}
-use Rattle.raw_print.specs.Printing.{names_in_parts, names_in_step, names_in, Pattern, first_name, pattern_of_parts, pattern_step, pattern, Part, pieces_step, declaration_step, declaration, pieces, node_pieces, bind_pieces}
+use Rattle.raw_print.specs.Pieces.{Piece, Token, piece_text, text_of, word_piece}
+use Rattle.raw_print.specs.Printing.{names_in_parts, names_in_step, pattern_name_count, PatternPrinter, first_name, pattern_of_parts, pattern_step, pattern, PartWithPieces, pieces_step, declaration_step, declaration, pieces, node_pieces, bind_pieces}
 use Rattle.raw_print.specs.Private.{with_pattern, with_pieces, declared}
 
 pub pieces-Int : (n : ℤ) (place : ℕ) → pieces (raw.Int n place) ≡ Token (sym.Number n) (signed_decimal n) ∷ []
 pieces-Int n place = ap pieces (back (rolls-Int n place)) ∙ para-roll-Raw (List Piece) (List Piece) pieces_step declaration_step (IntF n place)
 
-pub pieces-Name : (x : List ℕ) (place : ℕ) → pieces (raw.Name x place) ≡ word x ∷ []
+pub pieces-Name : (x : List ℕ) (place : ℕ) → pieces (raw.Name x place) ≡ word_piece x ∷ []
 pieces-Name x place = ap pieces (back (rolls-Name x place)) ∙ para-roll-Raw (List Piece) (List Piece) pieces_step declaration_step (NameF x place)
 
 pub pieces-Node : (o : RawOp) (parts : List Raw) (place : ℕ) → pieces (raw.Node o parts place) ≡ node_pieces o (map with_pieces parts)
@@ -29,7 +29,7 @@ abbrev layer : List ℕ → Option Raw → ℕ → RawBound-F Raw RawBound
 layer x t place = record { name = x; ty = t; place = place }
 
 of_layer : (x : List ℕ) (t : Option Raw) (place : ℕ)
-    → declaration_step (map-RawBound Raw RawBound Part (RawBound × List Piece) (λ y. (y, pieces y)) (λ y. (y, para-RawBound (List Piece) (List Piece) pieces_step declaration_step y)) (layer x t place)) ≡ declaration x (option_map with_pieces t)
+    → declaration_step (map-RawBound Raw RawBound PartWithPieces (RawBound × List Piece) (λ y. (y, pieces y)) (λ y. (y, para-RawBound (List Piece) (List Piece) pieces_step declaration_step y)) (layer x t place)) ≡ declaration x (option_map with_pieces t)
 of_layer x None place = refl
 of_layer x (Some t) place = refl
 
@@ -51,35 +51,35 @@ pieces-Bind b names parts place =
 abbrev no_names : RawBound-F ℕ ℕ → ℕ
 no_names b = 0
 
-pub names_in-Int : (n : ℤ) (place : ℕ) → names_in (raw.Int n place) ≡ 0
-names_in-Int n place = ap names_in (back (rolls-Int n place)) ∙ fold-roll-Raw ℕ ℕ names_in_step no_names (IntF n place)
+pub names_in-Int : (n : ℤ) (place : ℕ) → pattern_name_count (raw.Int n place) ≡ 0
+names_in-Int n place = ap pattern_name_count (back (rolls-Int n place)) ∙ fold-roll-Raw ℕ ℕ names_in_step no_names (IntF n place)
 
-pub names_in-Name : (x : List ℕ) (place : ℕ) → names_in (raw.Name x place) ≡ 1
-names_in-Name x place = ap names_in (back (rolls-Name x place)) ∙ fold-roll-Raw ℕ ℕ names_in_step no_names (NameF x place)
+pub names_in-Name : (x : List ℕ) (place : ℕ) → pattern_name_count (raw.Name x place) ≡ 1
+names_in-Name x place = ap pattern_name_count (back (rolls-Name x place)) ∙ fold-roll-Raw ℕ ℕ names_in_step no_names (NameF x place)
 
-pub names_in-Node : (o : RawOp) (parts : List Raw) (place : ℕ) → names_in (raw.Node o parts place) ≡ names_in_parts (map names_in parts)
-names_in-Node o parts place = ap names_in (back (rolls-Node o parts place)) ∙ fold-roll-Raw ℕ ℕ names_in_step no_names (NodeF o parts place)
+pub names_in-Node : (o : RawOp) (parts : List Raw) (place : ℕ) → pattern_name_count (raw.Node o parts place) ≡ names_in_parts (map pattern_name_count parts)
+names_in-Node o parts place = ap pattern_name_count (back (rolls-Node o parts place)) ∙ fold-roll-Raw ℕ ℕ names_in_step no_names (NodeF o parts place)
 
-pub names_in-Bind : (b : RawBinder) (names : List RawBound) (parts : List Raw) (place : ℕ) → names_in (raw.Bind b names parts place) ≡ 0
-names_in-Bind b names parts place = ap names_in (back (rolls-Bind b names parts place)) ∙ fold-roll-Raw ℕ ℕ names_in_step no_names (BindF b names parts place)
+pub names_in-Bind : (b : RawBinder) (names : List RawBound) (parts : List Raw) (place : ℕ) → pattern_name_count (raw.Bind b names parts place) ≡ 0
+names_in-Bind b names parts place = ap pattern_name_count (back (rolls-Bind b names parts place)) ∙ fold-roll-Raw ℕ ℕ names_in_step no_names (BindF b names parts place)
 
 abbrev Bare : Type 0
-Bare = RawBound-F (Raw × Pattern) (RawBound-F Raw (Unit {0}) × Unit {0}) → Unit {0}
+Bare = RawBound-F (Raw × PatternPrinter) (RawBound-F Raw (Unit {0}) × Unit {0}) → Unit {0}
 
 abbrev bare : Bare
 bare b = tt
 
 pub pattern-Int : (n : ℤ) (place : ℕ) (names : List (List Piece)) → pattern (raw.Int n place) names ≡ []
-pattern-Int n place names = ap (λ r. pattern r names) (back (rolls-Int n place)) ∙ ap (λ (p : Pattern). p names) (para-roll-Raw Pattern (Unit {0}) pattern_step bare (IntF n place))
+pattern-Int n place names = ap (λ r. pattern r names) (back (rolls-Int n place)) ∙ ap (λ (p : PatternPrinter). p names) (para-roll-Raw PatternPrinter (Unit {0}) pattern_step bare (IntF n place))
 
 pub pattern-Name : (x : List ℕ) (place : ℕ) (names : List (List Piece)) → pattern (raw.Name x place) names ≡ first_name names
-pattern-Name x place names = ap (λ r. pattern r names) (back (rolls-Name x place)) ∙ ap (λ (p : Pattern). p names) (para-roll-Raw Pattern (Unit {0}) pattern_step bare (NameF x place))
+pattern-Name x place names = ap (λ r. pattern r names) (back (rolls-Name x place)) ∙ ap (λ (p : PatternPrinter). p names) (para-roll-Raw PatternPrinter (Unit {0}) pattern_step bare (NameF x place))
 
 pub pattern-Node : (o : RawOp) (parts : List Raw) (place : ℕ) (names : List (List Piece)) → pattern (raw.Node o parts place) names ≡ pattern_of_parts (map with_pattern parts) names
-pattern-Node o parts place names = ap (λ r. pattern r names) (back (rolls-Node o parts place)) ∙ ap (λ (p : Pattern). p names) (para-roll-Raw Pattern (Unit {0}) pattern_step bare (NodeF o parts place))
+pattern-Node o parts place names = ap (λ r. pattern r names) (back (rolls-Node o parts place)) ∙ ap (λ (p : PatternPrinter). p names) (para-roll-Raw PatternPrinter (Unit {0}) pattern_step bare (NodeF o parts place))
 
 pub pattern-Bind : (b : RawBinder) (bound : List RawBound) (parts : List Raw) (place : ℕ) (names : List (List Piece)) → pattern (raw.Bind b bound parts place) names ≡ []
-pattern-Bind b bound parts place names = ap (λ r. pattern r names) (back (rolls-Bind b bound parts place)) ∙ ap (λ (p : Pattern). p names) (para-roll-Raw Pattern (Unit {0}) pattern_step bare (BindF b bound parts place))
+pattern-Bind b bound parts place names = ap (λ r. pattern r names) (back (rolls-Bind b bound parts place)) ∙ ap (λ (p : PatternPrinter). p names) (para-roll-Raw PatternPrinter (Unit {0}) pattern_step bare (BindF b bound parts place))
 
 pub text-append : (ps qs : List Piece) → text_of (ps ++ qs) ≡ text_of ps ++ text_of qs
 text-append [] qs = refl

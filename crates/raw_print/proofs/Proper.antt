@@ -16,10 +16,10 @@ use Rattle.math_grammar.specs.declared.levels.Binding.TheVariants as binding
 use Rattle.math_grammar.specs.declared.symbols.Symbol.{Symbol}
 use Rattle.math_grammar.specs.declared.symbols.Symbol.TheVariants as sym
 use Rattle.math_grammar.specs.Levels.{infix_of, suffix_of, opens, binder_of}
-use Rattle.raw_print.specs.Pieces.{Piece, Blank, Token, between}
+use Rattle.raw_print.specs.Pieces.{Piece, Blank, Token, sign_between}
 use Rattle.math_grammar.specs.Operators.{raw_sign_of, raw_class_of, raw_binder_class_of}
 use Rattle.raw_print.specs.Back.{IsProper}
-use Rattle.raw_print.specs.Printing.{Part, operand, form, is_atomic, pattern, names_in}
+use Rattle.raw_print.specs.Printing.{PartWithPieces, operand_pieces, form, is_atomic, pattern, pattern_name_count}
 use Rattle.raw_print.specs.Private.{declared}
 use Rattle.raw_print.proofs.Equations.{names_in-Node, pattern-Node}
 
@@ -53,7 +53,7 @@ own_symbol sym.Minus l o e is = ap raw_class_of (back (ap op_of e))
 own_symbol (sym.Infix m q) l o e is = ap raw_class_of (back (ap op_of e)) ∙ is
 own_symbol _ l o e is = cc
 
-pub second_form : (x : Symbol) → is_infix x ≡ true → (sign : Piece) (a b : Part) → form x sign (a ∷ b ∷ []) ≡ operand a ++ (Blank ∷ sign ∷ Blank ∷ operand b)
+pub second_form : (x : Symbol) → is_infix x ≡ true → (sign : Piece) (a b : PartWithPieces) → form x sign (a ∷ b ∷ []) ≡ operand_pieces a ++ (Blank ∷ sign ∷ Blank ∷ operand_pieces b)
 second_form sym.Minus h sign a b = refl
 second_form (sym.Infix m q) h sign a b = refl
 second_form _ h sign a b = cc
@@ -81,10 +81,10 @@ form_symbol _ c e is = cc
 
 -- patterns
 pub pattern-pair : (o : RawOp) (l r : Raw) (place : ℕ) (names : List (List Piece)) → pattern (raw.Node o (l ∷ r ∷ []) place) names
-    ≡ between (operand (l, pattern l names)) (Token (raw_class_of (rawop.Plain op.Maplet)) (raw_sign_of (rawop.Plain op.Maplet))) (operand (r, pattern r (drop (names_in l) names)))
+    ≡ sign_between (operand_pieces (l, pattern l names)) (Token (raw_class_of (rawop.Plain op.Maplet)) (raw_sign_of (rawop.Plain op.Maplet))) (operand_pieces (r, pattern r (drop (pattern_name_count l) names)))
 pattern-pair o l r place names = pattern-Node o (l ∷ r ∷ []) place names
 
-pub names_in-pair : (o : RawOp) (l r : Raw) (place : ℕ) → names_in (raw.Node o (l ∷ r ∷ []) place) ≡ names_in l + names_in r
+pub names_in-pair : (o : RawOp) (l r : Raw) (place : ℕ) → pattern_name_count (raw.Node o (l ∷ r ∷ []) place) ≡ pattern_name_count l + pattern_name_count r
 names_in-pair o l r place = names_in-Node o (l ∷ r ∷ []) place
 
 pub map_declared : (bs cs : List RawBound) → map declared (bs ++ cs) ≡ map declared bs ++ map declared cs

@@ -33,14 +33,14 @@ use Rattle.math_grammar.specs.declared.symbols.Symbol.TheVariants as sym
 use Rattle.math_grammar.specs.declared.shapes.Shape.{Shape}
 use Rattle.math_grammar.specs.Levels.{level, right_of, infix_of, fits, grouped, opens, binder_of, implicit_of, binding_grade, takes_names, takes_shape, is_quantified, call_hole, call_grade, call_parts, has_room}
 use Rattle.math_grammar.specs.Tokens.{Item}
-use Rattle.math_grammar.specs.Grammar.{item, place_at, place_of, bound, lone, joined, type_with, between as node_between, Reads, a_name, a_number, a_truth, a_constant, prefixed, two_sides, in_parentheses, called, applied, converted, set_by_members, by_names, by_shape, lambda, Parts, last_one, next_one, TypeOf, last_side, first_side, Bound, bare, of_type, Declares, last_name, next_name, Body, a_predicate, a_value, LastPart, up_to_brace, reaching, Pattern, last_atom, next_atom, Atom, bare_atom, typed_atom, grouped_atom, Spells}
+use Rattle.math_grammar.specs.Grammar.{item, place_at, place_of, bound, lone, joined_shape, type_with, between as node_between, Reads, a_name, a_number, a_truth, a_constant, prefixed, two_sides, in_parentheses, called, applied, converted, set_by_members, by_names, by_shape, lambda, Parts, last_one, next_one, TypeOf, last_side, first_side, Bound, bare, of_type, Declares, last_name, next_name, Body, a_predicate, a_value, LastPart, up_to_brace, reaching, Pattern, last_atom, next_atom, Atom, bare_atom, typed_atom, grouped_atom, Spells}
 use Rattle.math_places.specs.Places.{unplaced}
 use Rattle.math_places.proofs.Equations.{unplaced-Int, unplaced-Name, unplaced-Node, unplaced-Bind, unplaced_bound}
 use Rattle.math_grammar.specs.Characters.{bytes}
-use Rattle.raw_print.specs.Pieces.{Piece, Blank, Token, tokens_of, close_round, close_brace, dot, bar, in_round, in_square, close_square, between, behind_commas, separated}
+use Rattle.raw_print.specs.Pieces.{Piece, Blank, Token, tokens_of, close_round_piece, close_brace_piece, dot_piece, bar_piece, in_round, in_square, close_square_piece, sign_between, behind_commas, separated_pieces}
 use Rattle.math_grammar.specs.Operators.{raw_sign_of, raw_class_of, raw_binder_sign_of, raw_binder_class_of}
 use Rattle.raw_print.specs.Printing as printing
-use Rattle.raw_print.specs.Printing.{operand, bare as bare_parts, form, stands_alone, stands_alone_at, is_atomic, pieces, body, raw_tokens, pattern, names_in}
+use Rattle.raw_print.specs.Printing.{operand_pieces, bare as bare_parts, form, stands_alone, stands_alone_at, is_atomic, pieces, body_pieces, raw_tokens, pattern, pattern_name_count}
 use Rattle.raw_print.specs.Private.{with_pieces, declared}
 use Rattle.raw_print.specs.Back.{AllProper, is_whole}
 use Rattle.raw_print.proofs.Equations.{pieces-Int, pieces-Name, pieces-Node, pieces-Bind, pattern-Name, names_in-Name}
@@ -172,7 +172,7 @@ module _ (limit : Option ℕ) where
     pub bare : (rest : List Item) → Closes rest → Reads limit bare_grade (tokens_of (pieces t) ++ rest) tree rest
     pub grade_closed : Grade
     pub closed : Closed v grade_closed
-    pub as_operand : (rest : List Item) → Reads limit grade_closed (tokens_of (operand (t, pieces t)) ++ rest) tree rest
+    pub as_operand : (rest : List Item) → Reads limit grade_closed (tokens_of (operand_pieces (t, pieces t)) ++ rest) tree rest
 
   pub of_sort : (v w : Bool) (t : Raw) → v ≡ w → Again v t → Again w t
   of_sort v w t e a = subst (λ s. Again s t) e a
@@ -205,7 +205,7 @@ module _ (limit : Option ℕ) where
     as_operand = λ rest.
         let inner : Reads limit g (tokens_of (pieces t) ++ (item (sym.Close bracket.Round) 0 (bytes ")") ∷ rest)) u (item (sym.Close bracket.Round) 0 (bytes ")") ∷ rest) = reads _ (closing refl) in
         let round : Reads limit (grouped g) (item (sym.Open bracket.Round) 0 (bytes "(") ∷ (tokens_of (pieces t) ++ (item (sym.Close bracket.Round) 0 (bytes ")") ∷ rest))) u rest = in_parentheses inner refl in
-        rw lone (subst (λ s. Reads limit (grouped g) (item (sym.Open bracket.Round) 0 (bytes "(") ∷ s) u rest) (back (behind (pieces t) (close_round ∷ []) rest)) round);
+        rw lone (subst (λ s. Reads limit (grouped g) (item (sym.Open bracket.Round) 0 (bytes "(") ∷ s) u rest) (back (behind (pieces t) (close_round_piece ∷ []) rest)) round);
   }
 
   -- the tokens of a node, by the class of its operator
@@ -224,15 +224,15 @@ module _ (limit : Option ℕ) where
       (level l left.grade_closed) (level_sort l left.grade_closed grade.Name)
       (λ rest c.
       let mine : Item = item x 0 (raw_sign_of o) in
-      let second : Reads limit right.grade_closed (tokens_of (operand (b, pieces b)) ++ rest) right.tree rest = right.as_operand rest in
-      let first : Reads limit left.grade_closed (tokens_of (operand (a, pieces a)) ++ (mine ∷ (tokens_of (operand (b, pieces b)) ++ rest))) left.tree (mine ∷ (tokens_of (operand (b, pieces b)) ++ rest)) = left.as_operand _ in
-      let both : Reads limit (level l left.grade_closed) (tokens_of (operand (a, pieces a)) ++ (mine ∷ (tokens_of (operand (b, pieces b)) ++ rest))) (node_between o left.tree right.tree) rest =
+      let second : Reads limit right.grade_closed (tokens_of (operand_pieces (b, pieces b)) ++ rest) right.tree rest = right.as_operand rest in
+      let first : Reads limit left.grade_closed (tokens_of (operand_pieces (a, pieces a)) ++ (mine ∷ (tokens_of (operand_pieces (b, pieces b)) ++ rest))) left.tree (mine ∷ (tokens_of (operand_pieces (b, pieces b)) ++ rest)) = left.as_operand _ in
+      let both : Reads limit (level l left.grade_closed) (tokens_of (operand_pieces (a, pieces a)) ++ (mine ∷ (tokens_of (operand_pieces (b, pieces b)) ++ rest))) (node_between o left.tree right.tree) rest =
       two_sides first ix (left_closed l left.grade_closed left.closed) second
       (place_closed (right_of l) right.grade_closed (right_operand l) (subst (λ v. Closed v right.grade_closed) (back (right_sort l)) right.closed)) (ends_there (right_of l) right.grade_closed rest c) refl in
-      let placed : Reads limit (level l left.grade_closed) (tokens_of (operand (a, pieces a)) ++ (mine ∷ (tokens_of (operand (b, pieces b)) ++ rest))) tree rest =
-      subst (λ q. Reads limit (level l left.grade_closed) (tokens_of (operand (a, pieces a)) ++ (mine ∷ (tokens_of (operand (b, pieces b)) ++ rest))) (raw.Node o (left.tree ∷ right.tree ∷ []) q) rest) left.starts both in
-      let text : tokens_of (form x (Token x (raw_sign_of o)) (map with_pieces (a ∷ b ∷ []))) ++ rest ≡ tokens_of (operand (a, pieces a)) ++ (mine ∷ (tokens_of (operand (b, pieces b)) ++ rest)) =
-      ap (λ ps. tokens_of ps ++ rest) (second_form x (infix_is x l o ix) (Token x (raw_sign_of o)) (with_pieces a) (with_pieces b)) ∙ behind (operand (a, pieces a)) (Blank ∷ Token x (raw_sign_of o) ∷ Blank ∷ operand (b, pieces b)) rest in
+      let placed : Reads limit (level l left.grade_closed) (tokens_of (operand_pieces (a, pieces a)) ++ (mine ∷ (tokens_of (operand_pieces (b, pieces b)) ++ rest))) tree rest =
+      subst (λ q. Reads limit (level l left.grade_closed) (tokens_of (operand_pieces (a, pieces a)) ++ (mine ∷ (tokens_of (operand_pieces (b, pieces b)) ++ rest))) (raw.Node o (left.tree ∷ right.tree ∷ []) q) rest) left.starts both in
+      let text : tokens_of (form x (Token x (raw_sign_of o)) (map with_pieces (a ∷ b ∷ []))) ++ rest ≡ tokens_of (operand_pieces (a, pieces a)) ++ (mine ∷ (tokens_of (operand_pieces (b, pieces b)) ++ rest)) =
+      ap (λ ps. tokens_of ps ++ rest) (second_form x (infix_is x l o ix) (Token x (raw_sign_of o)) (with_pieces a) (with_pieces b)) ∙ behind (operand_pieces (a, pieces a)) (Blank ∷ Token x (raw_sign_of o) ∷ Blank ∷ operand_pieces (b, pieces b)) rest in
       node_reads (level l left.grade_closed) o (a ∷ b ∷ []) p x tree rest own (subst (λ s. Reads limit (level l left.grade_closed) s tree rest) (back text) placed))
 
   -- a constant
@@ -274,10 +274,10 @@ module _ (limit : Option ℕ) where
       alone false (raw.Node (rawop.Plain op.Apply) (f ∷ a ∷ []) p) tree (unplaced-Node (rawop.Plain op.Apply) (f ∷ a ∷ []) p ∙ (λ i. raw.Node (rawop.Plain op.Apply) (left.is i ∷ right.is i ∷ []) 0)) (place-Node (rawop.Plain op.Apply) (left.tree ∷ right.tree ∷ [])) (alone-Node (rawop.Plain op.Apply) (f ∷ a ∷ []) p) grade.Suffixed as_suffixed
       (λ rest.
       let inner : Reads limit right.bare_grade (tokens_of (pieces a) ++ (item (sym.Close bracket.Round) 0 (bytes ")") ∷ rest)) right.tree (item (sym.Close bracket.Round) 0 (bytes ")") ∷ rest) = right.bare _ (closing refl) in
-      let both : Reads limit grade.Suffixed (tokens_of (operand (f, pieces f)) ++ (item (sym.Open bracket.Round) 0 (bytes "(") ∷ (tokens_of (pieces a) ++ (item (sym.Close bracket.Round) 0 (bytes ")") ∷ rest)))) (node_between (rawop.Plain op.Apply) left.tree right.tree) rest =
+      let both : Reads limit grade.Suffixed (tokens_of (operand_pieces (f, pieces f)) ++ (item (sym.Open bracket.Round) 0 (bytes "(") ∷ (tokens_of (pieces a) ++ (item (sym.Close bracket.Round) 0 (bytes ")") ∷ rest)))) (node_between (rawop.Plain op.Apply) left.tree right.tree) rest =
       applied {x = sym.Open bracket.Round} (left.as_operand _) refl (suffix_closed left.grade_closed left.closed) inner (fits_expression right.bare_grade right.sort) in
-      let placed = subst (λ q. Reads limit grade.Suffixed (tokens_of (operand (f, pieces f)) ++ (item (sym.Open bracket.Round) 0 (bytes "(") ∷ (tokens_of (pieces a) ++ (item (sym.Close bracket.Round) 0 (bytes ")") ∷ rest)))) (raw.Node (rawop.Plain op.Apply) (left.tree ∷ right.tree ∷ []) q) rest) left.starts both in
-      let text = behind (operand (f, pieces f)) (in_round (pieces a)) rest ∙ ap (λ u. tokens_of (operand (f, pieces f)) ++ (item (sym.Open bracket.Round) 0 (bytes "(") ∷ u)) (behind (pieces a) (close_round ∷ []) rest) in
+      let placed = subst (λ q. Reads limit grade.Suffixed (tokens_of (operand_pieces (f, pieces f)) ++ (item (sym.Open bracket.Round) 0 (bytes "(") ∷ (tokens_of (pieces a) ++ (item (sym.Close bracket.Round) 0 (bytes ")") ∷ rest)))) (raw.Node (rawop.Plain op.Apply) (left.tree ∷ right.tree ∷ []) q) rest) left.starts both in
+      let text = behind (operand_pieces (f, pieces f)) (in_round (pieces a)) rest ∙ ap (λ u. tokens_of (operand_pieces (f, pieces f)) ++ (item (sym.Open bracket.Round) 0 (bytes "(") ∷ u)) (behind (pieces a) (close_round_piece ∷ []) rest) in
       node_reads grade.Suffixed (rawop.Plain op.Apply) (f ∷ a ∷ []) p (sym.Open bracket.Round) tree rest refl (subst (λ s. Reads limit grade.Suffixed s tree rest) (back text) placed))
 
   image_again : (f a : Raw) (p : ℕ) → Again false f → Again false a → Again false (raw.Node (rawop.Plain op.Image) (f ∷ a ∷ []) p)
@@ -286,10 +286,10 @@ module _ (limit : Option ℕ) where
       alone false (raw.Node (rawop.Plain op.Image) (f ∷ a ∷ []) p) tree (unplaced-Node (rawop.Plain op.Image) (f ∷ a ∷ []) p ∙ (λ i. raw.Node (rawop.Plain op.Image) (left.is i ∷ right.is i ∷ []) 0)) (place-Node (rawop.Plain op.Image) (left.tree ∷ right.tree ∷ [])) (alone-Node (rawop.Plain op.Image) (f ∷ a ∷ []) p) grade.Suffixed as_suffixed
       (λ rest.
       let inner : Reads limit right.bare_grade (tokens_of (pieces a) ++ (item (sym.Close bracket.Square) 0 (bytes "]") ∷ rest)) right.tree (item (sym.Close bracket.Square) 0 (bytes "]") ∷ rest) = right.bare _ (closing refl) in
-      let both : Reads limit grade.Suffixed (tokens_of (operand (f, pieces f)) ++ (item (sym.Open bracket.Square) 0 (bytes "[") ∷ (tokens_of (pieces a) ++ (item (sym.Close bracket.Square) 0 (bytes "]") ∷ rest)))) (node_between (rawop.Plain op.Image) left.tree right.tree) rest =
+      let both : Reads limit grade.Suffixed (tokens_of (operand_pieces (f, pieces f)) ++ (item (sym.Open bracket.Square) 0 (bytes "[") ∷ (tokens_of (pieces a) ++ (item (sym.Close bracket.Square) 0 (bytes "]") ∷ rest)))) (node_between (rawop.Plain op.Image) left.tree right.tree) rest =
       applied {x = sym.Open bracket.Square} (left.as_operand _) refl (suffix_closed left.grade_closed left.closed) inner (fits_expression right.bare_grade right.sort) in
-      let placed = subst (λ q. Reads limit grade.Suffixed (tokens_of (operand (f, pieces f)) ++ (item (sym.Open bracket.Square) 0 (bytes "[") ∷ (tokens_of (pieces a) ++ (item (sym.Close bracket.Square) 0 (bytes "]") ∷ rest)))) (raw.Node (rawop.Plain op.Image) (left.tree ∷ right.tree ∷ []) q) rest) left.starts both in
-      let text = behind (operand (f, pieces f)) (in_square (pieces a)) rest ∙ ap (λ u. tokens_of (operand (f, pieces f)) ++ (item (sym.Open bracket.Square) 0 (bytes "[") ∷ u)) (behind (pieces a) (close_square ∷ []) rest) in
+      let placed = subst (λ q. Reads limit grade.Suffixed (tokens_of (operand_pieces (f, pieces f)) ++ (item (sym.Open bracket.Square) 0 (bytes "[") ∷ (tokens_of (pieces a) ++ (item (sym.Close bracket.Square) 0 (bytes "]") ∷ rest)))) (raw.Node (rawop.Plain op.Image) (left.tree ∷ right.tree ∷ []) q) rest) left.starts both in
+      let text = behind (operand_pieces (f, pieces f)) (in_square (pieces a)) rest ∙ ap (λ u. tokens_of (operand_pieces (f, pieces f)) ++ (item (sym.Open bracket.Square) 0 (bytes "[") ∷ u)) (behind (pieces a) (close_square_piece ∷ []) rest) in
       node_reads grade.Suffixed (rawop.Plain op.Image) (f ∷ a ∷ []) p (sym.Open bracket.Square) tree rest refl (subst (λ s. Reads limit grade.Suffixed s tree rest) (back text) placed))
 
   applied_again : (o : RawOp) (f a : Raw) (p : ℕ) → (o ≡ rawop.Plain op.Apply) ⊎ (o ≡ rawop.Plain op.Image) → Again false f → Again false a → Again false (raw.Node o (f ∷ a ∷ []) p)
@@ -301,10 +301,10 @@ module _ (limit : Option ℕ) where
       let tree : Raw = raw.Node (rawop.Plain op.Converse) (a.tree ∷ []) 0 in
       bracketed false (raw.Node (rawop.Plain op.Converse) (f ∷ []) p) tree (unplaced-Node (rawop.Plain op.Converse) (f ∷ []) p ∙ (λ i. raw.Node (rawop.Plain op.Converse) (a.is i ∷ []) 0)) (place-Node (rawop.Plain op.Converse) (a.tree ∷ [])) (alone-Node (rawop.Plain op.Converse) (f ∷ []) p) grade.Suffixed refl
       (λ rest c.
-      let both : Reads limit grade.Suffixed (tokens_of (operand (f, pieces f)) ++ (item sym.Converse 0 (bytes "∼") ∷ rest)) (raw.Node (rawop.Plain op.Converse) (a.tree ∷ []) (place_of a.tree)) rest = converted (a.as_operand _) (suffix_closed a.grade_closed a.closed) in
-      let placed : Reads limit grade.Suffixed (tokens_of (operand (f, pieces f)) ++ (item sym.Converse 0 (bytes "∼") ∷ rest)) tree rest =
-      subst (λ q. Reads limit grade.Suffixed (tokens_of (operand (f, pieces f)) ++ (item sym.Converse 0 (bytes "∼") ∷ rest)) (raw.Node (rawop.Plain op.Converse) (a.tree ∷ []) q) rest) a.starts both in
-      node_reads grade.Suffixed (rawop.Plain op.Converse) (f ∷ []) p sym.Converse tree rest refl (subst (λ s. Reads limit grade.Suffixed s tree rest) (back (behind (operand (f, pieces f)) (Token sym.Converse (bytes "∼") ∷ []) rest)) placed))
+      let both : Reads limit grade.Suffixed (tokens_of (operand_pieces (f, pieces f)) ++ (item sym.Converse 0 (bytes "∼") ∷ rest)) (raw.Node (rawop.Plain op.Converse) (a.tree ∷ []) (place_of a.tree)) rest = converted (a.as_operand _) (suffix_closed a.grade_closed a.closed) in
+      let placed : Reads limit grade.Suffixed (tokens_of (operand_pieces (f, pieces f)) ++ (item sym.Converse 0 (bytes "∼") ∷ rest)) tree rest =
+      subst (λ q. Reads limit grade.Suffixed (tokens_of (operand_pieces (f, pieces f)) ++ (item sym.Converse 0 (bytes "∼") ∷ rest)) (raw.Node (rawop.Plain op.Converse) (a.tree ∷ []) q) rest) a.starts both in
+      node_reads grade.Suffixed (rawop.Plain op.Converse) (f ∷ []) p sym.Converse tree rest refl (subst (λ s. Reads limit grade.Suffixed s tree rest) (back (behind (operand_pieces (f, pieces f)) (Token sym.Converse (bytes "∼") ∷ []) rest)) placed))
 
   -- parts between commas up to a bracket
   record PartsAgain (h : Hole) (many : Option ℕ) (b : Bracket) (before parts : List Raw) (rest : List Item) : Type 0 where
@@ -358,12 +358,12 @@ module _ (limit : Option ℕ) where
   bare_pieces (r ∷ rs) = ap (λ ps. pieces r ∷ ps) (bare_pieces rs)
 
   all_parts : (h : Hole) (many : Option ℕ) (b : Bracket) (parts : List Raw) (rest : List Item) → PartsAgain h many b [] parts rest → (w : List ℕ) (m : List Item) →
-      Parts limit h many b [] (tokens_of (separated (bare_parts (map with_pieces parts))) ++ (item (sym.Close b) 0 w ∷ m)) (map unplaced parts) m
+      Parts limit h many b [] (tokens_of (separated_pieces (bare_parts (map with_pieces parts))) ++ (item (sym.Close b) 0 w ∷ m)) (map unplaced parts) m
   all_parts h many b parts rest a w m =
-      let own : Parts limit h many b [] (tokens_of (separated (map pieces (a.first ∷ a.more))) ++ (item (sym.Close b) 0 w ∷ m)) (map unplaced (a.first ∷ a.more)) m = a.reads [] refl w m in
-      let whole : Parts limit h many b [] (tokens_of (separated (map pieces parts)) ++ (item (sym.Close b) 0 w ∷ m)) (map unplaced parts) m =
-      subst (λ ps. Parts limit h many b [] (tokens_of (separated (map pieces ps)) ++ (item (sym.Close b) 0 w ∷ m)) (map unplaced ps) m) (back a.is) own in
-      subst (λ ps. Parts limit h many b [] (tokens_of (separated ps) ++ (item (sym.Close b) 0 w ∷ m)) (map unplaced parts) m) (back (bare_pieces parts)) whole
+      let own : Parts limit h many b [] (tokens_of (separated_pieces (map pieces (a.first ∷ a.more))) ++ (item (sym.Close b) 0 w ∷ m)) (map unplaced (a.first ∷ a.more)) m = a.reads [] refl w m in
+      let whole : Parts limit h many b [] (tokens_of (separated_pieces (map pieces parts)) ++ (item (sym.Close b) 0 w ∷ m)) (map unplaced parts) m =
+      subst (λ ps. Parts limit h many b [] (tokens_of (separated_pieces (map pieces ps)) ++ (item (sym.Close b) 0 w ∷ m)) (map unplaced ps) m) (back a.is) own in
+      subst (λ ps. Parts limit h many b [] (tokens_of (separated_pieces ps) ++ (item (sym.Close b) 0 w ∷ m)) (map unplaced parts) m) (back (bare_pieces parts)) whole
 
   call_again : (c : Call) (o : RawOp) (parts : List Raw) (p : ℕ) (rest : List Item) → raw_class_of o ≡ sym.Call c o → PartsAgain (call_hole c) (call_parts limit c) bracket.Round [] parts rest → Again (is_predicate (call_grade c)) (raw.Node o parts p)
   call_again c o parts p behind_it own a =
@@ -371,7 +371,7 @@ module _ (limit : Option ℕ) where
       alone (is_predicate (call_grade c)) (raw.Node o parts p) tree (unplaced-Node o parts p) (place-Node o (map unplaced parts)) (alone-Node o parts p ∙ ap is_atomic own) (call_grade c) (call_closed c)
       (λ rest.
       let inner = all_parts (call_hole c) (call_parts limit c) bracket.Round parts behind_it a (bytes ")") rest in
-      let text = ap (λ u. item (sym.Call c o) 0 (raw_sign_of o) ∷ (item (sym.Open bracket.Round) 0 (bytes "(") ∷ u)) (behind (separated (bare_parts (map with_pieces parts))) (close_round ∷ []) rest) in
+      let text = ap (λ u. item (sym.Call c o) 0 (raw_sign_of o) ∷ (item (sym.Open bracket.Round) 0 (bytes "(") ∷ u)) (behind (separated_pieces (bare_parts (map with_pieces parts))) (close_round_piece ∷ []) rest) in
       node_reads (call_grade c) o parts p (sym.Call c o) tree rest own (subst (λ s. Reads limit (call_grade c) s tree rest) (back text) (called inner refl)))
 
   members_again : (members : List Raw) (p : ℕ) (rest : List Item) → PartsAgain hole.Expression None bracket.Brace [] members rest → Again false (raw.Node (rawop.Plain op.SetExtension) members p)
@@ -381,7 +381,7 @@ module _ (limit : Option ℕ) where
       alone false (raw.Node o members p) tree (unplaced-Node o members p) (place-Node o (map unplaced members)) (alone-Node o members p) grade.Primary as_primary
       (λ rest.
       let inner = all_parts hole.Expression None bracket.Brace members behind_it a (bytes "}") rest in
-      let text = ap (λ u. item (sym.Open bracket.Brace) 0 (bytes "{") ∷ u) (behind (separated (bare_parts (map with_pieces members))) (close_brace ∷ []) rest) in
+      let text = ap (λ u. item (sym.Open bracket.Brace) 0 (bytes "{") ∷ u) (behind (separated_pieces (bare_parts (map with_pieces members))) (close_brace_piece ∷ []) rest) in
       node_reads grade.Primary o members p (sym.Open bracket.Brace) tree rest refl (subst (λ s. Reads limit grade.Primary s tree rest) (back text) (set_by_members {x = sym.Open bracket.Brace} refl inner)))
 
   -- names with their types
@@ -390,7 +390,7 @@ module _ (limit : Option ℕ) where
 
   typed_bound : (n : List ℕ) (p : ℕ) (t : Raw) → is_name n ≡ true → Again false t → (m : List Item) → Bound limit (tokens_of (declared (bound n p (Some t))) ++ m) (unplaced_bound (bound n p (Some t))) m
   typed_bound n p t is a m =
-      let ty : TypeOf limit None (tokens_of (operand (t, pieces t)) ++ m) a.tree m = last_side {before = None} (a.as_operand m) (place_closed hole.Pair a.grade_closed refl a.closed) in
+      let ty : TypeOf limit None (tokens_of (operand_pieces (t, pieces t)) ++ m) a.tree m = last_side {before = None} (a.as_operand m) (place_closed hole.Pair a.grade_closed refl a.closed) in
       subst (λ u. Bound limit (tokens_of (declared (bound n p (Some t))) ++ m) (bound n 0 (Some u)) m) (back a.is) (of_type is ty)
 
   record NamesAgain (before names : List RawBound) (rest : List Item) : Type 0 where
@@ -426,8 +426,8 @@ module _ (limit : Option ℕ) where
     proper = later.proper;
   }
 
-  all_names : (names : List RawBound) (rest : List Item) → NamesAgain [] names rest → (m : List Item) → Declares limit [] (tokens_of (separated (map declared names)) ++ (item sym.Dot 0 (bytes "·") ∷ m)) (map unplaced_bound names) m
-  all_names names rest a m = subst (λ bs. Declares limit [] (tokens_of (separated (map declared bs)) ++ (item sym.Dot 0 (bytes "·") ∷ m)) (map unplaced_bound bs) m) (back a.is) (a.reads [] m)
+  all_names : (names : List RawBound) (rest : List Item) → NamesAgain [] names rest → (m : List Item) → Declares limit [] (tokens_of (separated_pieces (map declared names)) ++ (item sym.Dot 0 (bytes "·") ∷ m)) (map unplaced_bound names) m
+  all_names names rest a m = subst (λ bs. Declares limit [] (tokens_of (separated_pieces (map declared bs)) ++ (item sym.Dot 0 (bytes "·") ∷ m)) (map unplaced_bound bs) m) (back a.is) (a.reads [] m)
 
   -- the last part of a form: up to its brace, or as far as it reaches
   last_reads : (c : Binding) (h : Hole) (v : Bool) (t : Raw) (a : Again v t) → fits h a.bare_grade ≡ true → (m : List Item) → MayEnd c m → LastPart limit c h (tokens_of (pieces t) ++ tail c m) a.tree m
@@ -439,7 +439,7 @@ module _ (limit : Option ℕ) where
   record BodyAgain (c : Binding) (before parts : List Raw) (rest : List Item) : Type 0 where
     new : List Raw
     is : parts ≡ before ++ new
-    reads : (others : List Raw) (m : List Item) → MayEnd c m → Body limit c others (tokens_of (body (map with_pieces new)) ++ tail c m) (others ++ map unplaced new) m
+    reads : (others : List Raw) (m : List Item) → MayEnd c m → Body limit c others (tokens_of (body_pieces (map with_pieces new)) ++ tail c m) (others ++ map unplaced new) m
     proper : AllProper rest
 
   predicate_body : (c : Binding) (before : List Raw) (t : Raw) (rest : List Item) → is_quantified c ≡ true → Again true t → AllProper rest → BodyAgain c before (before ++ t ∷ []) rest
@@ -460,27 +460,27 @@ module _ (limit : Option ℕ) where
         let all : Body limit c others (tokens_of (pieces t) ++ (item sym.Bar 0 (bytes "∣") ∷ behind_it)) ((others ++ a.tree ∷ []) ++ d.tree ∷ []) m =
         a_value q first (fits_predicate a.bare_grade a.sort) (last_reads c hole.Expression false e d (fits_expression d.bare_grade d.sort) m may) in
         let trees : (others ++ a.tree ∷ []) ++ d.tree ∷ [] ≡ others ++ (unplaced t ∷ unplaced e ∷ []) = append_assoc others (a.tree ∷ []) (d.tree ∷ []) ∙ (λ i. others ++ (back a.is i ∷ back d.is i ∷ [])) in
-        subst (λ us. Body limit c others (tokens_of (between (pieces t) bar (pieces e)) ++ tail c m) us m) trees
-        (subst (λ s. Body limit c others s ((others ++ a.tree ∷ []) ++ d.tree ∷ []) m) (back (behind (pieces t) (Blank ∷ bar ∷ Blank ∷ pieces e) (tail c m))) all);
+        subst (λ us. Body limit c others (tokens_of (sign_between (pieces t) bar_piece (pieces e)) ++ tail c m) us m) trees
+        (subst (λ s. Body limit c others s ((others ++ a.tree ∷ []) ++ d.tree ∷ []) m) (back (behind (pieces t) (Blank ∷ bar_piece ∷ Blank ∷ pieces e) (tail c m))) all);
     proper = proper;
   }
 
   -- what stands behind the sign of a form with bound names
-  scope_tokens : (front inside back_end : List Piece) (rest : List Item) → tokens_of ((front ++ (dot ∷ inside)) ++ back_end) ++ rest ≡ tokens_of front ++ (item sym.Dot 0 (bytes "·") ∷ (tokens_of inside ++ (tokens_of back_end ++ rest)))
-  scope_tokens front inside back_end rest = behind (front ++ (dot ∷ inside)) back_end rest ∙ behind front (dot ∷ inside) (tokens_of back_end ++ rest)
+  scope_tokens : (front inside back_end : List Piece) (rest : List Item) → tokens_of ((front ++ (dot_piece ∷ inside)) ++ back_end) ++ rest ≡ tokens_of front ++ (item sym.Dot 0 (bytes "·") ∷ (tokens_of inside ++ (tokens_of back_end ++ rest)))
+  scope_tokens front inside back_end rest = behind (front ++ (dot_piece ∷ inside)) back_end rest ∙ behind front (dot_piece ∷ inside) (tokens_of back_end ++ rest)
 
   -- names with a dot behind them, where this is the sign, and this ends the form
   named_reads : (c : Binding) (x : Symbol) (back_end : List Piece) → opens x ≡ Some c → takes_names c ≡ true → (names : List RawBound) (parts : List Raw) (p : ℕ) →
-      pieces (raw.Bind (binder_of c) names parts p) ≡ Token x (raw_binder_sign_of (binder_of c)) ∷ ((separated (map declared names) ++ (dot ∷ body (map with_pieces parts))) ++ back_end) →
+      pieces (raw.Bind (binder_of c) names parts p) ≡ Token x (raw_binder_sign_of (binder_of c)) ∷ ((separated_pieces (map declared names) ++ (dot_piece ∷ body_pieces (map with_pieces parts))) ++ back_end) →
       (r : List Item) → NamesAgain [] names r → (q : List Item) → BodyAgain c [] parts q → (rest : List Item) → tokens_of back_end ++ rest ≡ tail c rest → MayEnd c rest →
       Reads limit (binding_grade c) (tokens_of (pieces (raw.Bind (binder_of c) names parts p)) ++ rest) (raw.Bind (binder_of c) (map unplaced_bound names) (map unplaced parts) 0) rest
   named_reads c x back_end ox tn names parts p text r ns q bs rest ends may =
-      let inside : Body limit c [] (tokens_of (body (map with_pieces parts)) ++ tail c rest) (map unplaced parts) rest =
-      subst (λ ps. Body limit c [] (tokens_of (body (map with_pieces ps)) ++ tail c rest) (map unplaced ps) rest) (back bs.is) (bs.reads [] rest may) in
-      let whole : Reads limit (binding_grade c) (item x 0 (raw_binder_sign_of (binder_of c)) ∷ (tokens_of (separated (map declared names)) ++ (item sym.Dot 0 (bytes "·") ∷ (tokens_of (body (map with_pieces parts)) ++ tail c rest)))) (raw.Bind (binder_of c) (map unplaced_bound names) (map unplaced parts) 0) rest =
+      let inside : Body limit c [] (tokens_of (body_pieces (map with_pieces parts)) ++ tail c rest) (map unplaced parts) rest =
+      subst (λ ps. Body limit c [] (tokens_of (body_pieces (map with_pieces ps)) ++ tail c rest) (map unplaced ps) rest) (back bs.is) (bs.reads [] rest may) in
+      let whole : Reads limit (binding_grade c) (item x 0 (raw_binder_sign_of (binder_of c)) ∷ (tokens_of (separated_pieces (map declared names)) ++ (item sym.Dot 0 (bytes "·") ∷ (tokens_of (body_pieces (map with_pieces parts)) ++ tail c rest)))) (raw.Bind (binder_of c) (map unplaced_bound names) (map unplaced parts) 0) rest =
       by_names ox tn (all_names names r ns _) inside refl in
       let tokens = ap (λ ps. tokens_of ps ++ rest) text
-      ∙ ap (λ u. item x 0 (raw_binder_sign_of (binder_of c)) ∷ u) (scope_tokens (separated (map declared names)) (body (map with_pieces parts)) back_end rest ∙ ap (λ u. tokens_of (separated (map declared names)) ++ (item sym.Dot 0 (bytes "·") ∷ (tokens_of (body (map with_pieces parts)) ++ u))) ends) in
+      ∙ ap (λ u. item x 0 (raw_binder_sign_of (binder_of c)) ∷ u) (scope_tokens (separated_pieces (map declared names)) (body_pieces (map with_pieces parts)) back_end rest ∙ ap (λ u. tokens_of (separated_pieces (map declared names)) ++ (item sym.Dot 0 (bytes "·") ∷ (tokens_of (body_pieces (map with_pieces parts)) ++ u))) ends) in
       subst (λ s. Reads limit (binding_grade c) s (raw.Bind (binder_of c) (map unplaced_bound names) (map unplaced parts) 0) rest) (back tokens) whole
 
   named_again : (c : Binding) → takes_names c ≡ true → IsForm c → (names : List RawBound) (parts : List Raw) (p : ℕ) (r : List Item) → NamesAgain [] names r → (q : List Item) → BodyAgain c [] parts q →
@@ -488,7 +488,7 @@ module _ (limit : Option ℕ) where
   named_again binding.Set tn is names parts p r ns q bs =
       let b : RawBinder = rawbinder.Plain binder.Comprehension in
       alone false (raw.Bind b names parts p) (raw.Bind b (map unplaced_bound names) (map unplaced parts) 0) (unplaced-Bind b names parts p) (place-Bind b (map unplaced_bound names) (map unplaced parts)) (alone-Bind b names parts p) grade.Primary as_primary
-      (λ rest. named_reads binding.Set (sym.Open bracket.Brace) (close_brace ∷ []) refl refl names parts p (pieces-Bind b names parts p) r ns q bs rest refl tt)
+      (λ rest. named_reads binding.Set (sym.Open bracket.Brace) (close_brace_piece ∷ []) refl refl names parts p (pieces-Bind b names parts p) r ns q bs rest refl tt)
   named_again (binding.Quantified binder.ForAll) tn is names parts p r ns q bs =
       let b : RawBinder = rawbinder.Plain binder.ForAll in
       let c : Binding = binding.Quantified binder.ForAll in
@@ -519,7 +519,7 @@ module _ (limit : Option ℕ) where
 
   -- an expression with a bar behind it
   shape_reads : (c : Binding) (x : Symbol) (back_end : List Piece) → opens x ≡ Some c → takes_shape c ≡ true → (e t : Raw) (p : ℕ) →
-      pieces (raw.Bind (implicit_of c) [] (e ∷ t ∷ []) p) ≡ Token x (raw_binder_sign_of (implicit_of c)) ∷ (between (pieces e) bar (pieces t) ++ back_end) →
+      pieces (raw.Bind (implicit_of c) [] (e ∷ t ∷ []) p) ≡ Token x (raw_binder_sign_of (implicit_of c)) ∷ (sign_between (pieces e) bar_piece (pieces t) ++ back_end) →
       (a : Again false e) (d : Again true t) (rest : List Item) → tokens_of back_end ++ rest ≡ tail c rest → MayEnd c rest →
       Reads limit (binding_grade c) (tokens_of (pieces (raw.Bind (implicit_of c) [] (e ∷ t ∷ []) p)) ++ rest) (raw.Bind (implicit_of c) [] (a.tree ∷ d.tree ∷ []) 0) rest
   shape_reads c x back_end ox ts e t p text a d rest ends may =
@@ -528,14 +528,14 @@ module _ (limit : Option ℕ) where
       let whole : Reads limit (binding_grade c) (item x 0 (raw_binder_sign_of (implicit_of c)) ∷ (tokens_of (pieces e) ++ (item sym.Bar 0 (bytes "∣") ∷ behind_it))) (raw.Bind (implicit_of c) [] (a.tree ∷ d.tree ∷ []) 0) rest =
       by_shape ox ts first (fits_expression a.bare_grade a.sort) (last_reads c hole.Predicate true t d (fits_predicate d.bare_grade d.sort) rest may) refl in
       let tokens = ap (λ ps. tokens_of ps ++ rest) text
-      ∙ ap (λ u. item x 0 (raw_binder_sign_of (implicit_of c)) ∷ u) (behind (between (pieces e) bar (pieces t)) back_end rest ∙ behind (pieces e) (Blank ∷ bar ∷ Blank ∷ pieces t) (tokens_of back_end ++ rest) ∙ ap (λ u. tokens_of (pieces e) ++ (item sym.Bar 0 (bytes "∣") ∷ (tokens_of (pieces t) ++ u))) ends) in
+      ∙ ap (λ u. item x 0 (raw_binder_sign_of (implicit_of c)) ∷ u) (behind (sign_between (pieces e) bar_piece (pieces t)) back_end rest ∙ behind (pieces e) (Blank ∷ bar_piece ∷ Blank ∷ pieces t) (tokens_of back_end ++ rest) ∙ ap (λ u. tokens_of (pieces e) ++ (item sym.Bar 0 (bytes "∣") ∷ (tokens_of (pieces t) ++ u))) ends) in
       subst (λ s. Reads limit (binding_grade c) s (raw.Bind (implicit_of c) [] (a.tree ∷ d.tree ∷ []) 0) rest) (back tokens) whole
 
   shape_again : (c : Binding) → takes_shape c ≡ true → IsForm c → (e t : Raw) (p : ℕ) → Again false e → Again true t → Again (is_predicate (binding_grade c)) (raw.Bind (implicit_of c) [] (e ∷ t ∷ []) p)
   shape_again binding.Set ts is e t p a d =
       let b : RawBinder = rawbinder.Implicit binder.Comprehension in
       alone false (raw.Bind b [] (e ∷ t ∷ []) p) (raw.Bind b [] (a.tree ∷ d.tree ∷ []) 0) (unplaced-Bind b [] (e ∷ t ∷ []) p ∙ (λ i. raw.Bind b [] (a.is i ∷ d.is i ∷ []) 0)) (place-Bind b [] (a.tree ∷ d.tree ∷ [])) (alone-Bind b [] (e ∷ t ∷ []) p) grade.Primary as_primary
-      (λ rest. shape_reads binding.Set (sym.Open bracket.Brace) (close_brace ∷ []) refl refl e t p (pieces-Bind b [] (e ∷ t ∷ []) p) a d rest refl tt)
+      (λ rest. shape_reads binding.Set (sym.Open bracket.Brace) (close_brace_piece ∷ []) refl refl e t p (pieces-Bind b [] (e ∷ t ∷ []) p) a d rest refl tt)
   shape_again (binding.Reaching binder.QuantifiedUnion) ts is e t p a d =
       let b : RawBinder = rawbinder.Implicit binder.QuantifiedUnion in
       let c : Binding = binding.Reaching binder.QuantifiedUnion in
@@ -556,14 +556,14 @@ module _ (limit : Option ℕ) where
   record PatternAgain (shape : Shape) : Type 0 where
     qs : List Piece
     prints : (more : List (List Piece)) → pattern shape.tree (map declared shape.names ++ more) ≡ qs
-    counts : names_in shape.tree ≡ length (map declared shape.names)
+    counts : pattern_name_count shape.tree ≡ length (map declared shape.names)
     to : Shape
     names : map unplaced_bound shape.names ≡ to.names
     tree : unplaced shape.tree ≡ to.tree
     starts : place_of to.tree ≡ 0
     bare_pattern : (rest : List Item) → Closes rest → Pattern limit None (tokens_of qs ++ rest) to rest
-    closed : (rest : List Item) → Closes rest → Atom limit (tokens_of (operand (shape.tree, qs)) ++ rest) to rest
-    at_maplet : (rest : List Item) → Atom limit (tokens_of (operand (shape.tree, qs)) ++ (item (sym.Infix lev.Maplet (rawop.Plain op.Maplet)) 0 (raw_sign_of (rawop.Plain op.Maplet)) ∷ rest)) to (item (sym.Infix lev.Maplet (rawop.Plain op.Maplet)) 0 (raw_sign_of (rawop.Plain op.Maplet)) ∷ rest)
+    closed : (rest : List Item) → Closes rest → Atom limit (tokens_of (operand_pieces (shape.tree, qs)) ++ rest) to rest
+    at_maplet : (rest : List Item) → Atom limit (tokens_of (operand_pieces (shape.tree, qs)) ++ (item (sym.Infix lev.Maplet (rawop.Plain op.Maplet)) 0 (raw_sign_of (rawop.Plain op.Maplet)) ∷ rest)) to (item (sym.Infix lev.Maplet (rawop.Plain op.Maplet)) 0 (raw_sign_of (rawop.Plain op.Maplet)) ∷ rest)
 
   -- a name, with or without a type
   lone_again : (n : List ℕ) (p : ℕ) (t : Option Raw) (u : Option Raw) → option_map unplaced t ≡ u →
@@ -571,7 +571,7 @@ module _ (limit : Option ℕ) where
       ((rest : List Item) → Atom limit (tokens_of (declared (bound n p t)) ++ (item (sym.Infix lev.Maplet (rawop.Plain op.Maplet)) 0 (raw_sign_of (rawop.Plain op.Maplet)) ∷ rest)) (lone n 0 u) (item (sym.Infix lev.Maplet (rawop.Plain op.Maplet)) 0 (raw_sign_of (rawop.Plain op.Maplet)) ∷ rest)) →
       PatternAgain (lone n p t)
   lone_again n p t u e before_end before_maplet =
-      let own : operand (raw.Name n p, declared (bound n p t)) ≡ declared (bound n p t) = rw (alone-Name n p) refl in
+      let own : operand_pieces (raw.Name n p, declared (bound n p t)) ≡ declared (bound n p t) = rw (alone-Name n p) refl in
       record {
         qs = declared (bound n p t);
         prints = λ more. pattern-Name n p (declared (bound n p t) ∷ more);
@@ -594,26 +594,26 @@ module _ (limit : Option ℕ) where
   map_unplaced [] cs = refl
   map_unplaced (b ∷ bs) cs = ap (λ ds. unplaced_bound b ∷ ds) (map_unplaced bs cs)
 
-  maplet_again : (b a : Shape) → PatternAgain b → PatternAgain a → PatternAgain (joined (Some b) a)
+  maplet_again : (b a : Shape) → PatternAgain b → PatternAgain a → PatternAgain (joined_shape (Some b) a)
   maplet_again b a left right =
       let o : RawOp = rawop.Plain op.Maplet in
-      let qs : List Piece = between (operand (b.tree, left.qs)) (Token (raw_class_of o) (raw_sign_of o)) (operand (a.tree, right.qs)) in
-      let to : Shape = joined (Some left.to) right.to in
-      let own : operand ((joined (Some b) a).tree, qs) ≡ in_round qs = rw (alone-Node o (b.tree ∷ a.tree ∷ []) (place_of b.tree)) refl in
+      let qs : List Piece = sign_between (operand_pieces (b.tree, left.qs)) (Token (raw_class_of o) (raw_sign_of o)) (operand_pieces (a.tree, right.qs)) in
+      let to : Shape = joined_shape (Some left.to) right.to in
+      let own : operand_pieces ((joined_shape (Some b) a).tree, qs) ≡ in_round qs = rw (alone-Node o (b.tree ∷ a.tree ∷ []) (place_of b.tree)) refl in
       let reads : (rest : List Item) → Closes rest → Pattern limit None (tokens_of qs ++ rest) to rest =
-      (λ rest c. subst (λ s. Pattern limit None s to rest) (back (behind (operand (b.tree, left.qs)) (Blank ∷ Token (raw_class_of o) (raw_sign_of o) ∷ Blank ∷ operand (a.tree, right.qs)) rest))
-      (next_atom {before = None} (left.at_maplet (tokens_of (operand (a.tree, right.qs)) ++ rest)) (last_atom {before = Some left.to} (right.closed rest c)))) in
+      (λ rest c. subst (λ s. Pattern limit None s to rest) (back (behind (operand_pieces (b.tree, left.qs)) (Blank ∷ Token (raw_class_of o) (raw_sign_of o) ∷ Blank ∷ operand_pieces (a.tree, right.qs)) rest))
+      (next_atom {before = None} (left.at_maplet (tokens_of (operand_pieces (a.tree, right.qs)) ++ rest)) (last_atom {before = Some left.to} (right.closed rest c)))) in
       let round : (rest : List Item) → Atom limit (tokens_of (in_round qs) ++ rest) to rest =
-      (λ rest. subst (λ s. Atom limit (item (sym.Open bracket.Round) 0 (bytes "(") ∷ s) to rest) (back (behind qs (close_round ∷ []) rest)) (grouped_atom (reads (item (sym.Close bracket.Round) 0 (bytes ")") ∷ rest) (closing refl)))) in
+      (λ rest. subst (λ s. Atom limit (item (sym.Open bracket.Round) 0 (bytes "(") ∷ s) to rest) (back (behind qs (close_round_piece ∷ []) rest)) (grouped_atom (reads (item (sym.Close bracket.Round) 0 (bytes ")") ∷ rest) (closing refl)))) in
       record {
         qs = qs;
         prints = λ more.
             let all : List (List Piece) = map declared (b.names ++ a.names) ++ more in
             let names : all ≡ map declared b.names ++ (map declared a.names ++ more) = ap (λ ds. ds ++ more) (map_declared b.names a.names) ∙ append_assoc (map declared b.names) (map declared a.names) more in
             let first : pattern b.tree all ≡ left.qs = ap (pattern b.tree) names ∙ left.prints (map declared a.names ++ more) in
-            let behind_it : drop (names_in b.tree) all ≡ map declared a.names ++ more = (λ i. drop (left.counts i) (names i)) ∙ drop-append_seam (map declared b.names) (map declared a.names ++ more) in
-            let second : pattern a.tree (drop (names_in b.tree) all) ≡ right.qs = ap (pattern a.tree) behind_it ∙ right.prints more in
-            pattern-pair o b.tree a.tree (place_of b.tree) all ∙ (λ i. between (operand (b.tree, first i)) (Token (raw_class_of o) (raw_sign_of o)) (operand (a.tree, second i)));
+            let behind_it : drop (pattern_name_count b.tree) all ≡ map declared a.names ++ more = (λ i. drop (left.counts i) (names i)) ∙ drop-append_seam (map declared b.names) (map declared a.names ++ more) in
+            let second : pattern a.tree (drop (pattern_name_count b.tree) all) ≡ right.qs = ap (pattern a.tree) behind_it ∙ right.prints more in
+            pattern-pair o b.tree a.tree (place_of b.tree) all ∙ (λ i. sign_between (operand_pieces (b.tree, first i)) (Token (raw_class_of o) (raw_sign_of o)) (operand_pieces (a.tree, second i)));
         counts = names_in-pair o b.tree a.tree (place_of b.tree) ∙ (λ i. left.counts i + right.counts i) ∙ back (length-append (map declared b.names) (map declared a.names)) ∙ ap length (back (map_declared b.names a.names));
         to = to;
         names = map_unplaced b.names a.names ∙ (λ i. left.names i ++ right.names i);
@@ -631,15 +631,15 @@ module _ (limit : Option ℕ) where
       bracketed false (raw.Bind rawbinder.Lambda shape.names parts p) tree (unplaced-Bind rawbinder.Lambda shape.names parts p ∙ (λ i. raw.Bind rawbinder.Lambda (a.names i) (trees i) 0)) (place-Bind rawbinder.Lambda a.to.names (a.to.tree ∷ map unplaced bs.new))
       (alone-Bind rawbinder.Lambda shape.names parts p) grade.Reaching refl
       (λ rest c.
-      let inside : Body limit binding.Lambda (a.to.tree ∷ []) (tokens_of (body (map with_pieces bs.new)) ++ rest) (a.to.tree ∷ map unplaced bs.new) rest = bs.reads (a.to.tree ∷ []) rest c in
-      let whole : Reads limit grade.Reaching (item (sym.Binder binding.Lambda) 0 (bytes "λ") ∷ (tokens_of a.qs ++ (item sym.Dot 0 (bytes "·") ∷ (tokens_of (body (map with_pieces bs.new)) ++ rest)))) tree rest =
-      lambda (a.bare_pattern (item sym.Dot 0 (bytes "·") ∷ (tokens_of (body (map with_pieces bs.new)) ++ rest)) (closing refl)) inside in
+      let inside : Body limit binding.Lambda (a.to.tree ∷ []) (tokens_of (body_pieces (map with_pieces bs.new)) ++ rest) (a.to.tree ∷ map unplaced bs.new) rest = bs.reads (a.to.tree ∷ []) rest c in
+      let whole : Reads limit grade.Reaching (item (sym.Binder binding.Lambda) 0 (bytes "λ") ∷ (tokens_of a.qs ++ (item sym.Dot 0 (bytes "·") ∷ (tokens_of (body_pieces (map with_pieces bs.new)) ++ rest)))) tree rest =
+      lambda (a.bare_pattern (item sym.Dot 0 (bytes "·") ∷ (tokens_of (body_pieces (map with_pieces bs.new)) ++ rest)) (closing refl)) inside in
       let printed : pattern shape.tree (map declared shape.names) ≡ a.qs = ap (pattern shape.tree) (back (append-nil (map declared shape.names))) ∙ a.prints [] in
-      let text : pieces (raw.Bind rawbinder.Lambda shape.names parts p) ≡ Token (sym.Binder binding.Lambda) (bytes "λ") ∷ ((a.qs ++ (dot ∷ body (map with_pieces bs.new))) ++ []) =
+      let text : pieces (raw.Bind rawbinder.Lambda shape.names parts p) ≡ Token (sym.Binder binding.Lambda) (bytes "λ") ∷ ((a.qs ++ (dot_piece ∷ body_pieces (map with_pieces bs.new))) ++ []) =
       pieces-Bind rawbinder.Lambda shape.names parts p
-      ∙ ap (λ ps. Token (sym.Binder binding.Lambda) (bytes "λ") ∷ (printing.lambda (map declared shape.names) (map with_pieces ps) ++ [])) bs.is
-      ∙ ap (λ qs. Token (sym.Binder binding.Lambda) (bytes "λ") ∷ ((qs ++ (dot ∷ body (map with_pieces bs.new))) ++ [])) printed in
-      let tokens = ap (λ ps. tokens_of ps ++ rest) text ∙ ap (λ u. item (sym.Binder binding.Lambda) 0 (bytes "λ") ∷ u) (scope_tokens a.qs (body (map with_pieces bs.new)) [] rest) in
+      ∙ ap (λ ps. Token (sym.Binder binding.Lambda) (bytes "λ") ∷ (printing.lambda_pieces (map declared shape.names) (map with_pieces ps) ++ [])) bs.is
+      ∙ ap (λ qs. Token (sym.Binder binding.Lambda) (bytes "λ") ∷ ((qs ++ (dot_piece ∷ body_pieces (map with_pieces bs.new))) ++ [])) printed in
+      let tokens = ap (λ ps. tokens_of ps ++ rest) text ∙ ap (λ u. item (sym.Binder binding.Lambda) 0 (bytes "λ") ∷ u) (scope_tokens a.qs (body_pieces (map with_pieces bs.new)) [] rest) in
       subst (λ s. Reads limit grade.Reaching s tree rest) (back tokens) whole)
 
   -- what stands before ⦂ or ↦
@@ -655,7 +655,7 @@ module _ (limit : Option ℕ) where
   type_again None t h own = own
   type_again (Some a) t h own = two_again lev.Typing rawop.OfType (sym.Infix lev.Typing rawop.OfType) refl refl a t (place_of a) h own
 
-  start_again : (before : Option Shape) (a : Shape) → StartAgain before → PatternAgain a → PatternAgain (joined before a)
+  start_again : (before : Option Shape) (a : Shape) → StartAgain before → PatternAgain a → PatternAgain (joined_shape before a)
   start_again None a h own = own
   start_again (Some b) a h own = maplet_again b a h own
 

@@ -13,8 +13,8 @@ use Rattle.math_grammar.specs.declared.levels.Call.{Call}
 use Rattle.math_grammar.specs.declared.symbols.Symbol.{Symbol}
 use Rattle.math_grammar.specs.declared.symbols.Symbol.TheVariants as sym
 use Rattle.math_grammar.specs.Characters.{bytes}
-use Rattle.raw_print.specs.Pieces.{Piece, Token, text_of, close_round, close_brace, behind_commas, separated}
-use Rattle.raw_print.specs.Printing.{bare, form, pieces, side, names_in_parts, names_in, pattern_of_parts, pattern}
+use Rattle.raw_print.specs.Pieces.{Piece, Token, text_of, close_round_piece, close_brace_piece, behind_commas, separated_pieces}
+use Rattle.raw_print.specs.Printing.{bare, form, pieces, side, names_in_parts, pattern_name_count, pattern_of_parts, pattern}
 use Rattle.raw_print.specs.Private.{with_pieces, declared, with_pattern}
 use Rattle.raw_print.proofs.Equations.{text-append, names_in-Node, pattern-Name, pattern-Node}
 
@@ -54,13 +54,13 @@ module _ {X : Type 0} (pieces_of : X → List Piece) where
   -- all parts
   pub all_parts : (items rest : List X) (x : X) (i : ℕ) (old one out : List ℕ) → items ≡ x ∷ rest → length rest ≤ i → one ≡ old ++ text_of (pieces_of x)
       → out ++ text_of (behind_commas (map pieces_of (drop i rest))) ≡ one ++ text_of (behind_commas (map pieces_of rest))
-      → out ≡ old ++ text_of (separated (map pieces_of items))
+      → out ≡ old ++ text_of (separated_pieces (map pieces_of items))
   all_parts items rest x i old one out is many first all =
       back (append-nil out) ∙ ap (λ xs. out ++ text_of (behind_commas (map pieces_of xs))) (back (none_left rest i many)) ∙ all
       ∙ ap (λ t. t ++ text_of (behind_commas (map pieces_of rest))) first
       ∙ append_assoc old (text_of (pieces_of x)) (text_of (behind_commas (map pieces_of rest)))
       ∙ ap (λ t. old ++ t) (back (text-append (pieces_of x) (behind_commas (map pieces_of rest))))
-      ∙ ap (λ xs. old ++ text_of (separated (map pieces_of xs))) (back is)
+      ∙ ap (λ xs. old ++ text_of (separated_pieces (map pieces_of xs))) (back is)
 
 pub one_part : {X : Type 0} (xs : List X) (x : X) → 1 ≤ length xs → length xs < 2 → x ≡ get_or xs 0 x → xs ≡ x ∷ []
 one_part [] x some few first = absurd (omega arith)
@@ -82,16 +82,16 @@ pieces-alone [] = refl
 pieces-alone (r ∷ rs) = ap (λ ps. pieces r ∷ ps) (pieces-alone rs)
 
 -- a list between brackets
-listed : (rs : List Raw) (closing : Piece) → text_of (separated (bare (map with_pieces rs)) ++ closing ∷ []) ≡ text_of (separated (map pieces rs)) ++ text_of (closing ∷ [])
-listed rs closing = text-append (separated (bare (map with_pieces rs))) (closing ∷ []) ∙ ap (λ ps. text_of (separated ps) ++ text_of (closing ∷ [])) (pieces-alone rs)
+listed : (rs : List Raw) (closing : Piece) → text_of (separated_pieces (bare (map with_pieces rs)) ++ closing ∷ []) ≡ text_of (separated_pieces (map pieces rs)) ++ text_of (closing ∷ [])
+listed rs closing = text-append (separated_pieces (bare (map with_pieces rs))) (closing ∷ []) ∙ ap (λ ps. text_of (separated_pieces ps) ++ text_of (closing ∷ [])) (pieces-alone rs)
 
 pub call_text : (x y : Symbol) (c : Call) (o : RawOp) (w : List ℕ) (rs : List Raw) → x ≡ sym.Call c o
-    → text_of (form x (Token y w) (map with_pieces rs)) ≡ w ++ (bytes "(" ++ (text_of (separated (map pieces rs)) ++ bytes ")"))
-call_text x y c o w rs is = ap (λ z. text_of (form z (Token y w) (map with_pieces rs))) is ∙ ap (λ t. w ++ (bytes "(" ++ t)) (listed rs close_round)
+    → text_of (form x (Token y w) (map with_pieces rs)) ≡ w ++ (bytes "(" ++ (text_of (separated_pieces (map pieces rs)) ++ bytes ")"))
+call_text x y c o w rs is = ap (λ z. text_of (form z (Token y w) (map with_pieces rs))) is ∙ ap (λ t. w ++ (bytes "(" ++ t)) (listed rs close_round_piece)
 
 pub set_text : (x y : Symbol) (w : List ℕ) (rs : List Raw) → x ≡ sym.Open bracket.Brace
-    → text_of (form x (Token y w) (map with_pieces rs)) ≡ bytes "{" ++ (text_of (separated (map pieces rs)) ++ bytes "}")
-set_text x y w rs is = ap (λ z. text_of (form z (Token y w) (map with_pieces rs))) is ∙ ap (λ t. bytes "{" ++ t) (listed rs close_brace)
+    → text_of (form x (Token y w) (map with_pieces rs)) ≡ bytes "{" ++ (text_of (separated_pieces (map pieces rs)) ++ bytes "}")
+set_text x y w rs is = ap (λ z. text_of (form z (Token y w) (map with_pieces rs))) is ∙ ap (λ t. bytes "{" ++ t) (listed rs close_brace_piece)
 
 -- a name where none is left
 pub none_named : (tree : Raw) (x : List ℕ) (place : ℕ) (names : List RawBound) → tree ≡ raw.Name x place → length names ≡ 0 → text_of (pattern tree (map declared names)) ≡ []
@@ -99,20 +99,20 @@ none_named tree x place [] is none = ap (λ t. text_of (pattern t [])) is ∙ ap
 none_named tree x place (b ∷ names) is none = absurd (omega arith)
 
 module _ (tree l r : Raw) (o : RawOp) (parts : List Raw) (place : ℕ) (is : tree ≡ raw.Node o parts place) (two : parts ≡ l ∷ r ∷ []) where
-  pub names_in-pair : names_in tree ≡ names_in l + names_in r
-  names_in-pair = ap names_in is ∙ names_in-Node o parts place ∙ ap (λ ps. names_in_parts (map names_in ps)) two
+  pub names_in-pair : pattern_name_count tree ≡ pattern_name_count l + pattern_name_count r
+  names_in-pair = ap pattern_name_count is ∙ names_in-Node o parts place ∙ ap (λ ps. names_in_parts (map pattern_name_count ps)) two
 
   pub pattern_text : (names : List RawBound)
-      → text_of (pattern tree (map declared names)) ≡ text_of (side (with_pattern l) (map declared names)) ++ (bytes " ↦ " ++ text_of (side (with_pattern r) (map declared (drop (names_in l) names))))
+      → text_of (pattern tree (map declared names)) ≡ text_of (side (with_pattern l) (map declared names)) ++ (bytes " ↦ " ++ text_of (side (with_pattern r) (map declared (drop (pattern_name_count l) names))))
   pattern_text names =
       ap (λ t. text_of (pattern t (map declared names))) is ∙ ap text_of (pattern-Node o parts place (map declared names))
       ∙ ap (λ ps. text_of (pattern_of_parts (map with_pattern ps) (map declared names))) two
       ∙ text-append (side (with_pattern l) (map declared names)) _
-      ∙ ap (λ ns. text_of (side (with_pattern l) (map declared names)) ++ (bytes " ↦ " ++ text_of (side (with_pattern r) ns))) (drop-map declared (names_in l) names)
+      ∙ ap (λ ns. text_of (side (with_pattern l) (map declared names)) ++ (bytes " ↦ " ++ text_of (side (with_pattern r) ns))) (drop-map declared (pattern_name_count l) names)
 
 -- a node that is no pair names nothing
 module _ (tree : Raw) (o : RawOp) (parts : List Raw) (place : ℕ) (is : tree ≡ raw.Node o parts place) (other : length parts ≡ 2 → ⊥) where
-  no_names : (rs : List Raw) → (length rs ≡ 2 → ⊥) → names_in_parts (map names_in rs) ≡ 0
+  no_names : (rs : List Raw) → (length rs ≡ 2 → ⊥) → names_in_parts (map pattern_name_count rs) ≡ 0
   no_names [] h = refl
   no_names (a ∷ []) h = refl
   no_names (a ∷ b ∷ []) h = absurd (h refl)
@@ -124,8 +124,8 @@ module _ (tree : Raw) (o : RawOp) (parts : List Raw) (place : ℕ) (is : tree �
   no_text (a ∷ b ∷ []) names h = absurd (h refl)
   no_text (a ∷ b ∷ c ∷ rs) names h = refl
 
-  pub names_in-other : names_in tree ≡ 0
-  names_in-other = ap names_in is ∙ names_in-Node o parts place ∙ no_names parts other
+  pub names_in-other : pattern_name_count tree ≡ 0
+  names_in-other = ap pattern_name_count is ∙ names_in-Node o parts place ∙ no_names parts other
 
   pub pattern-other : (names : List (List Piece)) → text_of (pattern tree names) ≡ []
   pattern-other names = ap (λ t. text_of (pattern t names)) is ∙ ap text_of (pattern-Node o parts place names) ∙ no_text parts names other

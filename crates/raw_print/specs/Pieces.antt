@@ -28,38 +28,38 @@ tokens_of [] = []
 tokens_of (Blank ∷ ps) = tokens_of ps
 tokens_of (Token x w ∷ ps) = item x 0 w ∷ tokens_of ps
 
-abbrev pub word : List ℕ → Piece
-word name = Token sym.Word name
+abbrev pub word_piece : List ℕ → Piece
+word_piece name = Token sym.Word name
 
-abbrev pub open_round : Piece
-open_round = Token (sym.Open bracket.Round) (bytes "(")
+abbrev pub open_round_piece : Piece
+open_round_piece = Token (sym.Open bracket.Round) (bytes "(")
 
-abbrev pub close_round : Piece
-close_round = Token (sym.Close bracket.Round) (bytes ")")
+abbrev pub close_round_piece : Piece
+close_round_piece = Token (sym.Close bracket.Round) (bytes ")")
 
-abbrev pub open_square : Piece
-open_square = Token (sym.Open bracket.Square) (bytes "[")
+abbrev pub open_square_piece : Piece
+open_square_piece = Token (sym.Open bracket.Square) (bytes "[")
 
-abbrev pub close_square : Piece
-close_square = Token (sym.Close bracket.Square) (bytes "]")
+abbrev pub close_square_piece : Piece
+close_square_piece = Token (sym.Close bracket.Square) (bytes "]")
 
-abbrev pub open_brace : Piece
-open_brace = Token (sym.Open bracket.Brace) (bytes "{")
+abbrev pub open_brace_piece : Piece
+open_brace_piece = Token (sym.Open bracket.Brace) (bytes "{")
 
-abbrev pub close_brace : Piece
-close_brace = Token (sym.Close bracket.Brace) (bytes "}")
+abbrev pub close_brace_piece : Piece
+close_brace_piece = Token (sym.Close bracket.Brace) (bytes "}")
 
-abbrev pub comma : Piece
-comma = Token sym.Comma (bytes ",")
+abbrev pub comma_piece : Piece
+comma_piece = Token sym.Comma (bytes ",")
 
-abbrev pub dot : Piece
-dot = Token sym.Dot (bytes "·")
+abbrev pub dot_piece : Piece
+dot_piece = Token sym.Dot (bytes "·")
 
-abbrev pub bar : Piece
-bar = Token sym.Bar (bytes "∣")
+abbrev pub bar_piece : Piece
+bar_piece = Token sym.Bar (bytes "∣")
 
-abbrev pub typing : Piece
-typing = Token (sym.Infix lev.Typing rawop.OfType) (bytes "⦂")
+abbrev pub typing_piece : Piece
+typing_piece = Token (sym.Infix lev.Typing rawop.OfType) (bytes "⦂")
 
 abbrev pub becomes : Piece
 becomes = Token sym.Becomes (bytes "≔")
@@ -71,24 +71,24 @@ abbrev pub becomes_such : Piece
 becomes_such = Token sym.BecomesSuch (bytes ":∣")
 
 abbrev pub in_round : List Piece → List Piece
-in_round ps = open_round ∷ (ps ++ close_round ∷ [])
+in_round ps = open_round_piece ∷ (ps ++ close_round_piece ∷ [])
 
 abbrev pub in_square : List Piece → List Piece
-in_square ps = open_square ∷ (ps ++ close_square ∷ [])
+in_square ps = open_square_piece ∷ (ps ++ close_square_piece ∷ [])
 
 abbrev pub in_braces : List Piece → List Piece
-in_braces ps = open_brace ∷ (ps ++ close_brace ∷ [])
+in_braces ps = open_brace_piece ∷ (ps ++ close_brace_piece ∷ [])
 
 -- a sign or a bar between two parts has a blank on each side
-abbrev pub between : List Piece → Piece → List Piece → List Piece
-between left sign right = left ++ (Blank ∷ sign ∷ Blank ∷ right)
+abbrev pub sign_between : List Piece → Piece → List Piece → List Piece
+sign_between left sign right = left ++ (Blank ∷ sign ∷ Blank ∷ right)
 
 -- parts behind others, each with a comma and a blank before it
 abbrev pub behind_commas : List (List Piece) → List Piece
 behind_commas [] = []
-behind_commas (part ∷ parts) = comma ∷ Blank ∷ (part ++ behind_commas parts)
+behind_commas (part ∷ parts) = comma_piece ∷ Blank ∷ (part ++ behind_commas parts)
 
 -- parts with a comma and a blank between them
-abbrev pub separated : List (List Piece) → List Piece
-separated [] = []
-separated (part ∷ parts) = part ++ behind_commas parts
+abbrev pub separated_pieces : List (List Piece) → List Piece
+separated_pieces [] = []
+separated_pieces (part ∷ parts) = part ++ behind_commas parts

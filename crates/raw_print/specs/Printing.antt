@@ -18,7 +18,7 @@ use Rattle.math_grammar.specs.declared.symbols.Symbol.{Symbol}
 use Rattle.math_grammar.specs.declared.symbols.Symbol.TheVariants as sym
 use Rattle.math_grammar.specs.Tokens.{Item}
 use Rattle.math_grammar.specs.Operators.{raw_sign_of, raw_class_of, raw_binder_sign_of, raw_binder_class_of}
-use Rattle.raw_print.specs.Pieces.{Piece, Blank, Token, text_of, tokens_of, word, close_brace, dot, bar, typing, becomes, becomes_in, becomes_such, in_round, in_square, in_braces, between, separated}
+use Rattle.raw_print.specs.Pieces.{Piece, Blank, Token, text_of, tokens_of, word_piece, close_brace_piece, dot_piece, bar_piece, typing_piece, becomes, becomes_in, becomes_such, in_round, in_square, in_braces, sign_between, separated_pieces}
 
 -- a sign that is a form of its own, or one that brackets close
 abbrev pub is_atomic : Symbol → Bool
@@ -39,51 +39,51 @@ abbrev pub stands_alone : Raw → Bool
 stands_alone r = stands_alone_at (out-Raw r)
 
 -- a part beside its pieces
-abbrev pub Part : Type 0
-Part = Raw × List Piece
+abbrev pub PartWithPieces : Type 0
+PartWithPieces = Raw × List Piece
 
 -- an operand: in parentheses, unless it stands alone
-abbrev pub operand : Part → List Piece
-operand p = if stands_alone p.0 then p.1 else in_round p.1
+abbrev pub operand_pieces : PartWithPieces → List Piece
+operand_pieces p = if stands_alone p.0 then p.1 else in_round p.1
 
-abbrev pub bare : List Part → List (List Piece)
+abbrev pub bare : List PartWithPieces → List (List Piece)
 bare parts = map (λ p. p.1) parts
 
 -- An operator, by its sign: before one operand or behind it ..
-abbrev pub unary : Symbol → Piece → Part → List Piece
-unary sym.Converse sign a = operand a ++ sign ∷ []
-unary x sign a = sign ∷ operand a
+abbrev pub unary : Symbol → Piece → PartWithPieces → List Piece
+unary sym.Converse sign a = operand_pieces a ++ sign ∷ []
+unary x sign a = sign ∷ operand_pieces a
 
 -- .. behind the first of two, with the second one behind it or in brackets ..
-abbrev pub second : Symbol → Piece → Part → List Piece
+abbrev pub second : Symbol → Piece → PartWithPieces → List Piece
 second (sym.Open bracket.Round) sign b = in_round b.1
 second (sym.Open bracket.Square) sign b = in_square b.1
-second x sign b = Blank ∷ sign ∷ Blank ∷ operand b
+second x sign b = Blank ∷ sign ∷ Blank ∷ operand_pieces b
 
 -- .. or alone. No formula that is read has other operands.
-abbrev pub operands : Symbol → Piece → List Part → List Piece
-operands x sign [] = sign ∷ []
-operands x sign (a ∷ []) = unary x sign a
-operands x sign (a ∷ b ∷ []) = operand a ++ second x sign b
-operands x sign _ = []
+abbrev pub operation_pieces : Symbol → Piece → List PartWithPieces → List Piece
+operation_pieces x sign [] = sign ∷ []
+operation_pieces x sign (a ∷ []) = unary x sign a
+operation_pieces x sign (a ∷ b ∷ []) = operand_pieces a ++ second x sign b
+operation_pieces x sign _ = []
 
 -- a word before parts in parentheses, a set of members, or an operator with its operands
-abbrev pub form : Symbol → Piece → List Part → List Piece
-form (sym.Call c o) sign parts = sign ∷ in_round (separated (bare parts))
-form (sym.Open bracket.Brace) sign parts = in_braces (separated (bare parts))
-form x sign parts = operands x sign parts
+abbrev pub form : Symbol → Piece → List PartWithPieces → List Piece
+form (sym.Call c o) sign parts = sign ∷ in_round (separated_pieces (bare parts))
+form (sym.Open bracket.Brace) sign parts = in_braces (separated_pieces (bare parts))
+form x sign parts = operation_pieces x sign parts
 
-abbrev pub node_pieces : RawOp → List Part → List Piece
+abbrev pub node_pieces : RawOp → List PartWithPieces → List Piece
 node_pieces o parts = form (raw_class_of o) (Token (raw_class_of o) (raw_sign_of o)) parts
 
 -- the type behind a name
-abbrev pub type_pieces : Option Part → List Piece
+abbrev pub type_pieces : Option PartWithPieces → List Piece
 type_pieces None = []
-type_pieces (Some t) = typing ∷ operand t
+type_pieces (Some t) = typing_piece ∷ operand_pieces t
 
 -- a name that is bound, with its type where that is written
-abbrev pub declaration : List ℕ → Option Part → List Piece
-declaration name t = word name ∷ type_pieces t
+abbrev pub declaration : List ℕ → Option PartWithPieces → List Piece
+declaration name t = word_piece name ∷ type_pieces t
 
 abbrev pub names_in_parts : List ℕ → ℕ
 names_in_parts (l ∷ r ∷ []) = l + r
@@ -95,67 +95,68 @@ names_in_step (Node o parts place) = names_in_parts parts
 names_in_step _ = 0
 
 -- how many names a pattern has
-abbrev pub names_in : Raw → ℕ
-names_in = fold-Raw ℕ ℕ names_in_step (λ b. 0)
+abbrev pub pattern_name_count : Raw → ℕ
+pattern_name_count = fold-Raw ℕ ℕ names_in_step (λ b. 0)
 
 -- the pieces of a pattern, whose names stand at the front of a list
-abbrev pub Pattern : Type 0
-Pattern = List (List Piece) → List Piece
+abbrev pub PatternPrinter : Type 0
+PatternPrinter = List (List Piece) → List Piece
 
-abbrev pub first_name : Pattern
+abbrev pub first_name : PatternPrinter
 first_name [] = []
 first_name (name ∷ names) = name
 
-abbrev pub side : Raw × Pattern → Pattern
-side p names = operand (p.0, p.1 names)
+abbrev pub side : Raw × PatternPrinter → PatternPrinter
+side p names = operand_pieces (p.0, p.1 names)
 
-abbrev pub maplet : Piece
-maplet = Token (raw_class_of (rawop.Plain op.Maplet)) (raw_sign_of (rawop.Plain op.Maplet))
+abbrev pub maplet_piece : Piece
+maplet_piece = Token (raw_class_of (rawop.Plain op.Maplet)) (raw_sign_of (rawop.Plain op.Maplet))
 
-abbrev pub pattern_of_parts : List (Raw × Pattern) → Pattern
-pattern_of_parts (l ∷ r ∷ []) names = between (side l names) maplet (side r (drop (names_in l.0) names))
+abbrev pub pattern_of_parts : List (Raw × PatternPrinter) → PatternPrinter
+pattern_of_parts (l ∷ r ∷ []) names =
+    sign_between (side l names) maplet_piece (side r (drop (pattern_name_count l.0) names))
 pattern_of_parts _ names = []
 
-abbrev pub pattern_step : Raw-F (Raw × Pattern) (RawBound-F Raw (Unit {0}) × Unit {0}) → Pattern
+abbrev pub pattern_step : Raw-F (Raw × PatternPrinter) (RawBound-F Raw (Unit {0}) × Unit {0}) → PatternPrinter
 pattern_step (Name x place) names = first_name names
 pattern_step (Node o parts place) names = pattern_of_parts parts names
 pattern_step _ names = []
 
 -- the pattern of λ: names with their types, and ↦ between patterns
-abbrev pub pattern : Raw → Pattern
-pattern = para-Raw Pattern (Unit {0}) pattern_step (λ b. tt)
+abbrev pub pattern : Raw → PatternPrinter
+pattern = para-Raw PatternPrinter (Unit {0}) pattern_step (λ b. tt)
 
 -- a predicate, or two parts with a bar between them
-abbrev pub body : List Part → List Piece
-body (p ∷ []) = p.1
-body (p ∷ e ∷ []) = between p.1 bar e.1
-body _ = []
+abbrev pub body_pieces : List PartWithPieces → List Piece
+body_pieces (p ∷ []) = p.1
+body_pieces (p ∷ e ∷ []) = sign_between p.1 bar_piece e.1
+body_pieces _ = []
 
 -- braces are closed
 abbrev pub ending : Symbol → List Piece
-ending (sym.Open b) = close_brace ∷ []
+ending (sym.Open b) = close_brace_piece ∷ []
 ending _ = []
 
-abbrev pub lambda : List (List Piece) → List Part → List Piece
-lambda names [] = []
-lambda names (tree ∷ parts) = pattern tree.0 names ++ (dot ∷ body parts)
+abbrev pub lambda_pieces : List (List Piece) → List PartWithPieces → List Piece
+lambda_pieces names [] = []
+lambda_pieces names (tree ∷ parts) = pattern tree.0 names ++ (dot_piece ∷ body_pieces parts)
 
 -- what stands behind the sign of a binder
-abbrev pub scope : RawBinder → List (List Piece) → List Part → List Piece
-scope (rawbinder.Plain b) names parts = separated names ++ (dot ∷ body parts)
-scope rawbinder.Lambda names parts = lambda names parts
-scope (rawbinder.Implicit b) names parts = body parts
+abbrev pub scope : RawBinder → List (List Piece) → List PartWithPieces → List Piece
+scope (rawbinder.Plain b) names parts = separated_pieces names ++ (dot_piece ∷ body_pieces parts)
+scope rawbinder.Lambda names parts = lambda_pieces names parts
+scope (rawbinder.Implicit b) names parts = body_pieces parts
 
-abbrev pub bind_pieces : RawBinder → List (List Piece) → List Part → List Piece
+abbrev pub bind_pieces : RawBinder → List (List Piece) → List PartWithPieces → List Piece
 bind_pieces b names parts = Token (raw_binder_class_of b) (raw_binder_sign_of b) ∷ (scope b names parts ++ ending (raw_binder_class_of b))
 
-abbrev pub pieces_step : Raw-F Part (RawBound-F Raw (Unit {0}) × List Piece) → List Piece
+abbrev pub pieces_step : Raw-F PartWithPieces (RawBound-F Raw (Unit {0}) × List Piece) → List Piece
 pieces_step (Int n place) = Token (sym.Number n) (signed_decimal n) ∷ []
-pieces_step (Name x place) = word x ∷ []
+pieces_step (Name x place) = word_piece x ∷ []
 pieces_step (Node o parts place) = node_pieces o parts
 pieces_step (Bind b names parts place) = bind_pieces b (map (λ n. n.1) names) parts
 
-abbrev pub declaration_step : RawBound-F Part (RawBound-F Raw (Unit {0}) × List Piece) → List Piece
+abbrev pub declaration_step : RawBound-F PartWithPieces (RawBound-F Raw (Unit {0}) × List Piece) → List Piece
 declaration_step b = declaration b.name b.ty
 
 -- the pieces of a formula
@@ -164,17 +165,17 @@ pieces = para-Raw (List Piece) (List Piece) pieces_step declaration_step
 
 -- a name that is assigned, and more of them
 abbrev pub target : Ref → List Piece
-target r = word r.name ∷ []
+target r = word_piece r.name ∷ []
 
 abbrev pub targets : List Ref → List Piece
-targets refs = separated (map target refs)
+targets refs = separated_pieces (map target refs)
 
 -- the pieces of an action
 abbrev pub action_pieces : RawAction → List Piece
-action_pieces (Assign names values) = between (targets names) becomes (separated (map pieces values))
-action_pieces (Apply f a e) = between (word f.name ∷ in_round (pieces a)) becomes (pieces e)
-action_pieces (ChooseIn x s) = between (word x.name ∷ []) becomes_in (pieces s)
-action_pieces (ChooseSuch names p) = between (targets names) becomes_such (pieces p)
+action_pieces (Assign names values) = sign_between (targets names) becomes (separated_pieces (map pieces values))
+action_pieces (Apply f a e) = sign_between (word_piece f.name ∷ in_round (pieces a)) becomes (pieces e)
+action_pieces (ChooseIn x s) = sign_between (word_piece x.name ∷ []) becomes_in (pieces s)
+action_pieces (ChooseSuch names p) = sign_between (targets names) becomes_such (pieces p)
 
 -- the tokens of the printed formula, and its text
 abbrev pub raw_tokens : Raw → List Item

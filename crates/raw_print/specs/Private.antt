@@ -4,14 +4,14 @@ use Rattle.std.specs.Option.{option_map}
 use Rattle.formula_core.specs.declared.raw.RawBound.{RawBound}
 use Rattle.formula_core.specs.declared.raw.Raw.{Raw}
 use Rattle.raw_print.specs.Pieces.{Piece}
-use Rattle.raw_print.specs.Printing.{Part, declaration, Pattern, pattern, pieces}
+use Rattle.raw_print.specs.Printing.{PartWithPieces, declaration, PatternPrinter, pattern, pieces}
 
 -- a pattern beside its pieces
-abbrev pub with_pattern : Raw → Raw × Pattern
+abbrev pub with_pattern : Raw → Raw × PatternPrinter
 with_pattern r = (r, pattern r)
 
 -- a formula beside its pieces
-abbrev pub with_pieces : Raw → Part
+abbrev pub with_pieces : Raw → PartWithPieces
 with_pieces r = (r, pieces r)
 
 -- the pieces of a name that is bound

@@ -4,8 +4,8 @@
 ghost use Rattle.std.specs.Prelude.{◌≡◌, ◌++◌, ◌∷◌, [], OnOk, IfOk, string_bytes, map, drop};
 ghost use Rattle.std.specs.Fmt.{signed_decimal};
 ghost use Rattle.std.specs.Option.{option_map};
-ghost use Rattle.raw_print.specs.Pieces.{Token, text_of, behind_commas, separated};
-ghost use Rattle.raw_print.specs.Printing.{Part, is_atomic, stands_alone, operand, unary, second, operands, node_pieces, declaration, names_in, side, pattern, body, ending, scope, bind_pieces, pieces, raw_text};
+ghost use Rattle.raw_print.specs.Pieces.{Token, text_of, behind_commas, separated_pieces};
+ghost use Rattle.raw_print.specs.Printing.{PartWithPieces, is_atomic, stands_alone, operand_pieces, unary, second, operation_pieces, node_pieces, declaration, pattern_name_count, side, pattern, body_pieces, ending, scope, bind_pieces, pieces, raw_text};
 ghost use Rattle.raw_print.specs.Private.{with_pattern, with_pieces, declared};
 
 use formula_core::{OutOfMemory, Raw, RawBinder, RawBound, RawOp};
@@ -96,7 +96,7 @@ fn print_operands(
     sign: &str,
     parts: &[Raw],
 ) -> Result<(), OutOfMemory>
-    ensures { OnOk result (string_bytes out.new ≡ string_bytes out.old ++ text_of (operands symbol (Token symbol sign.now) (map with_pieces parts.now))) }
+    ensures { OnOk result (string_bytes out.new ≡ string_bytes out.old ++ text_of (operation_pieces symbol (Token symbol sign.now) (map with_pieces parts.now))) }
 {
     match parts {
         [] => print_text(out, sign),
@@ -146,7 +146,7 @@ fn print_second(out: &mut String, symbol: Symbol, sign: &str, b: &Raw) -> Result
 /// Adds an operand, in parentheses unless it stands alone.
 #[cycle(printing)]
 fn print_operand(out: &mut String, part: &Raw) -> Result<(), OutOfMemory>
-    ensures { OnOk result (string_bytes out.new ≡ string_bytes out.old ++ text_of (operand (with_pieces part.now))) }
+    ensures { OnOk result (string_bytes out.new ≡ string_bytes out.old ++ text_of (operand_pieces (with_pieces part.now))) }
 {
     if stands_alone(part) {
         print_formula(out, part)
@@ -179,7 +179,7 @@ fn print_list(
     parts: &[Raw],
     closing: &str,
 ) -> Result<(), OutOfMemory>
-    ensures { OnOk result (string_bytes out.new ≡ string_bytes out.old ++ (opening.now ++ (text_of (separated (map pieces parts.now)) ++ closing.now))) }
+    ensures { OnOk result (string_bytes out.new ≡ string_bytes out.old ++ (opening.now ++ (text_of (separated_pieces (map pieces parts.now)) ++ closing.now))) }
 {
     out.push_str(opening)?;
     print_separated(out, parts)?;
@@ -190,7 +190,7 @@ fn print_list(
 /// Adds formulas with commas between them.
 #[cycle(printing)]
 pub(crate) fn print_separated(out: &mut String, parts: &[Raw]) -> Result<(), OutOfMemory>
-    ensures { OnOk result (string_bytes out.new ≡ string_bytes out.old ++ text_of (separated (map pieces parts.now))) }
+    ensures { OnOk result (string_bytes out.new ≡ string_bytes out.old ++ text_of (separated_pieces (map pieces parts.now))) }
 {
     if let Some((first, rest)) = parts.split_first() {
         print_formula(out, first)?;
@@ -233,7 +233,7 @@ fn print_scope(
 /// Adds a predicate, or two parts with a bar between them.
 #[cycle(printing)]
 fn print_body(out: &mut String, parts: &[Raw]) -> Result<(), OutOfMemory>
-    ensures { OnOk result (string_bytes out.new ≡ string_bytes out.old ++ text_of (body (map with_pieces parts.now))) }
+    ensures { OnOk result (string_bytes out.new ≡ string_bytes out.old ++ text_of (body_pieces (map with_pieces parts.now))) }
 {
     match parts {
         [p] => print_formula(out, p),
@@ -249,7 +249,7 @@ fn print_body(out: &mut String, parts: &[Raw]) -> Result<(), OutOfMemory>
 /// Adds names with their types, with commas between them.
 #[cycle(printing)]
 fn print_declarations(out: &mut String, names: &[RawBound]) -> Result<(), OutOfMemory>
-    ensures { OnOk result (string_bytes out.new ≡ string_bytes out.old ++ text_of (separated (map declared names.now))) }
+    ensures { OnOk result (string_bytes out.new ≡ string_bytes out.old ++ text_of (separated_pieces (map declared names.now))) }
 {
     if let Some((first, rest)) = names.split_first() {
         print_declaration(out, first)?;
@@ -282,7 +282,7 @@ fn print_pattern<'a>(
     names: &'a [RawBound],
 ) -> Result<&'a [RawBound], OutOfMemory>
     ensures text { OnOk result (string_bytes out.new ≡ string_bytes out.old ++ text_of (pattern tree.now (map declared names.now))) }
-    ensures left { IfOk result (λ rest. rest.now ≡ drop (names_in tree.now) names.now) }
+    ensures left { IfOk result (λ rest. rest.now ≡ drop (pattern_name_count tree.now) names.now) }
 {
     match tree {
         Raw::Name(_, _) => match names.split_first() {
@@ -314,7 +314,7 @@ fn print_side<'a>(
     names: &'a [RawBound],
 ) -> Result<&'a [RawBound], OutOfMemory>
     ensures text { OnOk result (string_bytes out.new ≡ string_bytes out.old ++ text_of (side (with_pattern tree.now) (map declared names.now))) }
-    ensures left { IfOk result (λ rest. rest.now ≡ drop (names_in tree.now) names.now) }
+    ensures left { IfOk result (λ rest. rest.now ≡ drop (pattern_name_count tree.now) names.now) }
 {
     if stands_alone(tree) {
         return print_pattern(out, tree, names);

@@ -10,10 +10,10 @@ use Rattle.model_core.specs.declared.component.Convergence.TheVariants.{Ordinary
 use Rattle.model_core.specs.declared.component.RawLabelled.{RawLabelled}
 use Rattle.model_core.specs.declared.component.RawStep.{RawStep}
 use Rattle.model_core.specs.declared.component.RawComponent.{RawComponent}
-use Rattle.component_text.specs.Marks.{Mark, word, label, plain, marks_of, is_word as marked}
+use Rattle.component_text.specs.Marks.{Mark, word, label, plain, marks_of, is_word_mark as marked}
 use Rattle.component_text.specs.Forms.{Bounds, limits, One, Nothing, Choice, taken, other, Many, no_more, one_more, Of}
 use Rattle.component_text.specs.Grammar.{reference, label_at, is_reference, is_a_label, begins_line, context_of, Names, Labelled, Line, Lines, NamesBehind, LinesBehind, ContextBody}
-use Rattle.component_text.specs.Machines.{either, begins_event, event_of, machine_of, Witnesses, Step, Steps, Guards, With, Actions, EventBody, Event, EventList, Events, MachineBody, IsComponent, a_context, a_machine}
+use Rattle.component_text.specs.Machines.{either, begins_event, event_of, machine_of, Witnesses, Step, ManySteps, Guards, With, Actions, EventBody, Event, EventList, Events, MachineBody, IsComponent, a_context, a_machine}
 use Rattle.name_laws.specs.Labels.{IsPlain}
 use Rattle.name_laws.specs.Written.{IsPlainlyWrittenEvent, IsPlainlyWritten}
 use Rattle.name_laws.proofs.Lists.{all_map}
@@ -108,7 +108,7 @@ witnesses_plain = choice_gives (marked (codes "with")) Witnesses (Nothing []) (A
     (many_gives is_a_label (Labelled false) HasPlainLabel (labelled_plain false)) (nothing_gives [] (AllByRecursion HasPlainLabel) tt)
 
 actions_plain : Gives Actions (AllByRecursion HasPlainStep)
-actions_plain = choice_gives (either (codes "then") (codes "begin")) Steps (Nothing []) (AllByRecursion HasPlainStep)
+actions_plain = choice_gives (either (codes "then") (codes "begin")) ManySteps (Nothing []) (AllByRecursion HasPlainStep)
     (many_gives is_a_label Step HasPlainStep step_plain) (nothing_gives [] (AllByRecursion HasPlainStep) tt)
 
 event_body_plain : (c : Convergence) → Gives (EventBody c) IsPlainlyWrittenEvent

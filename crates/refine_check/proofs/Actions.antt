@@ -13,7 +13,7 @@ use Rattle.type_action.specs.CoreActions.{core_action, unknowns_of, unknown_targ
 use Rattle.model_core.specs.declared.fault.Fault.{Fault}
 use Rattle.model_core.specs.Each.{is_among}
 use Rattle.model_core.specs.Faults.{earlier, comes_before, first_by_place}
-use Rattle.check_rules.specs.Refinements.{lost_among, names_in}
+use Rattle.check_rules.specs.Refinements.{lost_among, unknowns_in}
 use Rattle.refine_check.specs.Private.{used_at}
 use Rattle.refine_check.proofs.Faults.{lost_append, lost_split, lost_both}
 
@@ -47,7 +47,7 @@ module _ (component : List ℕ) (lost : List (List ℕ)) where
   targets_lost rs = joined (map (λ r. lost_in (used_at r ∷ [])) rs)
 
   abbrev pub formulas_lost : List Raw → List Fault
-  formulas_lost fs = joined (map (λ f. lost_in (names_in f)) fs)
+  formulas_lost fs = joined (map (λ f. lost_in (unknowns_in f)) fs)
 
   targets_are : (rs : List Ref) → lost_in (unknown_targets [] rs) ≡ targets_lost rs
   targets_are [] = refl
@@ -57,7 +57,7 @@ module _ (component : List ℕ) (lost : List (List ℕ)) where
 
   values_are : (fs : List Raw) → lost_in (joined (map (unknowns [] [] []) (map core_form fs))) ≡ formulas_lost fs
   values_are [] = refl
-  values_are (f ∷ fs) = lost_append component lost (names_in f) (joined (map (unknowns [] [] []) (map core_form fs))) ∙ ap (λ ys. lost_in (names_in f) ++ ys) (values_are fs)
+  values_are (f ∷ fs) = lost_append component lost (unknowns_in f) (joined (map (unknowns [] [] []) (map core_form fs))) ∙ ap (λ ys. lost_in (unknowns_in f) ++ ys) (values_are fs)
 
   one_target : (r : Ref) → lost_in (unknown_targets [] (r ∷ [])) ≡ lost_in (used_at r ∷ [])
   one_target r = ap (λ t. lost_in (if is_some t then [] else (used_at r ∷ []))) (nothing_known r.name)
@@ -73,14 +73,14 @@ module _ (component : List ℕ) (lost : List (List ℕ)) where
         earlier first second ≡ first_by_place (lost_in (unknowns_of [] (core_action (raw.Assign ts vs))))
     assign_is ts vs e f = then_uses (unknown_targets [] ts) (joined (map (unknowns [] [] []) (map core_form vs))) (targets_lost ts) (formulas_lost vs) (targets_are ts) (values_are vs) e f
 
-    pub choose_in_is : (r : Ref) (set : Raw) → first ≡ first_by_place (lost_in (used_at r ∷ [])) → second ≡ first_by_place (lost_in (names_in set)) →
+    pub choose_in_is : (r : Ref) (set : Raw) → first ≡ first_by_place (lost_in (used_at r ∷ [])) → second ≡ first_by_place (lost_in (unknowns_in set)) →
         earlier first second ≡ first_by_place (lost_in (unknowns_of [] (core_action (raw.ChooseIn r set))))
-    choose_in_is r set e f = then_uses (unknown_targets [] (r ∷ [])) (names_in set) (lost_in (used_at r ∷ [])) (lost_in (names_in set)) (one_target r) refl e f
+    choose_in_is r set e f = then_uses (unknown_targets [] (r ∷ [])) (unknowns_in set) (lost_in (used_at r ∷ [])) (lost_in (unknowns_in set)) (one_target r) refl e f
 
-    pub choose_such_is : (ts : List Ref) (p : Raw) → first ≡ first_by_place (targets_lost ts) → second ≡ first_by_place (lost_in (names_in p)) →
+    pub choose_such_is : (ts : List Ref) (p : Raw) → first ≡ first_by_place (targets_lost ts) → second ≡ first_by_place (lost_in (unknowns_in p)) →
         earlier first second ≡ first_by_place (lost_in (unknowns_of [] (core_action (raw.ChooseSuch ts p))))
     choose_such_is ts p e f =
-        then_uses (unknown_targets [] ts) (unknowns (env_after [] ts) [] [] (core_form p)) (targets_lost ts) (lost_in (names_in p)) (targets_are ts)
+        then_uses (unknown_targets [] ts) (unknowns (env_after [] ts) [] [] (core_form p)) (targets_lost ts) (lost_in (unknowns_in p)) (targets_are ts)
         (ap (λ env. lost_in (unknowns env [] [] (core_form p))) (empty_after ts)) e f
 
   same_again : (b : Bool) (f : Fault) → cond b (Some f) (Some f) ≡ Some f
@@ -106,16 +106,16 @@ module _ (component : List ℕ) (lost : List (List ℕ)) where
   append_nil [] = refl
   append_nil (x ∷ xs) = ap (λ ys. x ∷ ys) (append_nil xs)
 
-  pub apply_is : (r : Ref) (x v : Raw) (first second third : Option Fault) → first ≡ first_by_place (lost_in (used_at r ∷ [])) → second ≡ first_by_place (lost_in (names_in x)) →
-      third ≡ first_by_place (lost_in (names_in v)) → earlier first (earlier second third) ≡ first_by_place (lost_in (unknowns_of [] (core_action (raw.Apply r x v))))
+  pub apply_is : (r : Ref) (x v : Raw) (first second third : Option Fault) → first ≡ first_by_place (lost_in (used_at r ∷ [])) → second ≡ first_by_place (lost_in (unknowns_in x)) →
+      third ≡ first_by_place (lost_in (unknowns_in v)) → earlier first (earlier second third) ≡ first_by_place (lost_in (unknowns_of [] (core_action (raw.Apply r x v))))
   apply_is r x v first second third e f g =
       ap (λ a. earlier a (earlier second third)) e
-      ∙ ap (earlier (first_by_place (lost_in (used_at r ∷ [])))) (lost_both component lost (names_in x) (names_in v) second third f g)
-      ∙ sym (target_twice (is_among lost r.name) r (names_in x ++ names_in v) refl)
-      ∙ ap (earlier (first_by_place (lost_in (used_at r ∷ [])))) (sym (lost_split component lost (used_at r ∷ []) (names_in x ++ names_in v)))
-      ∙ sym (lost_split component lost (used_at r ∷ []) (used_at r ∷ names_in x ++ names_in v))
+      ∙ ap (earlier (first_by_place (lost_in (used_at r ∷ [])))) (lost_both component lost (unknowns_in x) (unknowns_in v) second third f g)
+      ∙ sym (target_twice (is_among lost r.name) r (unknowns_in x ++ unknowns_in v) refl)
+      ∙ ap (earlier (first_by_place (lost_in (used_at r ∷ [])))) (sym (lost_split component lost (used_at r ∷ []) (unknowns_in x ++ unknowns_in v)))
+      ∙ sym (lost_split component lost (used_at r ∷ []) (used_at r ∷ unknowns_in x ++ unknowns_in v))
       ∙ ap (λ uses. first_by_place (lost_in (used_at r ∷ used_at r ∷ uses))) parts
-      ∙ ap (λ t. first_by_place (lost_in ((if is_some t then [] else (used_at r ∷ [])) ++ (used_at r ∷ ((((names_in x ++ (names_in v ++ [])) ++ []) ++ []) ++ []))))) (sym (nothing_known r.name))
+      ∙ ap (λ t. first_by_place (lost_in ((if is_some t then [] else (used_at r ∷ [])) ++ (used_at r ∷ ((((unknowns_in x ++ (unknowns_in v ++ [])) ++ []) ++ []) ++ []))))) (sym (nothing_known r.name))
     where
-      parts : names_in x ++ names_in v ≡ (((names_in x ++ (names_in v ++ [])) ++ []) ++ []) ++ []
-      parts = sym (append_nil _ ∙ append_nil _ ∙ append_nil _ ∙ ap (λ ys. names_in x ++ ys) (append_nil (names_in v)))
+      parts : unknowns_in x ++ unknowns_in v ≡ (((unknowns_in x ++ (unknowns_in v ++ [])) ++ []) ++ []) ++ []
+      parts = sym (append_nil _ ∙ append_nil _ ∙ append_nil _ ∙ ap (λ ys. unknowns_in x ++ ys) (append_nil (unknowns_in v)))

@@ -14,7 +14,7 @@ use Rattle.model_core.specs.Faults.{earlier, first_by_place}
 use Rattle.model_core.proofs.Firsts.{each_more, taken_more}
 use Rattle.check_rules.specs.Visible.{names}
 use Rattle.check_rules.specs.Typed.{Entries}
-use Rattle.check_rules.specs.Refinements.{without_labels, first_actions, has_other_type, differs, merged_differ_row}
+use Rattle.check_rules.specs.Refinements.{without_labels, first_actions, has_other_type, differs_in_merge, merged_differ_row}
 use Rattle.refine_check.specs.declared.param_types.Known.{Known}
 use Rattle.refine_check.specs.Private.{found_at, is_other_there, HasTypesOf}
 use Rattle.refine_check.proofs.Converging.{all_map}
@@ -31,7 +31,7 @@ pub differs_is : (kept : List (List ℕ)) (before : Found) (types : BTreeMap (Bo
     HasTypesOf types (found_at before) → params ≡ event.params →
     same ≡ same_actions (first_actions (found_at before) (reference, event)) (without_labels event.actions) → all ≡ list_all (λ p. is_among kept p.0) params →
     other ≡ list_any (is_other_there types) params →
-    (not same || not all || other) ≡ differs kept (found_at before) (reference, event)
+    (not same || not all || other) ≡ differs_in_merge kept (found_at before) (reference, event)
 differs_is kept before types reference event params same all other h p s a o =
     let all_is : all ≡ list_all (is_among kept) (names event.params) = a ∙ sym (all_map (is_among kept) (λ x. x.0) params) ∙ ap (λ ps. list_all (is_among kept) (names ps)) p in
     let other_is : other ≡ list_any (has_other_type (joined (map (λ b. b.1.params) (found_at before)))) event.params =

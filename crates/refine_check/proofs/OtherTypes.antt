@@ -22,7 +22,7 @@ use Rattle.model_core.proofs.Lists.{any_append, at_index}
 use Rattle.check_rules.specs.Typed.{Entries}
 use Rattle.check_rules.specs.Refinements.{has_other_type}
 use Rattle.refine_check.specs.declared.param_types.Known.{Known}
-use Rattle.refine_check.specs.Private.{is_other, is_other_there, HasTypesOf, found_at}
+use Rattle.refine_check.specs.Private.{is_other_type, is_other_there, HasTypesOf, found_at}
 use Rattle.refine_check.proofs.Faults.{map_joined, map-append}
 
 or_false : (a : Bool) → (a || false) ≡ a
@@ -58,26 +58,26 @@ known_apart one ty apart t = at (same_type one t) (same_type ty t) refl refl
     at false c e f = refl
 
 pub none_noted : (m : BTreeMap (Bor (List ℕ)) Known) → m.entries ≡ [] → (p : List ℕ × Ty) → is_other_there m p ≡ false
-none_noted m e p = ap (λ es. is_other (lookup (λ k. is_eq (slice_cmp nat_cmp p.0 k.now)) es) p.1) e
+none_noted m e p = ap (λ es. is_other_type (lookup (λ k. is_eq (slice_cmp nat_cmp p.0 k.now)) es) p.1) e
 
 pub noted : (key : Bor (List ℕ)) (m n : BTreeMap (Bor (List ℕ)) Known) (after : Known) (name : List ℕ) (ty : Ty) →
     tree.Updates (λ x y. slice_cmp nat_cmp x.now y.now) m n key (Some after) → key.now ≡ name →
-    (known : Option Known) → known ≡ tree.get_by (λ k. slice_cmp nat_cmp name k.now) m → ((t : Ty) → is_other (Some after) t ≡ (is_other known t || not (same_type ty t))) →
+    (known : Option Known) → known ≡ tree.get_by (λ k. slice_cmp nat_cmp name k.now) m → ((t : Ty) → is_other_type (Some after) t ≡ (is_other_type known t || not (same_type ty t))) →
     (p : List ℕ × Ty) → is_other_there n p ≡ (is_other_there m p || has_other_type ((name, ty) ∷ []) p)
 noted key m n after name ty u e known is h p =
-    ap (λ g. is_other g p.1) (btree_map_updates_str key.now m n (Some after) u p.0) ∙ ap (λ k. is_other (cond (bytes_eq k p.0) (Some after) (at p.0)) p.1) e
+    ap (λ g. is_other_type g p.1) (btree_map_updates_str key.now m n (Some after) u p.0) ∙ ap (λ k. is_other_type (cond (bytes_eq k p.0) (Some after) (at p.0)) p.1) e
     ∙ chosen (bytes_eq name p.0) refl
   where
     at : List ℕ → Option Known
     at y = tree.get_by (λ k. slice_cmp nat_cmp y k.now) m
 
     chosen : (b : Bool) → bytes_eq name p.0 ≡ b →
-        is_other (cond b (Some after) (at p.0)) p.1 ≡ (is_other (at p.0) p.1 || ((bytes_eq name p.0 && not (same_type ty p.1)) || false))
+        is_other_type (cond b (Some after) (at p.0)) p.1 ≡ (is_other_type (at p.0) p.1 || ((bytes_eq name p.0 && not (same_type ty p.1)) || false))
     chosen true f =
-        h p.1 ∙ ap (λ k. is_other k p.1 || not (same_type ty p.1)) (is ∙ ap at ((bytes_eq-Decides name p.0).0 f))
-        ∙ ap (λ b. is_other (at p.0) p.1 || b) (sym (or_false (not (same_type ty p.1))))
-        ∙ ap (λ b. is_other (at p.0) p.1 || ((b && not (same_type ty p.1)) || false)) (sym f)
-    chosen false f = sym (or_false (is_other (at p.0) p.1)) ∙ ap (λ b. is_other (at p.0) p.1 || ((b && not (same_type ty p.1)) || false)) (sym f)
+        h p.1 ∙ ap (λ k. is_other_type k p.1 || not (same_type ty p.1)) (is ∙ ap at ((bytes_eq-Decides name p.0).0 f))
+        ∙ ap (λ b. is_other_type (at p.0) p.1 || b) (sym (or_false (not (same_type ty p.1))))
+        ∙ ap (λ b. is_other_type (at p.0) p.1 || ((b && not (same_type ty p.1)) || false)) (sym f)
+    chosen false f = sym (or_false (is_other_type (at p.0) p.1)) ∙ ap (λ b. is_other_type (at p.0) p.1 || ((b && not (same_type ty p.1)) || false)) (sym f)
 
 -- a test that one of those before passes, or one more
 pub any_more : {X : Type 0} (test : X → Bool) (xs : List X) (i : ℕ) (x : X) (start old new : Bool) → i < length xs → x ≡ get_or xs i x →

@@ -15,9 +15,9 @@ use Rattle.std.proofs.lemmas.Map.Text.{btree_map_updates_str}
 use Rattle.model_core.specs.declared.fault.Fault.{Fault}
 use Rattle.model_core.specs.declared.fault.FaultKind.{FaultKind}
 use Rattle.model_core.specs.Each.{is_among}
-use Rattle.model_core.specs.Faults.{rank, comes_before, earlier, first_by_place, fault_at}
+use Rattle.model_core.specs.Faults.{fault_rank, comes_before, earlier, first_by_place, fault_at}
 use Rattle.model_core.proofs.Lists.{any_append, at_index}
-use Rattle.refine_check.specs.Private.{first_place, lower, place_in, texts}
+use Rattle.refine_check.specs.Private.{first_index, lower, index_in, texts}
 use Rattle.refine_check.proofs.Faults.{map-append}
 
 or_false : (a : Bool) → (a || false) ≡ a
@@ -39,45 +39,45 @@ lower_at false true (Some i) r s e = let z : min (suc i) 0 ≡ 0 = omega arith i
 lower_at false false o r s e = lower_next o r ∙ ap (option_map suc) e
 
 -- where one of two tests passes
-lower_or : {X : Type 0} (a b : X → Bool) (xs : List X) → lower (first_place a xs) (first_place b xs) ≡ first_place (λ x. a x || b x) xs
+lower_or : {X : Type 0} (a b : X → Bool) (xs : List X) → lower (first_index a xs) (first_index b xs) ≡ first_index (λ x. a x || b x) xs
 lower_or a b [] = refl
-lower_or a b (x ∷ xs) = lower_at (a x) (b x) (first_place a xs) (first_place b xs) (first_place (λ y. a y || b y) xs) (lower_or a b xs)
+lower_or a b (x ∷ xs) = lower_at (a x) (b x) (first_index a xs) (first_index b xs) (first_index (λ y. a y || b y) xs) (lower_or a b xs)
 
 among_more : (xs : List (List ℕ)) (x y : List ℕ) → (is_among xs y || bytes_eq x y) ≡ is_among (xs ++ x ∷ []) y
 among_more xs x y =
     ap (λ b. is_among xs y || b) (nat_list_eq_equiv.symm x y ∙ sym (or_false (bytes_eq y x))) ∙ sym (any_append (bytes_eq y) xs (x ∷ []))
 
-pub none_first : (list : List (List ℕ)) → None ≡ first_place (is_among []) list
+pub none_first : (list : List (List ℕ)) → None ≡ first_index (is_among []) list
 none_first [] = refl
 none_first (x ∷ list) = ap (option_map suc) (none_first list)
 
 -- one more name that is looked for
 pub first_more : (list : List (List ℕ)) (names : List (Bor (List ℕ))) (i : ℕ) (d : Bor (List ℕ)) (old here new : Option ℕ) → i < length names →
-    old ≡ first_place (is_among (texts (take i names))) list → here ≡ first_place (bytes_eq (get_or names i d).now) list → new ≡ lower old here →
-    new ≡ first_place (is_among (texts (take (i + 1) names))) list
+    old ≡ first_index (is_among (texts (take i names))) list → here ≡ first_index (bytes_eq (get_or names i d).now) list → new ≡ lower old here →
+    new ≡ first_index (is_among (texts (take (i + 1) names))) list
 first_more list names i d old here new lt e f g =
     let x : Bor (List ℕ) = get_or names i d in
     g ∙ (λ j. lower (e j) (f j)) ∙ lower_or (is_among (texts (take i names))) (bytes_eq x.now) list
-    ∙ (λ j. first_place (λ y. among_more (texts (take i names)) x.now y j) list)
-    ∙ ap (λ xs. first_place (is_among xs) list) (sym (ap texts (take_more names i d lt) ∙ map-append (λ n. n.now) (take i names) (x ∷ [])))
+    ∙ (λ j. first_index (λ y. among_more (texts (take i names)) x.now y j) list)
+    ∙ ap (λ xs. first_index (is_among xs) list) (sym (ap texts (take_more names i d lt) ∙ map-append (λ n. n.now) (take i names) (x ∷ [])))
 
 got_next : {X : Type 0} (x : X) (xs : List X) (o : Option ℕ) → option_and_then (slice_get (x ∷ xs)) (option_map suc o) ≡ option_and_then (slice_get xs) o
 got_next x xs None = refl
 got_next x xs (Some i) = refl
 
 -- what stands at the first place
-pub first_is : {X : Type 0} (test : X → Bool) (xs : List X) → option_and_then (slice_get xs) (first_place test xs) ≡ slice_get (filter test xs) 0
+pub first_is : {X : Type 0} (test : X → Bool) (xs : List X) → option_and_then (slice_get xs) (first_index test xs) ≡ slice_get (filter test xs) 0
 first_is test [] = refl
 first_is test (x ∷ xs) = at (test x) (first_is test xs)
   where
-    at : (b : Bool) → option_and_then (slice_get xs) (first_place test xs) ≡ slice_get (filter test xs) 0 →
-        option_and_then (slice_get (x ∷ xs)) (cond b (Some 0) (option_map suc (first_place test xs))) ≡ slice_get (cond b (x ∷ filter test xs) (filter test xs)) 0
+    at : (b : Bool) → option_and_then (slice_get xs) (first_index test xs) ≡ slice_get (filter test xs) 0 →
+        option_and_then (slice_get (x ∷ xs)) (cond b (Some 0) (option_map suc (first_index test xs))) ≡ slice_get (cond b (x ∷ filter test xs) (filter test xs)) 0
     at true h = refl
-    at false h = got_next x xs (first_place test xs) ∙ h
+    at false h = got_next x xs (first_index test xs) ∙ h
 
-pub some_place : (text : List ℕ) (xs : List (List ℕ)) → is_some (first_place (bytes_eq text) xs) ≡ is_among xs text
+pub some_place : (text : List ℕ) (xs : List (List ℕ)) → is_some (first_index (bytes_eq text) xs) ≡ is_among xs text
 some_place text [] = refl
-some_place text (x ∷ xs) = at (bytes_eq text x) (first_place (bytes_eq text) xs) (some_place text xs)
+some_place text (x ∷ xs) = at (bytes_eq text x) (first_index (bytes_eq text) xs) (some_place text xs)
   where
     next : (o : Option ℕ) → is_some (option_map suc o) ≡ is_some o
     next None = refl
@@ -97,14 +97,14 @@ behind_none (Some k) = let e : 0 + k ≡ k = omega arith in ap (λ n. Some n) e
 
 pub one_placed : (list : List (Bor (List ℕ))) (i : ℕ) (d : Bor (List ℕ)) → i < length list → (before after : BTreeMap (Bor (List ℕ)) ℕ) →
     tree.Updates (λ x y. slice_cmp nat_cmp x.now y.now) before after (get_or list i d) (Some i) →
-    ((text : List ℕ) → place_in before text ≡ behind (i + 1) (first_place (bytes_eq text) (texts (drop (i + 1) list)))) →
-    (text : List ℕ) → place_in after text ≡ behind i (first_place (bytes_eq text) (texts (drop i list)))
+    ((text : List ℕ) → index_in before text ≡ behind (i + 1) (first_index (bytes_eq text) (texts (drop (i + 1) list)))) →
+    (text : List ℕ) → index_in after text ≡ behind i (first_index (bytes_eq text) (texts (drop i list)))
 one_placed list i d inside before after u h text =
     let x : Bor (List ℕ) = get_or list i d in
     btree_map_updates_str x.now before after (Some i) u text
     ∙ (λ j. cond (nat_list_eq_equiv.symm x.now text j) (Some i) (h text j))
-    ∙ at (bytes_eq text x.now) (first_place (bytes_eq text) (texts (drop (i + 1) list)))
-    ∙ ap (λ ys. behind i (first_place (bytes_eq text) (texts ys))) (sym (at_index list i x inside (get_or_default list i d x inside)))
+    ∙ at (bytes_eq text x.now) (first_index (bytes_eq text) (texts (drop (i + 1) list)))
+    ∙ ap (λ ys. behind i (first_index (bytes_eq text) (texts ys))) (sym (at_index list i x inside (get_or_default list i d x inside)))
   where
     at : (b : Bool) (o : Option ℕ) → cond b (Some i) (behind (i + 1) o) ≡ behind i (cond b (Some 0) (option_map suc o))
     at true o = let z : i ≡ i + 0 = omega arith in ap (λ k. Some k) z
@@ -112,7 +112,7 @@ one_placed list i d inside before after u h text =
     at false (Some k) = let e : (i + 1) + k ≡ i + suc k = omega arith in ap (λ n. Some n) e
 
 tied : (component : List ℕ) (k : FaultKind) (place : ℕ) (one other : List ℕ) → comes_before (fault_at component k place other) (fault_at component k place one) ≡ false
-tied component k place one other = at (nat_lt place place) (nat_lt (rank k) (rank k)) (place == place) (grind (arith, nat_tests)) (grind (arith, nat_tests))
+tied component k place one other = at (nat_lt place place) (nat_lt (fault_rank k) (fault_rank k)) (place == place) (grind (arith, nat_tests)) (grind (arith, nat_tests))
   where
     at : (x y z : Bool) → x ≡ false → y ≡ false → (x || (z && y)) ≡ false
     at true y z e f = e

@@ -28,9 +28,9 @@ use Rattle.check_rules.specs.Assignments.{BothEvents}
 use Rattle.check_rules.specs.Refinements.{no_abstract_events, has_other_type, merged_differ_row, without_labels, all_chosen, missing_witnesses, superfluous_witnesses, lost_in_own, lost_in_inherited, converges_badly}
 
 -- the first place whose element passes
-abbrev pub first_place : {X : Type 0} → (X → Bool) → List X → Option ℕ
-first_place test [] = None
-first_place test (x ∷ xs) = if test x then Some 0 else option_map suc (first_place test xs)
+abbrev pub first_index : {X : Type 0} → (X → Bool) → List X → Option ℕ
+first_index test [] = None
+first_index test (x ∷ xs) = if test x then Some 0 else option_map suc (first_index test xs)
 
 -- the lower of two places
 abbrev pub lower : Option ℕ → Option ℕ → Option ℕ
@@ -39,8 +39,8 @@ lower (Some one) None = Some one
 lower (Some one) (Some other) = Some (min one other)
 
 -- the place that a text has in a map
-abbrev pub place_in : BTreeMap (Bor (List ℕ)) ℕ → List ℕ → Option ℕ
-place_in places text = tree.get_by (λ k. slice_cmp nat_cmp text k.now) places
+abbrev pub index_in : BTreeMap (Bor (List ℕ)) ℕ → List ℕ → Option ℕ
+index_in places text = tree.get_by (λ k. slice_cmp nat_cmp text k.now) places
 
 -- the text at a place, if there is one
 abbrev pub text_at : List (List ℕ) → Option ℕ → Option (List ℕ)
@@ -82,14 +82,14 @@ abbrev pub found_at : List (Bor Ref × Bor CheckedEvent) → List RefinedAt
 found_at found = map (λ x. (x.0.now, x.1.now)) found
 
 -- whether a parameter of these types has another one
-abbrev pub is_other : Option Known → Ty → Bool
-is_other None t = false
-is_other (Some (One u)) t = not (same_type u.now t)
-is_other (Some Several) t = true
+abbrev pub is_other_type : Option Known → Ty → Bool
+is_other_type None t = false
+is_other_type (Some (One u)) t = not (same_type u.now t)
+is_other_type (Some Several) t = true
 
 -- whether a parameter has another type there
 abbrev pub is_other_there : BTreeMap (Bor (List ℕ)) Known → List ℕ × Ty → Bool
-is_other_there types p = is_other (tree.get_by (λ k. slice_cmp nat_cmp p.0 k.now) types) p.1
+is_other_there types p = is_other_type (tree.get_by (λ k. slice_cmp nat_cmp p.0 k.now) types) p.1
 
 -- the types are those of these events' parameters
 abbrev pub HasTypesOf : BTreeMap (Bor (List ℕ)) Known → List RefinedAt → Type 0
@@ -106,8 +106,8 @@ abbrev pub bad_convergence_of : List ℕ → List CheckedEvent → Bool → RawE
 bad_convergence_of component abstract has_variant e = if converges_badly has_variant abstract e then fault_at component kind.BadConvergence e.name.place [] ∷ [] else []
 
 -- kinds 20 to 24 of an event
-abbrev pub row_of : List ℕ → List CheckedEvent → List CheckedEvent → List (List ℕ) → Bool → BothEvents → List Fault
-row_of component m abstract lost has_variant e =
+abbrev pub event_row : List ℕ → List CheckedEvent → List CheckedEvent → List (List ℕ) → Bool → BothEvents → List Fault
+event_row component m abstract lost has_variant e =
     no_abstract_events component m e.0
     ++ merged_differ_of component m (kept_params abstract e.0) e.0
     ++ bad_witnesses_of component (needed_of abstract (kept_params abstract e.0) lost e.0) e.0

@@ -3,14 +3,14 @@ ghost use Rattle.std.specs.Prelude.{◌≡◌, ◌&&◌, ◌++◌, ◌∷◌, []
 ghost use Rattle.std.specs.List.{filter, list_any};
 ghost use Rattle.std.specs.Option.{option_copied};
 ghost use Rattle.formula_core.specs.Formulas.{joined};
-ghost use Rattle.type_core.specs.Unknowns.{unknowns, all_unknowns, type_unknowns, names_in as bound_in};
+ghost use Rattle.type_core.specs.Unknowns.{unknowns, all_unknowns, type_unknowns, bound_names_in as bound_in};
 ghost use Rattle.type_core.specs.Views.{bare_of, bares_of, bounds_of};
 ghost use Rattle.type_action.specs.CoreActions.{core_action, unknowns_of};
 ghost use Rattle.model_core.specs.Each.{is_among};
 ghost use Rattle.model_core.specs.Faults.{first_by_place};
 ghost use Rattle.check_rules.specs.Visible.{names, entries, of_machine};
 ghost use Rattle.check_rules.specs.Contexts.{names_of};
-ghost use Rattle.check_rules.specs.Refinements.{lost_among, names_in, lost_in_own, lost_in_variant};
+ghost use Rattle.check_rules.specs.Refinements.{lost_among, unknowns_in, lost_in_own, lost_in_variant};
 ghost use Rattle.refine_check.specs.Private.{texts, used_at, lost_of};
 
 use crate::names::{Names, texts_of, texts_of_refs};
@@ -209,7 +209,7 @@ fn first_lost_in_formula(
     lost: &Names,
     formula: &Raw,
 ) -> Result<Option<Fault>, OutOfMemory>
-    ensures { IfOk result (λ first. first ≡ first_by_place (lost_among component.now lost.now (names_in formula.now))) }
+    ensures { IfOk result (λ first. first ≡ first_by_place (lost_among component.now lost.now (unknowns_in formula.now))) }
 {
     let tree = read(alloc, formula)?;
     let mut bound = Vec::new(alloc);
@@ -223,7 +223,7 @@ fn first_lost_in_all_formulas(
     formulas: &[Raw],
 ) -> Result<Option<Fault>, OutOfMemory>
     ensures { IfOk result (λ first.
-        first ≡ first_by_place (joined (map (λ f. lost_among component.now lost.now (names_in f)) formulas.now))) }
+        first ≡ first_by_place (joined (map (λ f. lost_among component.now lost.now (unknowns_in f)) formulas.now))) }
 {
     let mut first = None;
     for formula in formulas {
@@ -291,7 +291,7 @@ fn first_lost_in_guards(
     guards: &[RawLabelled],
 ) -> Result<Option<Fault>, OutOfMemory>
     ensures { IfOk result (λ first. first
-        ≡ first_by_place (joined (map (λ g. lost_among component.now lost.now (names_in g.formula)) guards.now))) }
+        ≡ first_by_place (joined (map (λ g. lost_among component.now lost.now (unknowns_in g.formula)) guards.now))) }
 {
     let mut first = None;
     for guard in guards {

@@ -7,7 +7,7 @@ ghost use Rattle.model_core.specs.Each.{at_each, is_among};
 ghost use Rattle.model_core.specs.Faults.{first_by_place};
 ghost use Rattle.check_rules.specs.Visible.{names};
 ghost use Rattle.check_rules.specs.Events.{with_event};
-ghost use Rattle.check_rules.specs.Refinements.{without_labels, first_actions, differs, merged_differ_row};
+ghost use Rattle.check_rules.specs.Refinements.{without_labels, first_actions, differs_in_merge, merged_differ_row};
 ghost use Rattle.refine_check.specs.Private.{found_at, HasTypesOf, merged_differ_of};
 
 use crate::names::Names;
@@ -71,7 +71,7 @@ fn is_any(same: bool, kept: bool, other: bool) -> bool
 /// Whether an event can't be merged with those before it, whose parameters have these types.
 fn differs(kept: &Names, before: &[Found], types: &Types<'_>, event: &CheckedEvent) -> bool
     requires { HasTypesOf types.now (found_at before.now) }
-    ensures { (reference : Reference) → result ≡ differs kept.now (found_at before.now) (reference, event.now) }
+    ensures { (reference : Reference) → result ≡ differs_in_merge kept.now (found_at before.now) (reference, event.now) }
 {
     let params = event.params.items();
     let same = have_same_actions(before, event);

@@ -5,7 +5,7 @@ ghost use Rattle.std.specs.Option.{option_map};
 ghost use Rattle.model_core.specs.Each.{is_among};
 ghost use Rattle.check_rules.specs.Visible.{names};
 ghost use Rattle.check_rules.specs.Contexts.{names_of};
-ghost use Rattle.refine_check.specs.Private.{first_place, lower, place_in, texts, text_at};
+ghost use Rattle.refine_check.specs.Private.{first_index, lower, index_in, texts, text_at};
 
 use formula_core::{Name, OutOfMemory, Ref, Ty};
 use std::alloc::Global;
@@ -21,13 +21,13 @@ pub(crate) struct Names<'a> {
 
 impl<'a> Model for Names<'a> {
     ghost use Rattle.std.specs.Prelude.{List, ℕ, ◌≡◌, bytes_eq};
-    ghost use Rattle.refine_check.specs.Private.{first_place, place_in, texts};
+    ghost use Rattle.refine_check.specs.Private.{first_index, index_in, texts};
 
     ghost Value = { List (List ℕ) };
 
     ghost view = { λ a. texts a.list.items };
 
-    ghost invariant = { λ a. (name : List ℕ) → place_in a.places name ≡ first_place (bytes_eq name) (texts a.list.items) };
+    ghost invariant = { λ a. (name : List ℕ) → index_in a.places name ≡ first_index (bytes_eq name) (texts a.list.items) };
 }
 
 impl<'a> Names<'a> {
@@ -55,8 +55,8 @@ impl<'a> Names<'a> {
 
 /// The lowest place that one of the names has.
 fn place_among(places: &BTreeMap<&str, usize>, names: &[&str]) -> Option<usize>
-    ensures { (list : List (List ℕ)) → ((name : List ℕ) → place_in places.now name ≡ first_place (bytes_eq name) list)
-        → result ≡ first_place (is_among (texts names.now)) list }
+    ensures { (list : List (List ℕ)) → ((name : List ℕ) → index_in places.now name ≡ first_index (bytes_eq name) list)
+        → result ≡ first_index (is_among (texts names.now)) list }
 {
     let mut lowest = None;
     for name in names {
@@ -86,7 +86,7 @@ fn text_at<'a>(list: &[&'a str], place: Option<usize>) -> Option<&'a str>
 /// The first place of each name: they are noted from the last to the first.
 fn places_of<'a>(alloc: Global, list: &[&'a str]) -> Result<BTreeMap<&'a str, usize>, OutOfMemory>
     ensures { IfOk result (λ places. (name : List ℕ)
-        → place_in places name ≡ first_place (bytes_eq name) (texts list.now)) }
+        → index_in places name ≡ first_index (bytes_eq name) (texts list.now)) }
 {
     let mut places = BTreeMap::new(alloc);
     for place in (0..list.len()).rev() {

@@ -5,7 +5,7 @@ ghost use Rattle.std.specs.Option.{option_copied};
 ghost use Rattle.formula_core.specs.declared.ty.Ty.{Ty};
 ghost use Rattle.formula_core.specs.Types.{same_type};
 ghost use Rattle.check_rules.specs.Refinements.{has_other_type};
-ghost use Rattle.refine_check.specs.Private.{is_other, is_other_there};
+ghost use Rattle.refine_check.specs.Private.{is_other_type, is_other_there};
 
 use formula_core::{Name, OutOfMemory, Ty};
 use std::collections::BTreeMap;
@@ -23,7 +23,7 @@ pub(crate) type Types<'a> = BTreeMap<&'a str, Known<'a>>;
 #[tactic(auto, using(crate::proofs::OtherTypes::known_same, crate::proofs::OtherTypes::known_apart))]
 fn with_type<'a>(known: Option<&Known<'a>>, ty: &'a Ty) -> Known<'a>
     ensures { (t : Ty)
-        → is_other (Some result) t ≡ (is_other (option_copied known.entry) t || not (same_type ty.entry.now t)) }
+        → is_other_type (Some result) t ≡ (is_other_type (option_copied known.entry) t || not (same_type ty.entry.now t)) }
 {
     match known {
         None => Known::One(ty),
@@ -62,7 +62,7 @@ pub(crate) fn note_types<'a>(
 }
 
 fn is_other(known: Option<&Known<'_>>, ty: &Ty) -> bool
-    ensures { result ≡ is_other (option_copied known.entry) ty.now }
+    ensures { result ≡ is_other_type (option_copied known.entry) ty.now }
 {
     match known {
         None => false,

@@ -8,7 +8,7 @@ ghost use Rattle.check_rules.specs.Contexts.{names_of};
 ghost use Rattle.check_rules.specs.Machines.{abstract_events};
 ghost use Rattle.check_rules.specs.Components.{machine_at, refinements_of};
 ghost use Rattle.check_rules.specs.Refinements.{refinement_row, refinement_faults};
-ghost use Rattle.refine_check.specs.Private.{lost_of, row_of};
+ghost use Rattle.refine_check.specs.Private.{lost_of, event_row};
 
 use crate::convergence::{bad_convergence, bad_variant};
 use crate::inherited::first_lost_in_inherited;
@@ -72,7 +72,7 @@ fn first_of_event(
     event: &RawEvent,
     typed: &CheckedEvent,
 ) -> Result<Option<Fault>, OutOfMemory>
-    ensures { IfOk result (λ first. first ≡ first_by_place (row_of beside.now.component.now beside.now.events.now
+    ensures { IfOk result (λ first. first ≡ first_by_place (event_row beside.now.component.now beside.now.events.now
         (map (λ x. x.now) refined.now) beside.now.lost.now beside.now.has_variant (event.now, typed.now))) }
 {
     let component = beside.component;

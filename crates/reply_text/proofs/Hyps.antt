@@ -4,18 +4,18 @@ use Rattle.std.proofs.lemmas.List.{append-nil, take_more, length-take-le}
 use Rattle.std.specs.Prelude.{codes}
 use Rattle.std.specs.Fmt.{decimal}
 use Rattle.formula_core.specs.declared.formula.Formula.{Formula}
-use Rattle.math_print.specs.Printing.{text_of}
+use Rattle.math_print.specs.Printing.{formula_text}
 use Rattle.formula_core.specs.Wellness.{is_well}
 use Rattle.formula_core.specs.Substitution.{AreWell}
 use Rattle.reply_text.specs.Statuses.{line}
 use Rattle.reply_text.specs.Printing.{hyp_lines_after}
 
 abbrev hyp_line : ℕ → Formula → List ℕ
-hyp_line number hyp = line (decimal number ++ codes ": " ++ text_of hyp)
+hyp_line number hyp = line (decimal number ++ codes ": " ++ formula_text hyp)
 
 -- the line of one hypothesis more
 pub one_more : (before : ℕ) (hyps : List Formula) (hyp : Formula) (number : ℕ) → number ≡ before + length hyps + 1 →
-    hyp_lines_after before (hyps ++ hyp ∷ []) ≡ hyp_lines_after before hyps ++ line (decimal number ++ codes ": " ++ text_of hyp)
+    hyp_lines_after before (hyps ++ hyp ∷ []) ≡ hyp_lines_after before hyps ++ line (decimal number ++ codes ": " ++ formula_text hyp)
 one_more before [] hyp number is =
     append-nil (hyp_line (before + 1) hyp) ∙ ap (λ n. hyp_line n hyp) (let e : before + 1 ≡ number = omega (arith, is) in e)
 one_more before (h ∷ hyps) hyp number is =
@@ -23,7 +23,7 @@ one_more before (h ∷ hyps) hyp number is =
     ∙ sym (append_assoc (hyp_line (before + 1) h) (hyp_lines_after (before + 1) hyps) (hyp_line number hyp))
 
 pub hyp_added : (hyps : List Formula) (i : ℕ) (hyp : Formula) → i < length hyps → hyp ≡ get_or hyps i hyp →
-    hyp_lines_after 0 (take (i + 1) hyps) ≡ hyp_lines_after 0 (take i hyps) ++ line (decimal (i + 1) ++ codes ": " ++ text_of hyp)
+    hyp_lines_after 0 (take (i + 1) hyps) ≡ hyp_lines_after 0 (take i hyps) ++ line (decimal (i + 1) ++ codes ": " ++ formula_text hyp)
 hyp_added hyps i hyp less is =
     ap (hyp_lines_after 0) (take_more hyps i hyp less ∙ ap (λ h. take i hyps ++ h ∷ []) (sym is))
     ∙ one_more 0 (take i hyps) hyp (i + 1) (omega (arith, length-take-le i hyps (omega (arith, less))))

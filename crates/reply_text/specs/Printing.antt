@@ -4,7 +4,7 @@ use Rattle.std.specs.Fmt.{decimal}
 use Rattle.std.specs.List.{flat_map}
 use Rattle.formula_core.specs.declared.formula.Formula.{Formula}
 use Rattle.math_print.specs.Characters.{bytes}
-use Rattle.math_print.specs.Printing.{text_of}
+use Rattle.math_print.specs.Printing.{formula_text}
 use Rattle.sequent_core.specs.declared.Sequent.{Sequent}
 use Rattle.core_steps.specs.declared.NodeLine.{NodeLine}
 use Rattle.rule_words.specs.RuleWords.{rule_word}
@@ -12,12 +12,12 @@ use Rattle.reply_text.specs.Statuses.{line}
 
 -- a goal behind its sign
 abbrev pub goal_text : Formula → List ℕ
-goal_text goal = bytes "⊢ " ++ text_of goal
+goal_text goal = bytes "⊢ " ++ formula_text goal
 
 -- hypotheses behind so many others, each with its number
 abbrev pub hyp_lines_after : ℕ → List Formula → List ℕ
 hyp_lines_after before [] = []
-hyp_lines_after before (hyp ∷ hyps) = line (decimal (before + 1) ++ codes ": " ++ text_of hyp)
+hyp_lines_after before (hyp ∷ hyps) = line (decimal (before + 1) ++ codes ": " ++ formula_text hyp)
     ++ hyp_lines_after (before + 1) hyps
 
 -- the hypotheses, numbered from 1, and the goal

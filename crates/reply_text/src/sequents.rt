@@ -4,7 +4,7 @@ ghost use Rattle.std.specs.Fmt.{decimal};
 ghost use Rattle.std.specs.List.{AllByRecursion, flat_map};
 ghost use Rattle.std.specs.Option.{option_to_list};
 ghost use Rattle.formula_core.specs.Wellness.{is_well};
-ghost use Rattle.math_print.specs.Printing.{text_of};
+ghost use Rattle.math_print.specs.Printing.{formula_text};
 ghost use Rattle.reply_text.specs.Printing.{goal_text, hyp_lines_after, sequent_text, dotted, path_text, node_word, node_goal, tree_line};
 ghost use Rattle.formula_core.specs.Substitution.{AreWell};
 ghost use Rattle.reply_text.specs.Replies.{goals_of};
@@ -21,7 +21,7 @@ use std::alloc::Global;
 /// Adds the text of a formula.
 fn add_formula(alloc: Global, out: &mut String, formula: &Formula) -> Result<(), OutOfMemory>
     requires { is_well formula.now ≡ true }
-    ensures { OnOk result (string_bytes out.new ≡ string_bytes out.old ++ text_of formula.now) }
+    ensures { OnOk result (string_bytes out.new ≡ string_bytes out.old ++ formula_text formula.now) }
 {
     let text = text(alloc, formula)?;
     add_words(out, text.as_str())
@@ -40,7 +40,7 @@ fn add_goal(alloc: Global, out: &mut String, goal: &Formula) -> Result<(), OutOf
 fn add_hyp(alloc: Global, out: &mut String, number: u64, hyp: &Formula) -> Result<(), OutOfMemory>
     requires { is_well hyp.now ≡ true }
     ensures { OnOk result (string_bytes out.new ≡ string_bytes out.old
-        ++ line (decimal number ++ codes ": " ++ text_of hyp.now)) }
+        ++ line (decimal number ++ codes ": " ++ formula_text hyp.now)) }
 {
     add_number(out, number)?;
     add_words(out, ": ")?;

@@ -13,7 +13,7 @@ use Rattle.rodin_cli.specs.declared.round.Numbers.{Numbers}
 use Rattle.rodin_cli.specs.declared.session.Session.{Session}
 use Rattle.check_input.specs.Inputs.{Component}
 use Rattle.rodin_cli.specs.Script.{AreEdits, AreFirstEdits, IsFullScript}
-use Rattle.rodin_cli.specs.PrivateSession.{Extends, IsUnchanged, Performs}
+use Rattle.rodin_cli.specs.PrivateSession.{Extends, IsUnchanged, PerformsInSession}
 use Rattle.rodin_cli.proofs.Sessions.{both, unchanged, performed}
 
 first_of : (parts others : List Component) (edits : List Exchange) → AreEdits parts edits → AreFirstEdits (parts ++ others) edits
@@ -40,7 +40,7 @@ one_more_edit (p ∷ parts) part (y ∷ edits) x are is = (are.0, one_more_edit 
 
 -- one more part is edited
 pub next_edit : (a b c : Session) (done : List Component) (part : Component) (reply : Reply) → (edits : List Exchange) × AreEdits done edits × Extends a edits b →
-    Performs b (Edit part.0 part.1) reply c → (edits : List Exchange) × AreEdits (done ++ part ∷ []) edits × Extends a edits c
+    PerformsInSession b (Edit part.0 part.1) reply c → (edits : List Exchange) × AreEdits (done ++ part ∷ []) edits × Extends a edits c
 next_edit a b c done part reply edited performs =
     let x = performed b c (Edit part.0 part.1) reply performs in
     (edited.0 ++ x.0 ∷ [], one_more_edit done part edited.0 x.0 edited.1 x.1, both a b c edited.0 (x.0 ∷ []) edited.2 x.3)
@@ -54,7 +54,7 @@ full_nodes s x (inr d) never = absurd (never _ _ _ (ap (λ z. z.reply) d.4))
 
 -- edits and a build, which is refused where the table is too large
 pub built_or_full : (parts : List Component) (a b c : Session) (reply : Reply) (built : Option Numbers) → (edits : List Exchange) × AreEdits parts edits × Extends a edits b →
-    Performs b Build reply c →
+    PerformsInSession b Build reply c →
     MatchOption built ((components faulted obligations : ℕ) → reply ≢ Built components faulted obligations) (λ n. reply ≡ Built n.components n.faulted n.obligations) →
     MatchOption built
     ((exchanges : List Exchange) × IsFullScript parts exchanges × Extends a exchanges c)

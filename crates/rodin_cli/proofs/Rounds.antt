@@ -28,7 +28,7 @@ use Rattle.rodin_cli.specs.declared.session.Session.{Session}
 use Rattle.rodin_cli.specs.Completeness.{IsComplete}
 use Rattle.rodin_cli.specs.Demo.{is_discharged, discharged_in, edited_in, line_after, lasting, Counts, ComesAfter, Demonstrates}
 use Rattle.rodin_cli.specs.Check.{HasNoHistory, LeadsToPart}
-use Rattle.rodin_cli.specs.Private.{Reaches, Finishes, LineStops, RoundShows, RoundStops, ReachesBoth, ReachesStop, Concludes, IsUntouched, stop_status}
+use Rattle.rodin_cli.specs.Private.{Reaches, FinishesRun, LineStops, RoundShows, RoundStops, ReachesBoth, ReachesStop, ReportsStop, IsUntouched, stop_status}
 use Rattle.rodin_cli.specs.Script.{IsFullScript, IsRound, IsRoundFront}
 use Rattle.rodin_cli.specs.PrivateSession.{Extends, IsUnchanged}
 use Rattle.session_streams.specs.Streams.{Writing, Writes, WritesCut, SinkFailed, writing}
@@ -225,7 +225,7 @@ module _ (answers : Sequent → Attempt → Type 0) (sure : Sequent → Type 0) 
           record { begins = begins; extends = both a b c done exchanges p q; legal = all_both IsLegalExchange done exchanges first.legal legal }
 
       second_finishes : (counted2 : Counted) (exchanges : List Exchange) → Counts answers sure (Edit n) counted2 exchanges → Extends b exchanges c →
-          Finishes answers sure seed n a c (Edit n) done (line_after (Models seed n) counted) exchanges counted2
+          FinishesRun answers sure seed n a c (Edit n) done (line_after (Models seed n) counted) exchanges counted2
       second_finishes counted2 exchanges w2 q =
           let led = count_leads decides (Edit n) counted2 exchanges b.core c.core done first.rest w2 q.0 in
           record { reaches = second_reaches exchanges led.legal q; counts = w2; complete = led.complete }
@@ -316,7 +316,7 @@ module _ (answers : Sequent → Attempt → Type 0) (sure : Sequent → Type 0) 
       untouched : (P : Writing → Type 0) → IsUntouched (writing w1 w2 f1 f2) → P (writing w0 w1 f0 f1) → P (writing w0 w2 f0 f2)
       untouched P (w, f) p = subst (λ u. P (writing w0 u f0 f2)) (sym w) (subst (λ g. P (writing w0 w1 f0 g)) (sym f) p)
 
-      pub shows_stop : (stop : Stop) → part.status ≡ stop_status stop → ReachesStop answers sure seed n old new (writing w0 w1 f0 f1) stop → Concludes (writing w1 w2 f1 f2) stop →
+      pub shows_stop : (stop : Stop) → part.status ≡ stop_status stop → ReachesStop answers sure seed n old new (writing w0 w1 f0 f1) stop → ReportsStop (writing w1 w2 f1 f2) stop →
           Demonstrates answers sure seed n (writing w0 w2 f0 f2) part
       shows_stop Full status (round, done, text, exchanges, r, full, written) last_line =
           inr (inr (inl (record {

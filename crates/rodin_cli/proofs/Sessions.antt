@@ -21,7 +21,7 @@ use Rattle.core_steps.specs.Run.{Exchange, IsStepOf, Runs, history_of}
 use Rattle.rodin_cli.specs.declared.round.Numbers.{Numbers}
 use Rattle.rodin_cli.specs.declared.session.Session.{Session}
 use Rattle.check_input.specs.Inputs.{Component}
-use Rattle.rodin_cli.specs.PrivateSession.{Performs, IsUnchanged, Extends}
+use Rattle.rodin_cli.specs.PrivateSession.{PerformsInSession, IsUnchanged, Extends}
 use Rattle.rodin_cli.specs.Script.{AreEdits, AreTurns, AreFirstAsks, IsEndFront, IsRound, IsRoundFront, IsWholeScript, IsFront}
 
 pub Run-both : (a b c : State) (xs ys : List Exchange) → Runs a xs b → Runs b ys c → Runs a (xs ++ ys) c
@@ -39,7 +39,7 @@ outcome x new = record { reply = x.reply; entry = x.entry; new = new }
 pub comes : (s t : State) (x : Exchange) (event : Event) → x.event ≡ event → IsStepOf s x t → Comes s event (outcome x t)
 comes s t x event is step = subst (λ e. Comes s e (outcome x t)) is step
 
-pub performed : (old new : Session) (event : Event) (reply : Reply) → Performs old event reply new →
+pub performed : (old new : Session) (event : Event) (reply : Reply) → PerformsInSession old event reply new →
     (x : Exchange) × (x.event ≡ event) × (x.reply ≡ reply) × Extends old (x ∷ []) new
 performed old new event reply p = (record { event = event; reply = reply; entry = p.0.0 }, refl, refl, ((new.core, p.0.1, refl), p.1))
 

@@ -14,7 +14,7 @@ use Rattle.core_steps.specs.Step.{Does, take_reply}
 use Rattle.core_steps.specs.Tickets.{TakesFirst, ticket_for}
 use Rattle.core_steps.proofs.Alls.{all_last}
 use Rattle.rodin_cli.specs.declared.session.Session.{Session}
-use Rattle.rodin_cli.specs.PrivateSession.{Performs}
+use Rattle.rodin_cli.specs.PrivateSession.{PerformsInSession}
 use Rattle.rodin_cli.proofs.OneTable.{table_typed}
 
 abbrev IsTyped : Obligation → Type 0
@@ -28,7 +28,7 @@ taken_typed s x table ticket replied all (inr (before, o, behind, cut, closed, i
     let same : ticket ≡ ticket_for s.next o = cc in
     subst (λ (k : Ticket). IsSequent k.sequent) (sym same) typed
 
-pub ticket_typed : (old new : Session) (ticket : Ticket) → Performs old (Take None) (Taken ticket) new → IsSequent ticket.sequent
+pub ticket_typed : (old new : Session) (ticket : Ticket) → PerformsInSession old (Take None) (Taken ticket) new → IsSequent ticket.sequent
 ticket_typed old new ticket p =
     let d : Does old.core (Take None) (Taken ticket) p.0.0 new.core = p.0.1 in
     let x : StepOutcome = record { reply = Taken ticket; entry = p.0.0; new = new.core } in
@@ -39,14 +39,14 @@ nothing_taken : (s : State) (x : StepOutcome) (table : List Obligation) → ((ti
 nothing_taken s x table never (inl (closed, none)) = ap (λ z. z.reply) none
 nothing_taken s x table never (inr (before, o, behind, cut, closed, is_open, takes)) = absurd (never (ticket_for s.next o) (ap (λ z. z.reply) takes))
 
-took_nothing : (old new : Session) (reply : Reply) → Performs old (Take None) reply new → ((ticket : Ticket) → reply ≢ Taken ticket) → reply ≡ Nothing
+took_nothing : (old new : Session) (reply : Reply) → PerformsInSession old (Take None) reply new → ((ticket : Ticket) → reply ≢ Taken ticket) → reply ≡ Nothing
 took_nothing old new reply p never =
     let d : Does old.core (Take None) reply p.0.0 new.core = p.0.1 in
     let x : StepOutcome = record { reply = reply; entry = p.0.0; new = new.core } in
     nothing_taken old.core x d.0 never d.2
 
 -- what a take gives, told by the ticket
-pub took : (old new : Session) (reply : Reply) (taken : Option Ticket) → Performs old (Take None) reply new →
-    MatchOption taken ((ticket : Ticket) → reply ≡ Taken ticket → ⊥) (λ ticket. reply ≡ Taken ticket) → Performs old (Take None) (take_reply taken) new
-took old new reply None p is = subst (λ r. Performs old (Take None) r new) (took_nothing old new reply p is) p
-took old new reply (Some ticket) p is = subst (λ r. Performs old (Take None) r new) is p
+pub took : (old new : Session) (reply : Reply) (taken : Option Ticket) → PerformsInSession old (Take None) reply new →
+    MatchOption taken ((ticket : Ticket) → reply ≡ Taken ticket → ⊥) (λ ticket. reply ≡ Taken ticket) → PerformsInSession old (Take None) (take_reply taken) new
+took old new reply None p is = subst (λ r. PerformsInSession old (Take None) r new) (took_nothing old new reply p is) p
+took old new reply (Some ticket) p is = subst (λ r. PerformsInSession old (Take None) r new) is p

@@ -60,7 +60,7 @@ pub record Reaches (answers : Sequent → Attempt → Type 0) (sure : Sequent �
   pub legal : IsLegal (done ++ exchanges)
 
 -- and the round is whole
-pub record Finishes (answers : Sequent → Attempt → Type 0) (sure : Sequent → Type 0) (seed n : ℕ) (old new : Session) (round : Round) (done : List Exchange) (text : List ℕ) (exchanges : List Exchange) (counted : Counted) : Type 0 where
+pub record FinishesRun (answers : Sequent → Attempt → Type 0) (sure : Sequent → Type 0) (seed n : ℕ) (old new : Session) (round : Round) (done : List Exchange) (text : List ℕ) (exchanges : List Exchange) (counted : Counted) : Type 0 where
   pub reaches : Reaches answers sure seed n old new round done text exchanges
   pub counts : Counts answers sure round counted exchanges
   pub complete : IsComplete sure new.core.durable (done ++ exchanges)
@@ -69,7 +69,7 @@ pub record Finishes (answers : Sequent → Attempt → Type 0) (sure : Sequent �
 abbrev pub ReachesBoth : (Sequent → Attempt → Type 0) → (Sequent → Type 0) → ℕ → ℕ → Session → Session → Writing → Type 0
 ReachesBoth answers sure seed n old new sink =
     (done : List Exchange) × (text : List ℕ) × (exchanges : List Exchange) × (counted : Counted)
-    × Finishes answers sure seed n old new (Edit n) done text exchanges counted × Writes sink (text ++ line_after (Edit n) counted)
+    × FinishesRun answers sure seed n old new (Edit n) done text exchanges counted × Writes sink (text ++ line_after (Edit n) counted)
 
 -- A round stopped: its table is too large, its line is cut, or memory ran out in it.
 abbrev pub ReachesStop : (Sequent → Attempt → Type 0) → (Sequent → Type 0) → ℕ → ℕ → Session → Session → Writing → Stop → Type 0
@@ -78,7 +78,7 @@ ReachesStop answers sure seed n old new sink Full =
     × Reaches answers sure seed n old new round done text exchanges × IsFullScript (edited_in round) exchanges × Writes sink text
 ReachesStop answers sure seed n old new sink Cut =
     (round : Round) × (done : List Exchange) × (text : List ℕ) × (exchanges : List Exchange) × (counted : Counted)
-    × Finishes answers sure seed n old new round done text exchanges counted × WritesCut sink (text ++ line_after round counted)
+    × FinishesRun answers sure seed n old new round done text exchanges counted × WritesCut sink (text ++ line_after round counted)
 ReachesStop answers sure seed n old new sink OutOfMemory =
     (round : Round) × (done : List Exchange) × (text : List ℕ) × (exchanges : List Exchange)
     × Reaches answers sure seed n old new round done text exchanges
@@ -94,7 +94,7 @@ abbrev pub IsUntouched : Writing → Type 0
 IsUntouched sink = (sink.written_then ≡ sink.written) × (sink.faults_then ≡ sink.faults)
 
 -- what is written behind the lines
-abbrev pub Concludes : Writing → Stop → Type 0
-Concludes sink Full = WritesOrFails sink (codes "full: table\n")
-Concludes sink Cut = IsUntouched sink
-Concludes sink OutOfMemory = IsUntouched sink
+abbrev pub ReportsStop : Writing → Stop → Type 0
+ReportsStop sink Full = WritesOrFails sink (codes "full: table\n")
+ReportsStop sink Cut = IsUntouched sink
+ReportsStop sink OutOfMemory = IsUntouched sink

@@ -7,8 +7,8 @@ use Rattle.core_steps.specs.Run.{Exchange, Runs, history_of}
 use Rattle.rodin_cli.specs.declared.session.Session.{Session}
 
 -- the event was answered so, and is the last of the history
-abbrev pub Performs : Session → Event → Reply → Session → Type 0
-Performs old event reply new = Replies old.core event reply new.core × (new.history.items ≡ old.history.items ++ (0, event) ∷ [])
+abbrev pub PerformsInSession : Session → Event → Reply → Session → Type 0
+PerformsInSession old event reply new = Replies old.core event reply new.core × (new.history.items ≡ old.history.items ++ (0, event) ∷ [])
 
 -- nothing was done
 abbrev pub IsUnchanged : Session → Session → Type 0

@@ -15,12 +15,12 @@ word_of Discharged = codes "discharged"
 word_of Broken = codes "broken"
 
 -- an obligation's name, a blank, its status and a line feed
-abbrev pub status_line : List ℕ → Status → List ℕ
-status_line name status = name ++ 32 ∷ word_of status ++ 10 ∷ []
+abbrev pub checked_status_line : List ℕ → Status → List ℕ
+checked_status_line name status = name ++ 32 ∷ word_of status ++ 10 ∷ []
 
 -- the printed text of the reply on statuses, without its summary line and without who made the proofs
 abbrev pub status_lines : List (List ℕ × Status × Option Origin) → List ℕ
-status_lines shown = flat_map (λ x. status_line x.0 x.1) shown
+status_lines shown = flat_map (λ x. checked_status_line x.0 x.1) shown
 
 -- the faults and the warnings, and then the statuses
 abbrev pub printed_lines : List FaultLine → List (List ℕ × List ℕ) → List (List ℕ × Status × Option Origin) → List ℕ

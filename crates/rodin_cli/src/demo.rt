@@ -11,7 +11,7 @@ ghost use Rattle.rodin_cli.specs.Script.{IsFullScript, IsRoundFront};
 ghost use Rattle.rodin_cli.specs.PrivateSession.{Extends, IsUnchanged};
 ghost use Rattle.session_streams.specs.Streams.{writing, Writes};
 ghost use Rattle.rodin_cli.specs.Demo.{is_discharged, discharged_in, edited_in, line_after, Counts, Demonstrates};
-ghost use Rattle.rodin_cli.specs.Private.{HasFewModels, LineStops, RoundShows, RoundStops, ReachesBoth, ReachesStop, Concludes, stop_status};
+ghost use Rattle.rodin_cli.specs.Private.{HasFewModels, LineStops, RoundShows, RoundStops, ReachesBoth, ReachesStop, ReportsStop, stop_status};
 
 use crate::check::{no_part, part_from, write_last};
 use crate::outcome::Part;
@@ -261,7 +261,7 @@ fn stop_status(stop: Stop) -> u8
 
 // Writes the last line where there is one.
 fn conclude<O: Sink>(output: &mut O, stop: Stop)
-    ensures { Concludes
+    ensures { ReportsStop
         (writing (O.written output.old) (O.written output.new) (O.faults output.old) (O.faults output.new)) stop }
 {
     match stop {

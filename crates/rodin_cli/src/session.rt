@@ -6,7 +6,7 @@ ghost use Rattle.core_steps.specs.declared.Reply.{Reply};
 ghost use Rattle.core_steps.specs.State.{opened, no_texts};
 ghost use Rattle.core_steps.specs.Step.{IsTake, take_reply};
 ghost use Rattle.sequent_core.specs.declared.Ticket.{Ticket};
-ghost use Rattle.rodin_cli.specs.PrivateSession.{Performs, IsUnchanged};
+ghost use Rattle.rodin_cli.specs.PrivateSession.{PerformsInSession, IsUnchanged};
 
 use core_steps::{Durable, Event, Reply};
 use formula_core::{OutOfMemory, Steps};
@@ -55,7 +55,7 @@ pub fn perform<L: Ledger>(
 ) -> Result<Reply, OutOfMemory>
     requires number { IsTake event → session.old.core.next + 1 < 2 ^ 64 }
     requires few { event ≡ Event.Purge → map.len session.old.core.durable.proofs < 2 ^ 32 }
-    ensures done { IfOk result (λ reply. Performs session.old event reply session.new) }
+    ensures done { IfOk result (λ reply. PerformsInSession session.old event reply session.new) }
     ensures err { OnErr result (IsUnchanged session.old session.new) }
 {
     session.history.reserve(1)?;
@@ -82,7 +82,7 @@ pub fn take<L: Ledger>(
     steps: &mut Steps<L>,
 ) -> Result<Option<Ticket>, OutOfMemory>
     requires { session.old.core.next + 1 < 2 ^ 64 }
-    ensures done { IfOk result (λ taken. Performs session.old (Event.Take None) (take_reply taken) session.new) }
+    ensures done { IfOk result (λ taken. PerformsInSession session.old (Event.Take None) (take_reply taken) session.new) }
     ensures err { OnErr result (IsUnchanged session.old session.new) }
 {
     match perform(session, Event::Take(None), steps) {
@@ -102,7 +102,7 @@ pub fn finish<L: Ledger>(
     steps: &mut Steps<L>,
 ) -> Result<(), OutOfMemory>
     ensures done { OnOk result ((reply : Reply)
-        × Performs session.old (Event.Finish number attempt) reply session.new) }
+        × PerformsInSession session.old (Event.Finish number attempt) reply session.new) }
     ensures err { OnErr result (IsUnchanged session.old session.new) }
 {
     match perform(session, Event::Finish(number, attempt), steps) {

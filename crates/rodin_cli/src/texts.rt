@@ -1,6 +1,6 @@
 // What is printed.
 ghost use Rattle.std.specs.Prelude.{◌≡◌, ◌++◌, IfOk, OnOk, string_bytes};
-ghost use Rattle.rodin_cli.specs.Texts.{word_of, status_line, status_lines, printed_lines};
+ghost use Rattle.rodin_cli.specs.Texts.{word_of, checked_status_line, status_lines, printed_lines};
 
 use core_steps::{FaultLine, Origin, Status};
 use formula_core::{Name, OutOfMemory, PoName};
@@ -21,7 +21,7 @@ fn word_of(status: Status) -> &'static str
 
 // The obligation's name, a blank and the status.
 fn add_status(text: &mut String, name: &PoName, status: Status) -> Result<(), OutOfMemory>
-    ensures { OnOk result (string_bytes text.new ≡ string_bytes text.old ++ status_line name.now status) }
+    ensures { OnOk result (string_bytes text.new ≡ string_bytes text.old ++ checked_status_line name.now status) }
 {
     text.push_str(name.as_text())?;
     text.push_str(" ")?;

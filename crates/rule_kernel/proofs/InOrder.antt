@@ -13,7 +13,7 @@ use Rattle.std.proofs.lemmas.Map.Text.{is_eq-slice_cmp}
 use Rattle.std.proofs.lemmas.Slice.Eq.{bytes_eq-Decides}
 use Rattle.formula_core.specs.declared.Ty.{Ty}
 use Rattle.formula_core.specs.Env.{type_in}
-use Rattle.rule_table.specs.Rules.{with_name, in_order, is_named}
+use Rattle.rule_table.specs.Rules.{with_name, sorted_by_name, is_named}
 use Rattle.rule_kernel.specs.Private.{is_other}
 
 abbrev pub Names : Type 0
@@ -81,7 +81,7 @@ stands_among name (x ∷ names) sorted =
     ∙ either (bytes_eq name x.0) (bytes_eq x.0 name) (is_named names name) x.1 (type_in sorted name) (turned name x.0 (bytes_eq name x.0) refl)
 
 -- the names that aren't among some others
-pub without_named : (added names : Names) → filter (is_other (in_order added)) names ≡ filter (λ x. not (is_named added x.0)) names
+pub without_named : (added names : Names) → filter (is_other (sorted_by_name added)) names ≡ filter (λ x. not (is_named added x.0)) names
 without_named added names = λ i. filter (λ x. not (stands_among x.0 added [] i)) names
 
 -- a map finds a name as an environment does

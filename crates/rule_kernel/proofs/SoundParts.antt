@@ -7,7 +7,7 @@ use Rattle.formula_core.specs.declared.Ty.{Ty}
 use Rattle.formula_core.specs.Formulas.{joined}
 use Rattle.rule_table.specs.declared.rule.Antecedent.{Antecedent}
 use Rattle.rule_table.specs.declared.rule.Rule.{Rule}
-use Rattle.rule_table.specs.Rules.{IsAllowed, IsSound, Stands, antecedent_formulas, body_of, formulas_of, in_order, names_in, terms_of}
+use Rattle.rule_table.specs.Rules.{IsAllowed, IsSound, Stands, antecedent_formulas, body_of, formulas_of, sorted_by_name, names_in, terms_of}
 use Rattle.rule_kernel.specs.Private.{HasAllowedFormulas, HasSoundParts, IsAllowedAntecedent, IsSmallType}
 use Rattle.rule_kernel.proofs.Appended.{all_append, all_first, all_last, all_joined, each_joined, all_mapped}
 
@@ -47,7 +47,7 @@ module _ (r : Rule) where
         terms = all_last IsAllowed (needed ++ left) (terms_of r.kind) ps;
       }
 
-  pub sound_of_parts : HasSoundParts r → AllByRecursion (Stands (in_order names)) names → IsSound r.kind (body_of r)
+  pub sound_of_parts : HasSoundParts r → AllByRecursion (Stands (sorted_by_name names)) names → IsSound r.kind (body_of r)
   sound_of_parts is one = record {
     formulas = allowed_formulas is.formulas;
     predicates = is.predicates;

@@ -4,7 +4,7 @@ ghost use Rattle.std.specs.List.{AllByRecursion};
 ghost use Rattle.std.specs.Option.{option_to_list};
 ghost use Rattle.formula_core.specs.declared.Ty.{Ty};
 ghost use Rattle.formula_core.specs.Formulas.{joined};
-ghost use Rattle.rule_table.specs.Rules.{Stands, added_by, antecedent_formulas, body_of, formulas_of, in_order, is_named, names_in, with_name};
+ghost use Rattle.rule_table.specs.Rules.{Stands, added_by, antecedent_formulas, body_of, formulas_of, sorted_by_name, is_named, names_in, with_name};
 ghost use Rattle.rule_kernel.specs.Private.{is_other};
 
 use crate::parts::terms_of;
@@ -85,7 +85,7 @@ pub(crate) fn in_order(
     alloc: Global,
     names: &[(Name, Ty)],
 ) -> Result<BTreeMap<Name, Ty>, OutOfMemory>
-    ensures { IfOk result (λ sorted. sorted.entries ≡ in_order names.now) }
+    ensures { IfOk result (λ sorted. sorted.entries ≡ sorted_by_name names.now) }
 {
     let mut sorted = BTreeMap::new(alloc);
     insert_all(alloc, names, &mut sorted)?;
@@ -132,7 +132,7 @@ fn added_in_order(
     alloc: Global,
     antecedents: &[Antecedent],
 ) -> Result<BTreeMap<Name, Ty>, OutOfMemory>
-    ensures { IfOk result (λ sorted. sorted.entries ≡ in_order (joined (map (λ a. a.idents) antecedents.now))) }
+    ensures { IfOk result (λ sorted. sorted.entries ≡ sorted_by_name (joined (map (λ a. a.idents) antecedents.now))) }
 {
     let mut sorted = BTreeMap::new(alloc);
     for antecedent in antecedents {
@@ -147,7 +147,7 @@ fn in_order_without(
     names: &[(Name, Ty)],
     added: &BTreeMap<Name, Ty>,
 ) -> Result<BTreeMap<Name, Ty>, OutOfMemory>
-    ensures { IfOk result (λ sorted. sorted.entries ≡ in_order (filter (is_other added.now.entries) names.now)) }
+    ensures { IfOk result (λ sorted. sorted.entries ≡ sorted_by_name (filter (is_other added.now.entries) names.now)) }
 {
     let mut sorted = BTreeMap::new(alloc);
     for identifier in names {
@@ -181,7 +181,7 @@ pub(crate) fn used_among(
     rule: &Rule,
 ) -> Result<List<(Name, Ty)>, OutOfMemory>
     ensures { IfOk result (λ used.
-        used ≡ in_order (filter (λ x. not (is_named (added_by (body_of rule.now)) x.0)) names.now)) }
+        used ≡ sorted_by_name (filter (λ x. not (is_named (added_by (body_of rule.now)) x.0)) names.now)) }
 {
     let added = added_in_order(alloc, rule.antecedents.items())?;
     let sorted = in_order_without(alloc, names, &added)?;

@@ -11,7 +11,7 @@ use Rattle.rule_table.specs.declared.kind.RuleKind.{RuleKind}
 use Rattle.rule_table.specs.declared.rule.Body.{Body}
 use Rattle.rule_table.specs.declared.rule.Main.{Main}
 use Rattle.rule_table.specs.Rules.{needed_formulas, terms_of, width}
-use Rattle.condition_size.specs.Sizes.{counted}
+use Rattle.condition_size.specs.Sizes.{clamped}
 use Rattle.instance_size.specs.Extents.{HasRoom}
 use Rattle.instance_size.specs.Growth.{Outgrows, left_formulas}
 use Rattle.rule_kernel.proofs.Appended.{all_first, all_last, all_mapped}
@@ -27,7 +27,7 @@ pub same_as_none : (o : Option Formula) → same_goal None o ≡ is_none o
 same_as_none None = refl
 same_as_none (Some f) = refl
 
-within : (n most : ℕ) → n ≤ most → counted n ≤ most
+within : (n most : ℕ) → n ≤ most → clamped n ≤ most
 within n most h = omega arith
 
 has_room : (f : Formula) → IsWithinLimits f → HasRoom limits f

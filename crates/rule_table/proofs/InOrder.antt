@@ -14,7 +14,7 @@ use Rattle.std.proofs.lemmas.Slice.Eq.{bytes_eq-Decides}
 use Rattle.formula_core.specs.declared.Ty.{Ty}
 use Rattle.formula_core.specs.Env.{type_in}
 use Rattle.formula_core.specs.Typed.{Stands}
-use Rattle.rule_table.specs.Rules.{with_name, in_order, is_named}
+use Rattle.rule_table.specs.Rules.{with_name, sorted_by_name, is_named}
 
 abbrev pub Names : Type 0
 Names = List (List ℕ × Ty)
@@ -69,7 +69,7 @@ module _ (P : List ℕ × Ty → Type 0) where
   all_sorted [] sorted qs ps = qs
   all_sorted (x ∷ names) sorted qs ps = all_sorted names (with_name sorted x) (all_with_name sorted x qs ps.0) ps.1
 
-  pub all_in_order : (names : Names) → AllByRecursion P names → AllByRecursion P (in_order names)
+  pub all_in_order : (names : Names) → AllByRecursion P names → AllByRecursion P (sorted_by_name names)
   all_in_order names ps = all_sorted names [] tt ps
 
 itself : (name : List ℕ) → bytes_eq name name ≡ true
@@ -95,7 +95,7 @@ module _ (env : Names) where
   each_sorted [] sorted ps = tt
   each_sorted (x ∷ names) sorted ps = (still x ps.0 names (with_name sorted x) ps.1 (type_in-with_name x x.0 sorted ∙ ap (λ b. cond b (Some x.1) (type_in sorted x.0)) (itself x.0)), each_sorted names (with_name sorted x) ps.1)
 
-  pub each_in_order : (names : Names) → AllByRecursion (Stands env) names → AllByRecursion (Stands (in_order names)) names
+  pub each_in_order : (names : Names) → AllByRecursion (Stands env) names → AllByRecursion (Stands (sorted_by_name names)) names
   each_in_order names ps = each_sorted names [] ps
 
 -- where nothing is added, nothing is left out

@@ -58,14 +58,14 @@ power (pos m) (pos n) = Some (pos (m ^ n))
 power _ _ = None
 
 -- the value of `m op n`, where it is well defined; ÷ cuts towards zero
-abbrev pub value_of : Op → ℤ → ℤ → Option ℤ
-value_of op.Plus m n = Some (m +ℤ n)
-value_of op.Minus m n = Some (m -ℤ n)
-value_of op.Times m n = Some (m *ℤ n)
-value_of op.Divide m n = if unsigned_abs n == 0 then None else Some (int_div m n)
-value_of op.Modulo m n = modulo m n
-value_of op.Power m n = power m n
-value_of _ m n = None
+abbrev pub computed_value : Op → ℤ → ℤ → Option ℤ
+computed_value op.Plus m n = Some (m +ℤ n)
+computed_value op.Minus m n = Some (m -ℤ n)
+computed_value op.Times m n = Some (m *ℤ n)
+computed_value op.Divide m n = if unsigned_abs n == 0 then None else Some (int_div m n)
+computed_value op.Modulo m n = modulo m n
+computed_value op.Power m n = power m n
+computed_value _ m n = None
 
 -- from −(2^127 − 1) to 2^127 − 1
 abbrev pub is_numeral_value : ℤ → Bool
@@ -84,10 +84,10 @@ numerals f = numerals_at (out-Formula f)
 abbrev pub computed : Formula → Option Formula
 computed h =
     option_and_then (λ x. option_and_then (λ v. if is_numeral_value v then Some (as_numeral v)
-    else None) (value_of x.0 x.1 x.2)) (numerals h)
+    else None) (computed_value x.0 x.1 x.2)) (numerals h)
 
 -- its operands, where the value is too wide
 abbrev pub too_wide : Formula → Option (ℤ × ℤ)
 too_wide h =
     option_and_then (λ x. option_and_then (λ v. if is_numeral_value v then None
-    else Some (x.1, x.2)) (value_of x.0 x.1 x.2)) (numerals h)
+    else Some (x.1, x.2)) (computed_value x.0 x.1 x.2)) (numerals h)

@@ -97,8 +97,8 @@ is_zero (negsuc n) = false
 abbrev pub is_constant : Linear → Bool
 is_constant a = list_all (λ x. is_zero x.1) a.atoms
 
-abbrev pub number : ℤ → Linear
-number n = record { constant = n; atoms = [] }
+abbrev pub constant_form : ℤ → Linear
+constant_form n = record { constant = n; atoms = [] }
 
 abbrev pub atom : Formula → Linear
 atom f = record { constant = pos 0; atoms = (f, pos 1) ∷ [] }
@@ -109,7 +109,7 @@ product_form f a b =
     if is_constant a then times_form a.constant b else (if is_constant b then form_times a b.constant else Ok (atom f))
 
 abbrev pub unary_form : Op → Formula → Checked Linear → Checked Linear
-unary_form op.Negate f a = then_do a (joined_by minus (number (pos 0)))
+unary_form op.Negate f a = then_do a (joined_by minus (constant_form (pos 0)))
 unary_form _ f a = Ok (atom f)
 
 abbrev pub binary_form : Op → Formula → Checked Linear → Checked Linear → Checked Linear
@@ -124,7 +124,7 @@ node_form o f (a ∷ b ∷ []) = binary_form o f a b
 node_form o f _ = Ok (atom f)
 
 abbrev pub linear_step : Formula-F (Formula × Checked Linear) → Checked Linear
-linear_step (Int n) = Ok (number n)
+linear_step (Int n) = Ok (constant_form n)
 linear_step (Free name t) = Ok (atom (formula.Free name t))
 linear_step (Bound at t) = Ok (atom (formula.Bound at t))
 linear_step (Node o parts t) = node_form o (formula.Node o (map (λ p. p.0) parts) t) (map (λ p. p.1) parts)
@@ -139,7 +139,7 @@ abbrev pub difference : Formula → Formula → Checked Linear
 difference e f = then_do (linear e) (λ a. then_do (linear f) (joined_by minus a))
 
 abbrev pub plus_one_form : Checked Linear → Checked Linear
-plus_one_form a = then_do a (λ a. joined_by plus a (number (pos 1)))
+plus_one_form a = then_do a (λ a. joined_by plus a (constant_form (pos 1)))
 
 -- what kind of comparison a formula is, of integers: `≤` or `<`, or an equation
 pub data Shape : Type 0 where
@@ -183,21 +183,22 @@ may_be_multiplied _ k = false
 abbrev pub goal_form : Shape → Checked Linear
 goal_form (at_most e f) = plus_one_form (difference f e)
 goal_form (less e f) = difference f e
-goal_form _ = Ok (number (pos 0))
+goal_form _ = Ok (constant_form (pos 0))
 
 abbrev pub hypothesis_form : Shape → Checked Linear
 hypothesis_form (at_most e f) = difference e f
 hypothesis_form (less e f) = plus_one_form (difference e f)
 hypothesis_form (equation e f) = difference e f
-hypothesis_form _ = Ok (number (pos 0))
+hypothesis_form _ = Ok (constant_form (pos 0))
 
-abbrev pub is_among : List Formula → Formula → Bool
-is_among fs f = list_any (λ g. same_formula g f) fs
+abbrev pub is_formula_among : List Formula → Formula → Bool
+is_formula_among fs f = list_any (λ g. same_formula g f) fs
 
 -- distinct hypotheses, and for each of them a multiplier that it may have
 abbrev pub are_multiplied : List Formula → List ℤ → Bool
 are_multiplied [] [] = true
-are_multiplied (h ∷ hyps) (k ∷ ks) = may_be_multiplied (shape h) k && not (is_among hyps h) && are_multiplied hyps ks
+are_multiplied (h ∷ hyps) (k ∷ ks) =
+    may_be_multiplied (shape h) k && not (is_formula_among hyps h) && are_multiplied hyps ks
 are_multiplied _ _ = false
 
 abbrev pub has_linear_form : Formula → List Formula → List ℤ → Bool

@@ -58,8 +58,8 @@ abbrev pub with_name : List (List ℕ × Ty) → List ℕ × Ty → List (List �
 with_name sorted x = insert_entry (slice_cmp nat_cmp) sorted x.0 x.1
 
 -- each name once, in byte order of the names
-abbrev pub in_order : List (List ℕ × Ty) → List (List ℕ × Ty)
-in_order names = fold with_name [] names
+abbrev pub sorted_by_name : List (List ℕ × Ty) → List (List ℕ × Ty)
+sorted_by_name names = fold with_name [] names
 
 -- the name is one of these
 abbrev pub is_named : List (List ℕ × Ty) → List ℕ → Bool
@@ -67,7 +67,7 @@ is_named names name = list_any (λ x. bytes_eq x.0 name) names
 
 -- the names that a rule asks of a sequent: those of its formulas without those that an antecedent adds
 abbrev pub used_of : RuleKind → Body → List (List ℕ × Ty)
-used_of k b = in_order (filter (λ x. not (is_named (added_by b) x.0)) (names_in (formulas_of k b)))
+used_of k b = sorted_by_name (filter (λ x. not (is_named (added_by b) x.0)) (names_in (formulas_of k b)))
 
 -- the name stands there with this type
 abbrev pub Stands : List (List ℕ × Ty) → List ℕ × Ty → Type 0
@@ -86,7 +86,7 @@ pub record IsSound (k : RuleKind) (b : Body) : Type 0 where
   pub predicates : AllByRecursion (λ f. type_of f ≡ Truth) (needed_formulas b)
   pub added : AllByRecursion (λ x. type_nodes x.1 ≤ 4096) (added_by b)
   pub distinct : AllByRecursion (λ a. HasDistinctNames a.idents) b.antecedents
-  pub one_type : AllByRecursion (Stands (in_order (names_in (formulas_of k b)))) (names_in (formulas_of k b))
+  pub one_type : AllByRecursion (Stands (sorted_by_name (names_in (formulas_of k b)))) (names_in (formulas_of k b))
 
 -- the rule is one of the table: an instance of its kind, which is right in itself and names what it uses
 pub record IsRule (r : Rule) : Type 0 where

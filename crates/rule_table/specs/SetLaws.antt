@@ -176,8 +176,8 @@ in_arrow arrow h make = in_two arrow h (λ r s t. of_relation r (λ α β. Some 
 abbrev pub is_in : Op → Formula → Formula → Formula → Ty → Ty → Formula
 is_in arrow r s t α β = member r (relations arrow s t α β)
 
-abbrev pub is_total : Formula → Formula → Ty → Formula
-is_total r s α = equal (domain r α) s
+abbrev pub totality : Formula → Formula → Ty → Formula
+totality r s α = equal (domain r α) s
 
 abbrev pub is_onto : Formula → Formula → Ty → Formula
 is_onto r t β = equal (range r β) t
@@ -198,7 +198,7 @@ member_of_relations h = in_arrow op.Relations h (λ r s t α β. subset r (produ
 -- r in the total relations: r ∈ S ↔ T ∧ dom(r) = S
 abbrev pub member_of_total_relations : Formula → Option Formula
 member_of_total_relations h =
-    in_arrow op.TotalRelations h (λ r s t α β. conjunction (is_in op.Relations r s t α β) (is_total r s α))
+    in_arrow op.TotalRelations h (λ r s t α β. conjunction (is_in op.Relations r s t α β) (totality r s α))
 
 -- r in the surjective relations: r ∈ S ↔ T ∧ ran(r) = T
 abbrev pub member_of_surjective_relations : Formula → Option Formula
@@ -209,7 +209,7 @@ member_of_surjective_relations h =
 abbrev pub member_of_total_surjective_relations : Formula → Option Formula
 member_of_total_surjective_relations h =
     in_arrow op.TotalSurjectiveRelations h
-    (λ r s t α β. conjunction (conjunction (is_in op.Relations r s t α β) (is_total r s α)) (is_onto r t β))
+    (λ r s t α β. conjunction (conjunction (is_in op.Relations r s t α β) (totality r s α)) (is_onto r t β))
 
 -- r ∈ S ⇸ T: r ∈ S ↔ T ∧ (∀x,y,z·x ↦ y ∈ r ∧ x ↦ z ∈ r ⇒ y = z)
 abbrev pub member_of_partial_functions : Formula → Option Formula
@@ -219,7 +219,7 @@ member_of_partial_functions h =
 -- r ∈ S → T: r ∈ S ⇸ T ∧ dom(r) = S
 abbrev pub member_of_total_functions : Formula → Option Formula
 member_of_total_functions h =
-    in_arrow op.TotalFunctions h (λ r s t α β. conjunction (is_in op.PartialFunctions r s t α β) (is_total r s α))
+    in_arrow op.TotalFunctions h (λ r s t α β. conjunction (is_in op.PartialFunctions r s t α β) (totality r s α))
 
 -- r ∈ S ⤔ T: r ∈ S ⇸ T ∧ r∼ ∈ T ⇸ S
 abbrev pub member_of_partial_injections : Formula → Option Formula

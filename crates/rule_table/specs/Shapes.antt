@@ -52,15 +52,15 @@ bound_at wanted (Bind binder types parts t) =
 bound_at wanted _ = None
 
 -- the types of the identifiers and the parts of a binder
-abbrev pub bound_of : Binder → Formula → Option (List Ty × List Formula)
-bound_of wanted f = bound_at wanted (out-Formula f)
+abbrev pub parts_of_binder : Binder → Formula → Option (List Ty × List Formula)
+parts_of_binder wanted f = bound_at wanted (out-Formula f)
 
 -- the types and the part of a binder with one part, and the types and the parts of one with two
 abbrev pub one_bound : Binder → Formula → Option (List Ty × Formula)
-one_bound wanted f = option_and_then (λ b. option_map (λ p. (b.0, p)) (one_of b.1)) (bound_of wanted f)
+one_bound wanted f = option_and_then (λ b. option_map (λ p. (b.0, p)) (one_of b.1)) (parts_of_binder wanted f)
 
 abbrev pub two_bound : Binder → Formula → Option (List Ty × Formula × Formula)
-two_bound wanted f = option_and_then (λ b. option_map (λ x. (b.0, x.0, x.1)) (two_of b.1)) (bound_of wanted f)
+two_bound wanted f = option_and_then (λ b. option_map (λ x. (b.0, x.0, x.1)) (two_of b.1)) (parts_of_binder wanted f)
 
 -- where `f` is such a binder, what is made of it
 abbrev pub under_binder : {X : Type 0} → Binder → Formula → (List Ty → Formula → Option X) → Option X

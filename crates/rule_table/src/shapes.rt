@@ -2,7 +2,7 @@
 ghost use Rattle.std.specs.Prelude.{◌≡◌, ◌↔◌, IsTrue, IfOk, IsTrue, [], ◌∷◌, Option};
 ghost use Rattle.std.specs.Option.{option_map, option_copied};
 ghost use Rattle.formula_core.specs.declared.Formula.{Formula};
-ghost use Rattle.rule_table.specs.Shapes.{operands, operand, two_operands, two_of, one_of, bound_of, one_bound, two_bound, binary, negation, maplet, empty, range, converse, product, relations, applied, numeral, as_numeral};
+ghost use Rattle.rule_table.specs.Shapes.{operands, operand, two_operands, two_of, one_of, parts_of_binder, one_bound, two_bound, binary, negation, maplet, empty, range, converse, product, relations, applied, numeral, as_numeral};
 ghost use Rattle.well_defined.specs.Predicates.{predicate, quantified, top, domain};
 
 use formula_core::{Binder, Boxed, Formula, List, Op, OutOfMemory, Ty};
@@ -52,7 +52,7 @@ pub fn two_operands(wanted: Op, f: &Formula) -> Option<(&Formula, &Formula)>
 
 /// The types of the identifiers and the parts of a binder.
 pub fn bound_of(wanted: Binder, f: &Formula) -> Option<(&[Ty], &[Formula])>
-    ensures parts { option_map (λ p. (p.0.now, p.1.now)) result ≡ bound_of wanted f.now }
+    ensures parts { option_map (λ p. (p.0.now, p.1.now)) result ≡ parts_of_binder wanted f.now }
 {
     match f {
         Formula::Bind(binder, types, parts, _) => {

@@ -4,13 +4,13 @@ use Rattle.std.proofs.lemmas.List.{append-nil, append_assoc}
 use Rattle.formula_core.specs.declared.Formula.{Formula}
 use Rattle.formula_core.specs.Same.{same_formula}
 use Rattle.rule_table.specs.Linear.{Act, Linear, joined_by, Checked, then_do, with_atom, checked, multiple_of, is_met, kept, further, each_times}
-use Rattle.rules_arith.specs.Private.{add_new, with_one, joined_with}
+use Rattle.rules_arith.specs.Private.{add_new, with_coefficient, joined_with}
 
 abbrev pub keep : Act → List (Formula × ℤ) → Checked (List (Formula × ℤ)) → Formula × ℤ → Checked (List (Formula × ℤ))
-keep act second done a = with_one done a.0 (checked act a.1 (multiple_of second a.0))
+keep act second done a = with_coefficient done a.0 (checked act a.1 (multiple_of second a.0))
 
 abbrev pub scale : (ℤ → Checked ℤ) → Checked (List (Formula × ℤ)) → Formula × ℤ → Checked (List (Formula × ℤ))
-scale by done a = with_one done a.0 (by a.1)
+scale by done a = with_coefficient done a.0 (by a.1)
 
 after_fault : (act : Act) (second xs : List (Formula × ℤ)) (e : ℤ × ℤ) → fold (keep act second) (Err e) xs ≡ Err e
 after_fault act second [] e = refl
@@ -23,7 +23,7 @@ behind f m ys (Ok r) = ap Ok (append_assoc ys ((f, m) ∷ []) r)
 
 next : (act : Act) (second ys xs : List (Formula × ℤ)) (f : Formula) (n : Checked ℤ)
     → ((zs : List (Formula × ℤ)) → fold (keep act second) (Ok zs) xs ≡ then_do (kept act second xs) (λ r. Ok (zs ++ r)))
-    → fold (keep act second) (with_one (Ok ys) f n) xs ≡ then_do (with_atom f n (kept act second xs)) (λ zs. Ok (ys ++ zs))
+    → fold (keep act second) (with_coefficient (Ok ys) f n) xs ≡ then_do (with_atom f n (kept act second xs)) (λ zs. Ok (ys ++ zs))
 next act second ys xs f (Err e) each = after_fault act second xs e
 next act second ys xs f (Ok m) each = each (ys ++ (f, m) ∷ []) ∙ behind f m ys (kept act second xs)
 
@@ -39,7 +39,7 @@ pub kept_is_fold : (act : Act) (second xs : List (Formula × ℤ)) → fold (kee
 kept_is_fold act second xs = from act second [] xs ∙ alone (kept act second xs)
 
 -- the atoms that are new, one after another
-either : (c : Bool) (e : ℤ × ℤ) (f : Formula) (n : Checked ℤ) → (if c then Err e else with_one (Err e) f n) ≡ Err e
+either : (c : Bool) (e : ℤ × ℤ) (f : Formula) (n : Checked ℤ) → (if c then Err e else with_coefficient (Err e) f n) ≡ Err e
 either true e f n = refl
 either false e f n = refl
 
@@ -49,13 +49,13 @@ new_after_fault act first (b ∷ xs) e = ap (λ o. fold (add_new act first) o xs
 
 new_next : (act : Act) (first ys xs : List (Formula × ℤ)) (f : Formula) (n : Checked ℤ)
     → ((zs : List (Formula × ℤ)) → fold (add_new act first) (Ok zs) xs ≡ then_do (further act first xs) (λ r. Ok (zs ++ r)))
-    → fold (add_new act first) (with_one (Ok ys) f n) xs ≡ then_do (with_atom f n (further act first xs)) (λ zs. Ok (ys ++ zs))
+    → fold (add_new act first) (with_coefficient (Ok ys) f n) xs ≡ then_do (with_atom f n (further act first xs)) (λ zs. Ok (ys ++ zs))
 new_next act first ys xs f (Err e) each = new_after_fault act first xs e
 new_next act first ys xs f (Ok m) each = each (ys ++ (f, m) ∷ []) ∙ behind f m ys (further act first xs)
 
 new_or_met : (c : Bool) (act : Act) (first ys xs : List (Formula × ℤ)) (f : Formula) (n : Checked ℤ)
     → ((zs : List (Formula × ℤ)) → fold (add_new act first) (Ok zs) xs ≡ then_do (further act first xs) (λ r. Ok (zs ++ r)))
-    → fold (add_new act first) (if c then Ok ys else with_one (Ok ys) f n) xs
+    → fold (add_new act first) (if c then Ok ys else with_coefficient (Ok ys) f n) xs
     ≡ then_do (if c then further act first xs else with_atom f n (further act first xs)) (λ zs. Ok (ys ++ zs))
 new_or_met true act first ys xs f n each = each ys
 new_or_met false act first ys xs f n each = new_next act first ys xs f n each
@@ -75,7 +75,7 @@ module _ (by : ℤ → Checked ℤ) where
 
   scaled_next : (ys xs : List (Formula × ℤ)) (f : Formula) (n : Checked ℤ)
       → ((zs : List (Formula × ℤ)) → fold (scale by) (Ok zs) xs ≡ then_do (each_times by xs) (λ r. Ok (zs ++ r)))
-      → fold (scale by) (with_one (Ok ys) f n) xs ≡ then_do (with_atom f n (each_times by xs)) (λ zs. Ok (ys ++ zs))
+      → fold (scale by) (with_coefficient (Ok ys) f n) xs ≡ then_do (with_atom f n (each_times by xs)) (λ zs. Ok (ys ++ zs))
   scaled_next ys xs f (Err e) each = scaled_after_fault xs e
   scaled_next ys xs f (Ok m) each = each (ys ++ (f, m) ∷ []) ∙ behind f m ys (each_times by xs)
 

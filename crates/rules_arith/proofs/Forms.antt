@@ -10,7 +10,7 @@ use Rattle.formula_core.specs.declared.formula.Formula.TheOpen.{Int as IntF, Fre
 use Rattle.formula_core.specs.declared.formula.Formula.TheVariants.{Int, Free, Bound, Node, Bind}
 use Rattle.formula_core.specs.declared.formula.Formula.TheViews.{rolls-Int, rolls-Free, rolls-Bound, rolls-Node, rolls-Bind}
 use Rattle.formula_core.proofs.Equations.{formula_para}
-use Rattle.rule_table.specs.Linear.{Linear, Checked, number, atom, unary_form, binary_form, node_form, linear_step, linear}
+use Rattle.rule_table.specs.Linear.{Linear, Checked, constant_form, atom, unary_form, binary_form, node_form, linear_step, linear}
 use Rattle.rules_arith.specs.Private.{has_linear_parts}
 
 parts-beside : (g : Formula → Checked Linear) (fs : List Formula) → map (λ (p : Formula × Checked Linear). p.0) (map (λ f. (f, g f)) fs) ≡ fs
@@ -21,7 +21,7 @@ forms-beside : (g : Formula → Checked Linear) (fs : List Formula) → map (λ 
 forms-beside g [] = refl
 forms-beside g (f ∷ fs) = ap (λ gs. g f ∷ gs) (forms-beside g fs)
 
-pub linear-Int : (n : ℤ) → linear (Int n) ≡ Ok (number n)
+pub linear-Int : (n : ℤ) → linear (Int n) ≡ Ok (constant_form n)
 linear-Int n = formula_para linear_step (IntF n) (Int n) (rolls-Int n)
 
 pub linear-Free : (name : List ℕ) (t : Ty) → linear (Free name t) ≡ Ok (atom (Free name t))

@@ -1,7 +1,7 @@
 -- Hypotheses and their multipliers, from a place on.
 use Rattle.std.proofs.Common.{◌≡◌, ◌∙◌, sym, ap, refl, ℕ, zero, suc, ◌+◌, ℤ, pos, ◌<◌, ◌≤◌, Bool, true, false, ◌&&◌, not, List, [], ◌∷◌, length, drop, get_or, leb, arith}
 use Rattle.formula_core.specs.declared.Formula.{Formula}
-use Rattle.rule_table.specs.Linear.{Linear, Checked, added, are_multiplied, may_be_multiplied, shape, is_among}
+use Rattle.rule_table.specs.Linear.{Linear, Checked, added, are_multiplied, may_be_multiplied, shape, is_formula_among}
 use Rattle.rules_arith.specs.Private.{with_hypothesis}
 
 no_multipliers : (total : Checked Linear) (hs : List Formula) → added total hs [] ≡ total
@@ -42,7 +42,7 @@ pub ruleset added_steps = (added_too_few, added_one_more, added_at_end)
 
 -- whether hypotheses may have their multipliers, from a place on
 multiplied_at : (hs : List Formula) (ks : List ℤ) (i : ℕ) (x : Formula) → i < length hs → i < length ks → x ≡ get_or hs i x
-    → are_multiplied (drop i hs) (drop i ks) ≡ (may_be_multiplied (shape x) (get_or ks i (pos 0)) && not (is_among (drop (i + 1) hs) x) && are_multiplied (drop (i + 1) hs) (drop (i + 1) ks))
+    → are_multiplied (drop i hs) (drop i ks) ≡ (may_be_multiplied (shape x) (get_or ks i (pos 0)) && not (is_formula_among (drop (i + 1) hs) x) && are_multiplied (drop (i + 1) hs) (drop (i + 1) ks))
 multiplied_at hs ks i x h k e = λ j. are_multiplied (drop_at hs i x h e j) (number_at ks i k j)
 
 any_or : (b c : Bool) → (b && false && c) ≡ false
@@ -59,16 +59,16 @@ too_few hs ks i h k = ap (are_multiplied (drop i hs)) (none_from ks i k) ∙ wit
 
 pub not_allowed : (hs : List Formula) (ks : List ℤ) (i : ℕ) (x : Formula) → i < length hs → i < length ks → x ≡ get_or hs i x
     → may_be_multiplied (shape x) (get_or ks i (pos 0)) ≡ false → are_multiplied (drop i hs) (drop i ks) ≡ false
-not_allowed hs ks i x h k e n = multiplied_at hs ks i x h k e ∙ (λ j. n j && not (is_among (drop (i + 1) hs) x) && are_multiplied (drop (i + 1) hs) (drop (i + 1) ks))
+not_allowed hs ks i x h k e n = multiplied_at hs ks i x h k e ∙ (λ j. n j && not (is_formula_among (drop (i + 1) hs) x) && are_multiplied (drop (i + 1) hs) (drop (i + 1) ks))
 
 pub twice : (hs : List Formula) (ks : List ℤ) (i : ℕ) (x : Formula) → i < length hs → i < length ks → x ≡ get_or hs i x
-    → is_among (drop (i + 1) hs) x ≡ true → are_multiplied (drop i hs) (drop i ks) ≡ false
+    → is_formula_among (drop (i + 1) hs) x ≡ true → are_multiplied (drop i hs) (drop i ks) ≡ false
 twice hs ks i x h k e m = multiplied_at hs ks i x h k e
     ∙ (λ j. may_be_multiplied (shape x) (get_or ks i (pos 0)) && not (m j) && are_multiplied (drop (i + 1) hs) (drop (i + 1) ks))
     ∙ any_or (may_be_multiplied (shape x) (get_or ks i (pos 0))) (are_multiplied (drop (i + 1) hs) (drop (i + 1) ks))
 
 pub multiplied_more : (hs : List Formula) (ks : List ℤ) (i : ℕ) (x : Formula) → i < length hs → i < length ks → x ≡ get_or hs i x
-    → may_be_multiplied (shape x) (get_or ks i (pos 0)) ≡ true → is_among (drop (i + 1) hs) x ≡ false
+    → may_be_multiplied (shape x) (get_or ks i (pos 0)) ≡ true → is_formula_among (drop (i + 1) hs) x ≡ false
     → are_multiplied (drop i hs) (drop i ks) ≡ are_multiplied (drop (i + 1) hs) (drop (i + 1) ks)
 multiplied_more hs ks i x h k e n m = multiplied_at hs ks i x h k e ∙ (λ j. n j && not (m j) && are_multiplied (drop (i + 1) hs) (drop (i + 1) ks))
 

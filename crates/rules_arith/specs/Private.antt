@@ -9,7 +9,7 @@ use Rattle.rule_table.specs.Linear.{shape, Shape, at_most, less, equation, falsu
 use Rattle.rules_arith.specs.declared.step.Comparison.{Comparison}
 use Rattle.rules_arith.specs.declared.step.Comparison.TheVariants as comparison
 use Rattle.rule_table.specs.Shapes.{literal, numeral}
-use Rattle.rule_table.specs.ArithmeticLaws.{value_of, is_numeral_value}
+use Rattle.rule_table.specs.ArithmeticLaws.{computed_value, is_numeral_value}
 use Rattle.rules_arith.specs.declared.joining.Factor.{Factor}
 use Rattle.rules_arith.specs.declared.joining.Factor.TheVariants as factor
 use Rattle.rules_arith.specs.declared.joining.Joining.{Joining}
@@ -21,23 +21,23 @@ narrow z = if is_numeral_value z then Some z else None
 
 -- the value of `m op n`, where it is well defined, without what is too wide
 abbrev pub narrow_value : Op → ℤ → ℤ → Option (Option ℤ)
-narrow_value o m n = option_map narrow (value_of o m n)
+narrow_value o m n = option_map narrow (computed_value o m n)
 
 -- the values of two numerals, and of a negated literal
 abbrev pub two_numerals : List Formula → Option (ℤ × ℤ)
 two_numerals (p ∷ q ∷ []) = option_and_then (λ m. option_map (λ n. (m, n)) (numeral q)) (numeral p)
 two_numerals _ = None
 
-abbrev pub negated : List Formula → Option ℤ
-negated (p ∷ []) = option_map neg_ℤ (literal p)
-negated _ = None
+abbrev pub negated_literal : List Formula → Option ℤ
+negated_literal (p ∷ []) = option_map neg_ℤ (literal p)
+negated_literal _ = None
 
 -- one more atom behind others
-abbrev pub with_one : Checked (List (Formula × ℤ)) → Formula → Checked ℤ → Checked (List (Formula × ℤ))
-with_one done f n = then_do done (λ xs. then_do n (λ n. Ok (xs ++ (f, n) ∷ [])))
+abbrev pub with_coefficient : Checked (List (Formula × ℤ)) → Formula → Checked ℤ → Checked (List (Formula × ℤ))
+with_coefficient done f n = then_do done (λ xs. then_do n (λ n. Ok (xs ++ (f, n) ∷ [])))
 
 abbrev pub add_new : Act → List (Formula × ℤ) → Checked (List (Formula × ℤ)) → Formula × ℤ → Checked (List (Formula × ℤ))
-add_new act first done b = if is_met first b.0 then done else with_one done b.0 (checked act (pos 0) b.1)
+add_new act first done b = if is_met first b.0 then done else with_coefficient done b.0 (checked act (pos 0) b.1)
 
 -- the operators whose linear form may be more than the whole as an atom
 abbrev pub has_linear_parts : Op → Bool

@@ -1,7 +1,7 @@
 //! The linear form of an expression.
 ghost use Rattle.std.specs.Prelude.{◌≡◌, ◌++◌, ◌∷◌, [], map, length, IfOk, OnOk, Ok};
 ghost use Rattle.formula_core.specs.declared.Formula.{Formula};
-ghost use Rattle.rule_table.specs.Linear.{number, atom, linear, unary_form, binary_form, node_form, product_form, then_do, joined_by};
+ghost use Rattle.rule_table.specs.Linear.{constant_form, atom, linear, unary_form, binary_form, node_form, product_form, then_do, joined_by};
 ghost use Rattle.rules_arith.specs.Private.{has_linear_parts};
 
 use crate::joining::{
@@ -76,7 +76,7 @@ fn add_number<'a>(
     n: i128,
     out: &mut Vec<Checked<LinearForm<'a>>>,
 ) -> Result<(), OutOfMemory>
-    ensures { OnOk result (out.new.items ≡ out.old.items ++ Ok (number n) ∷ []) }
+    ensures { OnOk result (out.new.items ≡ out.old.items ++ Ok (constant_form n) ∷ []) }
 {
     out.push(Ok(of_number(alloc, n)))?;
     Ok(())

@@ -1,8 +1,8 @@
 //! Linear forms: a constant, and atoms with their multiples in the order in which they were met.
 ghost use Rattle.std.specs.Prelude.{◌≡◌, ◌++◌, IfOk};
 ghost use Rattle.std.specs.List.{list_all};
-ghost use Rattle.rule_table.specs.Linear.{multiple_of, is_met, checked, kept, further, is_zero, number, atom, each_times, scaled, joined_by, is_constant, product_form, times_form, then_do};
-ghost use Rattle.rules_arith.specs.Private.{act_of, times_by, with_one, add_new, joined_with};
+ghost use Rattle.rule_table.specs.Linear.{multiple_of, is_met, checked, kept, further, is_zero, constant_form, atom, each_times, scaled, joined_by, is_constant, product_form, times_form, then_do};
+ghost use Rattle.rules_arith.specs.Private.{act_of, times_by, with_coefficient, add_new, joined_with};
 
 use crate::checked::{difference_of, product_of, sum_of};
 use formula_core::{Formula, List, OutOfMemory};
@@ -67,7 +67,7 @@ pub(crate) enum Factor {
 
 /// A number.
 pub(crate) fn of_number<'a>(alloc: Global, n: i128) -> LinearForm<'a>
-    ensures form { result ≡ number n }
+    ensures form { result ≡ constant_form n }
 {
     LinearForm {
         constant: n,
@@ -129,7 +129,7 @@ fn with_one<'a>(
     formula: &'a Formula,
     multiple: Checked<i128>,
 ) -> Result<Checked<List<Atom<'a>>>, OutOfMemory>
-    ensures { IfOk result (λ o. o ≡ with_one done.entry formula.now multiple) }
+    ensures { IfOk result (λ o. o ≡ with_coefficient done.entry formula.now multiple) }
 {
     match done {
         Ok(atoms) => match multiple {

@@ -2,7 +2,7 @@
 ghost use Rattle.std.specs.Prelude.{◌≡◌, ◌+◌, ◌<◌, drop, length, IfOk};
 ghost use Rattle.formula_core.specs.declared.Ty.{Ty};
 ghost use Rattle.formula_core.specs.declared.Formula.TheOpen.{Node as NodeShape};
-ghost use Rattle.rule_table.specs.Linear.{linear, difference, plus_one_form, shape_of_two, shape_of_none, shape_at, shape, may_be_goal, may_be_multiplied, goal_form, hypothesis_form, is_among, are_multiplied, has_linear_form, added, linear_sum, is_positive_constant, first_overflow, then_do, times_form, joined_by, plus};
+ghost use Rattle.rule_table.specs.Linear.{linear, difference, plus_one_form, shape_of_two, shape_of_none, shape_at, shape, may_be_goal, may_be_multiplied, goal_form, hypothesis_form, is_formula_among, are_multiplied, has_linear_form, added, linear_sum, is_positive_constant, first_overflow, then_do, times_form, joined_by, plus};
 ghost use Rattle.rules_arith.specs.Private.{shape_of, with_hypothesis};
 ghost use Rattle.rule_table.specs.Rows.{linear_step_of};
 ghost use Rattle.rule_table.specs.Rules.{linear_width};
@@ -143,7 +143,7 @@ fn hypothesis_form<'a>(
 
 /// Whether a formula is one of these.
 fn is_among(formulas: &[Formula], f: &Formula) -> bool
-    ensures { result ≡ is_among formulas.now f.now }
+    ensures { result ≡ is_formula_among formulas.now f.now }
 {
     for formula in formulas {
         if formula.same(f) {

@@ -6,7 +6,7 @@ ghost use Rattle.rule_table.specs.Shapes.{literal, numeral, as_numeral, not_nega
 ghost use Rattle.rule_table.specs.ArithmeticLaws.{numerals, computed, too_wide, modulo, power};
 ghost use Rattle.rule_table.specs.Rewriting.{width_of};
 ghost use Rattle.rule_table.specs.Rules.{width_at};
-ghost use Rattle.rules_arith.specs.Private.{narrow, narrow_value, two_numerals, negated};
+ghost use Rattle.rules_arith.specs.Private.{narrow, narrow_value, two_numerals, negated_literal};
 
 use crate::places::at_place;
 use formula_core::{Formula, Op, OutOfMemory, Ty};
@@ -102,7 +102,7 @@ fn numeral(f: &Formula) -> Option<i128>
 
 /// The value of the negation of a literal.
 fn negated(parts: &[Formula]) -> Option<i128>
-    ensures { result ≡ negated parts.now }
+    ensures { result ≡ negated_literal parts.now }
 {
     match parts {
         [p] => {

@@ -6,7 +6,7 @@ use Rattle.formula_core.specs.declared.Binder.{Binder}
 use Rattle.formula_core.specs.declared.Formula.{Formula}
 use Rattle.well_defined.specs.Predicates.{conjunction, member, quantified}
 use Rattle.rule_table.specs.Shapes.{on_two, under_two, of_set, binary}
-use Rattle.rule_table.specs.SetLaws.{in_one, in_two, in_arrow, is_in, is_total, is_onto, goes_back, below, below_all, new}
+use Rattle.rule_table.specs.SetLaws.{in_one, in_two, in_arrow, is_in, totality, is_onto, goes_back, below, below_all, new}
 
 -- E ∈ S, where S is this operator on T and U: E ∈ T and E ∈ U, connected
 abbrev pub in_both : Op → Op → Formula → Option Formula
@@ -25,7 +25,7 @@ over_bound binder quantifier connective r h =
 
 -- r ∈ S a T: r ∈ S b T, and dom(r) = S, or ran(r) = T, or r∼ ∈ T ⇸ S
 abbrev pub in_and_total : Op → Op → Formula → Option Formula
-in_and_total a b h = in_arrow a h (λ r s t α β. conjunction (is_in b r s t α β) (is_total r s α))
+in_and_total a b h = in_arrow a h (λ r s t α β. conjunction (is_in b r s t α β) (totality r s α))
 
 abbrev pub in_and_onto : Op → Op → Formula → Option Formula
 in_and_onto a b h = in_arrow a h (λ r s t α β. conjunction (is_in b r s t α β) (is_onto r t β))

@@ -2,7 +2,7 @@
 ghost use Rattle.std.specs.Prelude.{◌≡◌, IfOk, [], ◌∷◌};
 ghost use Rattle.formula_core.specs.declared.Formula.{Formula};
 ghost use Rattle.formula_core.specs.Shifting.{shifted};
-ghost use Rattle.rule_table.specs.SetLaws.{goes_back, is_functional, is_in, is_onto, is_total};
+ghost use Rattle.rule_table.specs.SetLaws.{goes_back, is_functional, is_in, is_onto, totality};
 ghost use Rattle.rule_table.specs.SetLaws.{member_of_bijections, member_of_partial_functions};
 ghost use Rattle.rule_table.specs.SetLaws.{member_of_partial_injections, member_of_partial_surjections};
 ghost use Rattle.rule_table.specs.SetLaws.{member_of_relations, member_of_surjective_relations};
@@ -64,7 +64,7 @@ fn is_in(
 
 /// `dom(r) = S`
 fn is_total(alloc: Global, r: &Formula, s: &Formula, from: &Ty) -> Result<Formula, OutOfMemory>
-    ensures { IfOk result (λ f. f ≡ is_total r.now s.now from.now) }
+    ensures { IfOk result (λ f. f ≡ totality r.now s.now from.now) }
 {
     let parts = one(alloc, r.copy(alloc)?)?;
     let ty = Ty::Pow(Boxed::new(alloc, from.copy(alloc)?)?);
@@ -250,7 +250,7 @@ fn is_total_relation(
     to: &Ty,
 ) -> Result<Formula, OutOfMemory>
     ensures { IfOk result (λ f.
-        f ≡ conjunction (is_in Op.Relations r.now s.now t.now from.now to.now) (is_total r.now s.now from.now)) }
+        f ≡ conjunction (is_in Op.Relations r.now s.now t.now from.now to.now) (totality r.now s.now from.now)) }
 {
     let left = is_in(alloc, Op::Relations, r, s, t, from, to)?;
     let Ok(right) = is_total(alloc, r, s, from) else {

@@ -12,7 +12,7 @@ use Rattle.sequent_core.specs.declared.tree.Tree.TheViews.{rolls-Leaf, rolls-Nod
 use Rattle.sequent_core.specs.declared.tree.Tree.TheFolds.{fold-roll-Tree}
 use Rattle.rule_table.specs.Parts.{is_review}
 use Rattle.rule_table.specs.Rules.{IsRule}
-use Rattle.sequent_core.specs.Trees.{extended, Meets, IsFresh, NodeAt, below, nodes_step, nodes, Fits, Applies, is_closed_step, is_closed, is_reviewed_step, is_reviewed, Derives, node_count_step, node_count, rule_count_step, rule_count}
+use Rattle.sequent_core.specs.Trees.{extended, Meets, IsFresh, NodeAt, nodes_below, nodes_step, nodes, Fits, Applies, is_closed_step, is_closed, is_reviewed_step, is_reviewed, Derives, node_count_step, node_count, rule_count_step, rule_count}
 use Rattle.sequent_core.specs.PrivateChildren.{EachApplies}
 
 module _ {X : Type 0} (P : X → Type 0) where
@@ -35,7 +35,7 @@ nodes-Leaf s = ap (λ t. nodes t s) (sym rolls-Leaf) ∙ ap (λ g. g s) (fold-ro
 abbrev node_at : Rule → List Tree → Sequent → NodeAt
 node_at r trees s = record { rule = r; children = length (map nodes trees); sequent = s }
 
-nodes-Node : (r : Rule) (trees : List Tree) (s : Sequent) → nodes (Node r trees) s ≡ node_at r trees s ∷ below s (map nodes trees) r.antecedents
+nodes-Node : (r : Rule) (trees : List Tree) (s : Sequent) → nodes (Node r trees) s ≡ node_at r trees s ∷ nodes_below s (map nodes trees) r.antecedents
 nodes-Node r trees s = ap (λ t. nodes t s) (sym (rolls-Node r trees)) ∙ ap (λ g. g s) (fold-roll-Tree (Sequent → List NodeAt) nodes_step (NodeF r trees))
 
 pub closed-Leaf : is_closed Leaf ≡ false
@@ -64,12 +64,12 @@ pub rule_count-Node : (r : Rule) (trees : List Tree) → rule_count (Node r tree
 rule_count-Node r trees = ap rule_count (sym (rolls-Node r trees)) ∙ fold-roll-Tree ℕ rule_count_step (NodeF r trees)
 
 each_of : (trees : List Tree) (ants : List Antecedent) (s : Sequent)
-    → length (map nodes trees) ≡ length ants → AllByRecursion (IsFresh s) ants → AllByRecursion Fits (below s (map nodes trees) ants) → EachApplies trees ants s
+    → length (map nodes trees) ≡ length ants → AllByRecursion (IsFresh s) ants → AllByRecursion Fits (nodes_below s (map nodes trees) ants) → EachApplies trees ants s
 each_of [] [] s e f b = tt
 each_of [] (a ∷ ants) s e f b = cc
 each_of (t ∷ trees) [] s e f b = cc
 each_of (t ∷ trees) (a ∷ ants) s e f b =
-    (f.0, all_first Fits (nodes t (extended s a)) (below s (map nodes trees) ants) b, each_of trees ants s (omega (arith, e)) f.1 (all_last Fits (nodes t (extended s a)) (below s (map nodes trees) ants) b))
+    (f.0, all_first Fits (nodes t (extended s a)) (nodes_below s (map nodes trees) ants) b, each_of trees ants s (omega (arith, e)) f.1 (all_last Fits (nodes t (extended s a)) (nodes_below s (map nodes trees) ants) b))
 
 length_of : (trees : List Tree) (ants : List Antecedent) (s : Sequent) → EachApplies trees ants s → length (map nodes trees) ≡ length ants
 length_of [] [] s e = refl
@@ -83,11 +83,11 @@ fresh_of [] (a ∷ ants) s e = absurd e
 fresh_of (t ∷ trees) [] s e = absurd e
 fresh_of (t ∷ trees) (a ∷ ants) s e = (e.0, fresh_of trees ants s e.2)
 
-below_of : (trees : List Tree) (ants : List Antecedent) (s : Sequent) → EachApplies trees ants s → AllByRecursion Fits (below s (map nodes trees) ants)
+below_of : (trees : List Tree) (ants : List Antecedent) (s : Sequent) → EachApplies trees ants s → AllByRecursion Fits (nodes_below s (map nodes trees) ants)
 below_of [] [] s e = tt
 below_of [] (a ∷ ants) s e = absurd e
 below_of (t ∷ trees) [] s e = absurd e
-below_of (t ∷ trees) (a ∷ ants) s e = all_both Fits (nodes t (extended s a)) (below s (map nodes trees) ants) e.1 (below_of trees ants s e.2)
+below_of (t ∷ trees) (a ∷ ants) s e = all_both Fits (nodes t (extended s a)) (nodes_below s (map nodes trees) ants) e.1 (below_of trees ants s e.2)
 
 -- a leaf applies to every sequent
 pub leaf_applies : (s : Sequent) → Applies Leaf s
@@ -101,7 +101,7 @@ node_applies r trees s i m e = subst (AllByRecursion Fits) (sym (nodes-Node r tr
 -- where a tree of a rule and its children applies, the rule does and each child does
 pub applied_rule : (r : Rule) (trees : List Tree) (s : Sequent) → Applies (Node r trees) s → IsRule r × Meets r s × EachApplies trees r.antecedents s
 applied_rule r trees s a =
-    let b : AllByRecursion Fits (node_at r trees s ∷ below s (map nodes trees) r.antecedents) = subst (AllByRecursion Fits) (nodes-Node r trees s) a in
+    let b : AllByRecursion Fits (node_at r trees s ∷ nodes_below s (map nodes trees) r.antecedents) = subst (AllByRecursion Fits) (nodes-Node r trees s) a in
     (b.0.rule, b.0.meets, each_of trees r.antecedents s b.0.children b.0.fresh b.1)
 
 -- a leaf derives nothing

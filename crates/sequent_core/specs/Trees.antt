@@ -39,14 +39,14 @@ pub record NodeAt : Type 0 where
   pub sequent : Sequent
 
 -- the nodes below a sequent: each child with its antecedent
-abbrev pub below : Sequent → List (Sequent → List NodeAt) → List Antecedent → List NodeAt
-below s [] antecedents = []
-below s (child ∷ children) [] = []
-below s (child ∷ children) (a ∷ antecedents) = child (extended s a) ++ below s children antecedents
+abbrev pub nodes_below : Sequent → List (Sequent → List NodeAt) → List Antecedent → List NodeAt
+nodes_below s [] antecedents = []
+nodes_below s (child ∷ children) [] = []
+nodes_below s (child ∷ children) (a ∷ antecedents) = child (extended s a) ++ nodes_below s children antecedents
 
 abbrev pub nodes_step : Tree-F (Sequent → List NodeAt) → Sequent → List NodeAt
 nodes_step Leaf s = []
-nodes_step (Node r children) s = record { rule = r; children = length children; sequent = s } ∷ below s children r.antecedents
+nodes_step (Node r children) s = record { rule = r; children = length children; sequent = s } ∷ nodes_below s children r.antecedents
 
 -- the rules of a tree, each with the sequent at its place
 abbrev pub nodes : Tree → Sequent → List NodeAt

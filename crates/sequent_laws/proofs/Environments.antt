@@ -18,14 +18,14 @@ use Rattle.formula_core.proofs.Keeping.{front, back, both, carriers-Int, carrier
 use Rattle.formula_core.proofs.TypedIn.{stands_more}
 use Rattle.model_core.specs.Each.{for_each}
 use Rattle.po_rules.specs.Parts.{with_prime}
-use Rattle.sequent_laws.specs.Sound.{Entries}
+use Rattle.sequent_laws.specs.Sound.{Environment}
 use Rattle.sequent_laws.proofs.Primes.{name_is, same_unprimed}
 
 pub turned : (x y : List ℕ) (b : Bool) → bytes_eq x y ≡ b → bytes_eq y x ≡ b
 turned x y b e = nat_list_eq_equiv.symm y x ∙ e
 
 -- what stands in two lists stands in one of them
-pub found_in : (xs ys : Entries) (x : List ℕ × Ty) → Stands (xs ++ ys) x → Stands xs x ⊎ Stands ys x
+pub found_in : (xs ys : Environment) (x : List ℕ × Ty) → Stands (xs ++ ys) x → Stands xs x ⊎ Stands ys x
 found_in [] ys x h = inr h
 found_in (z ∷ xs) ys x h =
     let go : (b : Bool) → cond b (Some z.1) (type_in (xs ++ ys) x.0) ≡ Some x.1 → (cond b (Some z.1) (type_in xs x.0) ≡ Some x.1) ⊎ Stands ys x = elim [
@@ -35,11 +35,11 @@ found_in (z ∷ xs) ys x h =
     go (bytes_eq x.0 z.0) h
 
 -- in two lists that stand in an environment
-pub within_both : (xs ys env : Entries) → IsWithin xs env → IsWithin ys env → IsWithin (xs ++ ys) env
+pub within_both : (xs ys env : Environment) → IsWithin xs env → IsWithin ys env → IsWithin (xs ++ ys) env
 within_both xs ys env f g x h = elim (found_in xs ys x h) [ inl a ↦ f x a | inr b ↦ g x b ]
 
 -- each name of a list whose members stand in an environment
-pub list_within : (xs env : Entries) → AllByRecursion (Stands env) xs → IsWithin xs env
+pub list_within : (xs env : Environment) → AllByRecursion (Stands env) xs → IsWithin xs env
 list_within [] env all x h = cc
 list_within (z ∷ xs) env all x h =
     let go : (b : Bool) → bytes_eq x.0 z.0 ≡ b → cond b (Some z.1) (type_in xs x.0) ≡ Some x.1 → Stands env x = elim [
@@ -48,16 +48,16 @@ list_within (z ∷ xs) env all x h =
     ] in
     go (bytes_eq x.0 z.0) refl h
 
-pub of_keys : (P : List ℕ → Type 0) (xs : Entries) → AllByRecursion P (keys_of xs) → AllByRecursion (λ x. P x.0) xs
+pub of_keys : (P : List ℕ → Type 0) (xs : Environment) → AllByRecursion P (keys_of xs) → AllByRecursion (λ x. P x.0) xs
 of_keys P [] h = tt
 of_keys P (x ∷ xs) h = (h.0, of_keys P xs h.1)
 
-each_later : (x : List ℕ × Ty) (env ys : Entries) → AllByRecursion (λ y. bytes_eq x.0 y.0 ≡ false) ys → AllByRecursion (Stands env) ys → AllByRecursion (Stands (x ∷ env)) ys
+each_later : (x : List ℕ × Ty) (env ys : Environment) → AllByRecursion (λ y. bytes_eq x.0 y.0 ≡ false) ys → AllByRecursion (Stands env) ys → AllByRecursion (Stands (x ∷ env)) ys
 each_later x env [] d h = tt
 each_later x env (y ∷ ys) d h = (ap (λ b. cond b (Some x.1) (type_in env y.0)) (turned x.0 y.0 false d.0) ∙ h.0, each_later x env ys d.1 h.1)
 
 -- where names are distinct each entry stands
-pub entries_stand : (env : Entries) → HasDistinctNames env → AllByRecursion (Stands env) env
+pub entries_stand : (env : Environment) → HasDistinctNames env → AllByRecursion (Stands env) env
 unfolding IsDistinct
 entries_stand [] d = tt
 entries_stand (x ∷ env) d = (
@@ -65,23 +65,23 @@ entries_stand (x ∷ env) d = (
   each_later x env env (of_keys (λ y. bytes_eq x.0 y ≡ false) env d.0) (entries_stand env d.1),
 )
 
-none_here : (ys : Entries) → AllByRecursion (λ y. type_in [] y.0 ≡ None) ys
+none_here : (ys : Environment) → AllByRecursion (λ y. type_in [] y.0 ≡ None) ys
 none_here [] = tt
 none_here (y ∷ ys) = (refl, none_here ys)
 
-none_more : (x : List ℕ × Ty) (xs ys : Entries) → AllByRecursion (λ y. bytes_eq x.0 y.0 ≡ false) ys → AllByRecursion (λ y. type_in xs y.0 ≡ None) ys → AllByRecursion (λ y. type_in (x ∷ xs) y.0 ≡ None) ys
+none_more : (x : List ℕ × Ty) (xs ys : Environment) → AllByRecursion (λ y. bytes_eq x.0 y.0 ≡ false) ys → AllByRecursion (λ y. type_in xs y.0 ≡ None) ys → AllByRecursion (λ y. type_in (x ∷ xs) y.0 ≡ None) ys
 none_more x xs [] d h = tt
 none_more x xs (y ∷ ys) d h = (ap (λ b. cond b (Some x.1) (type_in xs y.0)) (turned x.0 y.0 false d.0) ∙ h.0, none_more x xs ys d.1 h.1)
 
 -- and none of the second list stands in the first one
-pub absent : (xs ys : Entries) → HasDistinctNames (xs ++ ys) → AllByRecursion (λ y. type_in xs y.0 ≡ None) ys
+pub absent : (xs ys : Environment) → HasDistinctNames (xs ++ ys) → AllByRecursion (λ y. type_in xs y.0 ≡ None) ys
 unfolding IsDistinct
 absent [] ys d = none_here ys
 absent (x ∷ xs) ys d =
     none_more x xs ys (back (λ y. bytes_eq x.0 y.0 ≡ false) xs ys (of_keys (λ y. bytes_eq x.0 y ≡ false) (xs ++ ys) d.0)) (absent xs ys d.1)
 
 -- What stands behind absent names, in an environment that has them in front.
-pub stands_behind : (old env : Entries) (x : List ℕ × Ty) → Stands old x → Stands env x → (ys : Entries) → AllByRecursion (λ y. type_in old y.0 ≡ None) ys → Stands (ys ++ env) x
+pub stands_behind : (old env : Environment) (x : List ℕ × Ty) → Stands old x → Stands env x → (ys : Environment) → AllByRecursion (λ y. type_in old y.0 ≡ None) ys → Stands (ys ++ env) x
 stands_behind old env x o h [] none = h
 stands_behind old env x o h (y ∷ ys) none =
     let go : (b : Bool) → bytes_eq x.0 y.0 ≡ b → cond b (Some y.1) (type_in (ys ++ env) x.0) ≡ Some x.1 = elim [
@@ -90,14 +90,14 @@ stands_behind old env x o h (y ∷ ys) none =
     ] in
     go (bytes_eq x.0 y.0) refl
 
-pub front_within : (old env ys : Entries) → IsWithin old env → AllByRecursion (λ y. type_in old y.0 ≡ None) ys → IsWithin (old ++ ys) (ys ++ env)
+pub front_within : (old env ys : Environment) → IsWithin old env → AllByRecursion (λ y. type_in old y.0 ≡ None) ys → IsWithin (old ++ ys) (ys ++ env)
 front_within old env ys within none x h = elim (found_in old ys x h) [
   | inl a ↦ stands_behind old env x a (within x a) ys none
   | inr b ↦ stands_more ys env x b
 ]
 
 -- what holds of all names with a prime holds of one that stands there
-pub named_has : (P : List ℕ → Type 0) (vs : Entries) (x : List ℕ × Ty) → AllByRecursion (λ v. P v.0) (map with_prime vs) → Stands vs x → P (with_prime x).0
+pub named_has : (P : List ℕ → Type 0) (vs : Environment) (x : List ℕ × Ty) → AllByRecursion (λ v. P v.0) (map with_prime vs) → Stands vs x → P (with_prime x).0
 named_has P [] x h s = cc
 named_has P (v ∷ vs) x h s =
     let go : (b : Bool) → bytes_eq x.0 v.0 ≡ b → cond b (Some v.1) (type_in vs x.0) ≡ Some x.1 → P (with_prime x).0 = elim [
@@ -127,7 +127,7 @@ pub both_hold : {X : Type 0} (P Q : X → Type 0) (xs : List X) → AllByRecursi
 both_hold P Q [] h k = tt
 both_hold P Q (x ∷ xs) h k = ((h.0, k.0), both_hold P Q xs h.1 k.1)
 
-pub to_keys : (P : List ℕ → Type 0) (xs : Entries) → AllByRecursion (λ x. P x.0) xs → AllByRecursion P (keys_of xs)
+pub to_keys : (P : List ℕ → Type 0) (xs : Environment) → AllByRecursion (λ x. P x.0) xs → AllByRecursion P (keys_of xs)
 to_keys P [] h = tt
 to_keys P (x ∷ xs) h = (h.0, to_keys P xs h.1)
 
@@ -139,16 +139,16 @@ none_rest : (b : Bool) (u : Ty) (rest : Option Ty) → cond b (Some u) rest ≡ 
 none_rest true u rest e = cc
 none_rest false u rest e = e
 
-none_heads : (x : List ℕ × Ty) (xs ys : Entries) → AllByRecursion (λ y. type_in (x ∷ xs) y.0 ≡ None) ys → AllByRecursion (λ y. bytes_eq x.0 y.0 ≡ false) ys
+none_heads : (x : List ℕ × Ty) (xs ys : Environment) → AllByRecursion (λ y. type_in (x ∷ xs) y.0 ≡ None) ys → AllByRecursion (λ y. bytes_eq x.0 y.0 ≡ false) ys
 none_heads x xs [] n = tt
 none_heads x xs (y ∷ ys) n = (turned y.0 x.0 false (none_first (bytes_eq y.0 x.0) x.1 (type_in xs y.0) n.0), none_heads x xs ys n.1)
 
-none_tails : (x : List ℕ × Ty) (xs ys : Entries) → AllByRecursion (λ y. type_in (x ∷ xs) y.0 ≡ None) ys → AllByRecursion (λ y. type_in xs y.0 ≡ None) ys
+none_tails : (x : List ℕ × Ty) (xs ys : Environment) → AllByRecursion (λ y. type_in (x ∷ xs) y.0 ≡ None) ys → AllByRecursion (λ y. type_in xs y.0 ≡ None) ys
 none_tails x xs [] n = tt
 none_tails x xs (y ∷ ys) n = (none_rest (bytes_eq y.0 x.0) x.1 (type_in xs y.0) n.0, none_tails x xs ys n.1)
 
 -- distinct names behind others that lack them
-pub distinct_append : (xs ys : Entries) → HasDistinctNames xs → HasDistinctNames ys → AllByRecursion (λ y. type_in xs y.0 ≡ None) ys → HasDistinctNames (xs ++ ys)
+pub distinct_append : (xs ys : Environment) → HasDistinctNames xs → HasDistinctNames ys → AllByRecursion (λ y. type_in xs y.0 ≡ None) ys → HasDistinctNames (xs ++ ys)
 unfolding IsDistinct
 distinct_append [] ys d e n = e
 distinct_append (x ∷ xs) ys d e n = (
@@ -156,7 +156,7 @@ distinct_append (x ∷ xs) ys d e n = (
   distinct_append xs ys d.1 e (none_tails x xs ys n),
 )
 
-pub distinct_front : (xs ys : Entries) → HasDistinctNames (xs ++ ys) → HasDistinctNames xs
+pub distinct_front : (xs ys : Environment) → HasDistinctNames (xs ++ ys) → HasDistinctNames xs
 unfolding IsDistinct
 distinct_front [] ys d = tt
 distinct_front (x ∷ xs) ys d = (
@@ -172,12 +172,12 @@ still_differ x y e =
     ] in
     go (bytes_eq (x ++ prime ∷ []) (y ++ prime ∷ [])) refl
 
-differ_primed : (x : List ℕ × Ty) (ys : Entries) → AllByRecursion (λ y. bytes_eq x.0 y.0 ≡ false) ys → AllByRecursion (λ y. bytes_eq (with_prime x).0 y.0 ≡ false) (map with_prime ys)
+differ_primed : (x : List ℕ × Ty) (ys : Environment) → AllByRecursion (λ y. bytes_eq x.0 y.0 ≡ false) ys → AllByRecursion (λ y. bytes_eq (with_prime x).0 y.0 ≡ false) (map with_prime ys)
 differ_primed x [] h = tt
 differ_primed x (y ∷ ys) h = (still_differ x.0 y.0 h.0, differ_primed x ys h.1)
 
 -- names with primes are distinct where they are without
-pub distinct_primed : (xs : Entries) → HasDistinctNames xs → HasDistinctNames (map with_prime xs)
+pub distinct_primed : (xs : Environment) → HasDistinctNames xs → HasDistinctNames (map with_prime xs)
 unfolding IsDistinct
 distinct_primed [] d = tt
 distinct_primed (x ∷ xs) d = (

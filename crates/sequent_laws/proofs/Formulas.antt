@@ -19,7 +19,7 @@ use Rattle.formula_core.specs.Rows.{row_of}
 use Rattle.formula_core.specs.Shifting.{abstracted}
 use Rattle.formula_core.specs.Typed.{Stands, IsTypedIn, IsPredicateIn, IsGoodEnv}
 use Rattle.formula_core.specs.Types.{is_value_type, is_truth, is_integer, same_type, if_set, is_set_of}
-use Rattle.formula_core.specs.TypeTable.{fits}
+use Rattle.formula_core.specs.TypeTable.{row_fits}
 use Rattle.formula_core.specs.Wellness.{type_of, is_well_in}
 use Rattle.formula_core.proofs.Equations.{identifiers-Free, identifiers-Node, carriers-Pow}
 use Rattle.formula_core.proofs.Keeping.{both, all_more, carriers-Truth, carriers-Int}
@@ -35,7 +35,7 @@ use Rattle.well_defined.proofs.Identifiers.{condition_keeps}
 use Rattle.well_defined.proofs.Types.{type-Free, truth, integer, type-Node, at_set, set_of, value-Int, value-Pow}
 use Rattle.well_defined.proofs.Wellness.{wd_is_well, wd_is_predicate}
 use Rattle.po_rules.specs.Parts.{as_term}
-use Rattle.po_rules.specs.Rows.{chain, for_some_of, for_every_of, equal, naturals}
+use Rattle.po_rules.specs.Rows.{chain, for_some_of, for_every_of, equal_terms, naturals}
 use Rattle.po_rules.specs.Sequents.{IsNewValueIn}
 
 abbrev Env : Type 0
@@ -67,13 +67,13 @@ module _ (env : Env) where
   parts_stand (f ∷ parts) h = both (Stands env) (identifiers f) _ h.0.names (parts_stand parts h.1)
 
   -- an operator on typed operands
-  pub node_typed : (o : Op) (parts : List Formula) (t : Ty) → AllByRecursion (IsTypedIn env) parts → Stand (carriers t) → fits (row_of o) (map type_of parts) t ≡ true → IsTypedIn env (Node o parts t)
+  pub node_typed : (o : Op) (parts : List Formula) (t : Ty) → AllByRecursion (IsTypedIn env) parts → Stand (carriers t) → row_fits (row_of o) (map type_of parts) t ≡ true → IsTypedIn env (Node o parts t)
   node_typed o parts t h c f = record {
     well = well-Node o parts t [] ∙ both_true _ _ (parts_well parts h) f;
     names = subst Stand (sym (identifiers-Node o parts t)) (both (Stands env) (joined (map identifiers parts)) (carriers t) (parts_stand parts h) c);
   }
 
-  pub predicate_typed : (o : Op) (parts : List Formula) → AllByRecursion (IsTypedIn env) parts → fits (row_of o) (map type_of parts) ty.Truth ≡ true → Is (predicate o parts)
+  pub predicate_typed : (o : Op) (parts : List Formula) → AllByRecursion (IsTypedIn env) parts → row_fits (row_of o) (map type_of parts) ty.Truth ≡ true → Is (predicate o parts)
   predicate_typed o parts h f = (node_typed o parts ty.Truth h (subst Stand (sym carriers-Truth) tt) f, type-Node o parts ty.Truth)
 
   pub top_typed : Is top
@@ -84,7 +84,7 @@ module _ (env : Env) where
 
   pub connected : (o : Op) → row_of o ≡ Binary Connective → (p q : Formula) → Is p → Is q → Is (predicate o (p ∷ q ∷ []))
   connected o e p q g h =
-      predicate_typed o (p ∷ q ∷ []) (g.0, (h.0, tt)) (ap (λ r. fits r (type_of p ∷ type_of q ∷ []) ty.Truth) e ∙ both_true _ _ (both_true _ _ (is_truth_of p g) (is_truth_of q h)) truth)
+      predicate_typed o (p ∷ q ∷ []) (g.0, (h.0, tt)) (ap (λ r. row_fits r (type_of p ∷ type_of q ∷ []) ty.Truth) e ∙ both_true _ _ (both_true _ _ (is_truth_of p g) (is_truth_of q h)) truth)
 
   pub chain_typed : (joins : Formula → Formula → Formula) → ((p q : Formula) → Is p → Is q → Is (joins p q)) → (fs : List Formula) → AllByRecursion Is fs → Is (chain joins fs)
   chain_typed joins one [] h = top_typed
@@ -112,7 +112,7 @@ module _ (env : Env) where
   condition_typed f h = (record { well = wd_is_well f h.well; names = condition_keeps (Stands env) f h.names }, wd_is_predicate f h.well)
 
   -- what relates two values of one type
-  pub equal_typed : (a b : Formula) → IsTypedIn env a → IsTypedIn env b → IsTrue (is_value_type (type_of b)) → type_of a ≡ type_of b → Is (equal a b)
+  pub equal_typed : (a b : Formula) → IsTypedIn env a → IsTypedIn env b → IsTrue (is_value_type (type_of b)) → type_of a ≡ type_of b → Is (equal_terms a b)
   equal_typed a b g h v e =
       predicate_typed op.Equal (a ∷ b ∷ []) (g, (h, tt))
       (both_true _ _ (both_true _ _ (ap is_value_type e ∙ v) (ap (same_type (type_of b)) e ∙ same_type_refl (type_of b))) truth)
@@ -186,11 +186,11 @@ module _ (env : Env) where
   pub inclusion_typed : (o : Op) → row_of o ≡ Binary Inclusion → (a b : Formula) → IsTypedIn env a → IsTypedIn env b → if_set (type_of a) is_value_type ≡ true → type_of b ≡ type_of a → Is (predicate o (a ∷ b ∷ []))
   inclusion_typed o r a b g h v e =
       predicate_typed o (a ∷ b ∷ []) (g, (h, tt))
-      (ap (λ x. fits x (type_of a ∷ type_of b ∷ []) ty.Truth) r ∙ both_true _ _ (both_true _ _ v (ap (λ u. same_type u (type_of a)) e ∙ same_type_refl (type_of a))) truth)
+      (ap (λ x. row_fits x (type_of a ∷ type_of b ∷ []) ty.Truth) r ∙ both_true _ _ (both_true _ _ v (ap (λ u. same_type u (type_of a)) e ∙ same_type_refl (type_of a))) truth)
 
   pub comparison_typed : (o : Op) → row_of o ≡ Binary Comparison → (a b : Formula) → IsTypedIn env a → IsTypedIn env b → is_integer (type_of a) ≡ true → is_integer (type_of b) ≡ true → Is (predicate o (a ∷ b ∷ []))
   comparison_typed o r a b g h v w =
-      predicate_typed o (a ∷ b ∷ []) (g, (h, tt)) (ap (λ x. fits x (type_of a ∷ type_of b ∷ []) ty.Truth) r ∙ both_true _ _ (both_true _ _ v w) truth)
+      predicate_typed o (a ∷ b ∷ []) (g, (h, tt)) (ap (λ x. row_fits x (type_of a ∷ type_of b ∷ []) ty.Truth) r ∙ both_true _ _ (both_true _ _ v w) truth)
 
   naturals_typed : IsTypedIn env naturals
   naturals_typed =

@@ -27,37 +27,37 @@ use Rattle.model_core.specs.declared.checked.Labelled.{Labelled}
 use Rattle.model_core.specs.Each.{for_each, is_among}
 use Rattle.po_rules.specs.Parts.{formulas, initialises, actions_of, actions_of_first, open_targets, with_prime, as_term, new_values, before_after, after_pairs, variables_of, primed_values, params_left_out, obligation_env, machine_hyps, refined_by, parts_of}
 use Rattle.po_rules.specs.Sequents.{IsNewValueIn, AreGoodParts}
-use Rattle.sequent_laws.specs.Sound.{Entries, ArePredicatesIn, IsVariantIn, IsActionAt, AreNewValues, IsAbstractActionAt, IsReadIn, HasGoodParts, IsGoodMachine, params_env, witnesses_env, IsActionIn, lost_chosen, wants_witness, IsTypedEvent, IsTypedMachine, all_assigned}
+use Rattle.sequent_laws.specs.Sound.{Environment, AreTypedPredicates, IsTypedVariantIn, IsActionAt, AreNewValues, IsAbstractActionAt, IsReadIn, HasGoodParts, IsGoodMachine, params_env, witnesses_env, IsTypedActionIn, lost_chosen, wants_witness, IsWellTypedEvent, IsWellTypedMachine, targets_of_all}
 use Rattle.sequent_laws.proofs.Environments.{found_in, within_both, list_within, entries_stand, absent, front_within, named_has, mapped_front, filter_append, both_hold, distinct_append, distinct_front, distinct_primed, sets_keep, of_keys}
 use Rattle.sequent_laws.proofs.Formulas
 use Rattle.sequent_laws.proofs.Primes.{name_is, sets_stand, others_stand}
 use Rattle.sequent_laws.proofs.Rows.{all_of, all_filtered, all_given, formulas_are, hyps_are}
 
-abbrev own_chosen : CheckedEvent → Entries
+abbrev own_chosen : CheckedEvent → Environment
 own_chosen e = for_each open_targets (actions_of e)
 
 of_mapped : {X Y : Type 0} (P : Y → Type 0) (f : X → Y) (xs : List X) → AllByRecursion P (map f xs) → AllByRecursion (λ x. P (f x)) xs
 of_mapped P f [] h = tt
 of_mapped P f (x ∷ xs) h = (h.0, of_mapped P f xs h.1)
 
-labelled_more : (old new : Entries) → IsWithin old new → (ls : List Labelled) → ArePredicatesIn old ls → ArePredicatesIn new ls
+labelled_more : (old new : Environment) → IsWithin old new → (ls : List Labelled) → AreTypedPredicates old ls → AreTypedPredicates new ls
 labelled_more old new within = all_more (λ l. IsPredicateIn old l.formula) (λ l. IsPredicateIn new l.formula) (λ l. predicate_more old new within l.formula)
 
-value_more : (old new : Entries) → IsWithin old new → (q : List ℕ × Formula) → IsNewValueIn old q → IsNewValueIn new q
+value_more : (old new : Environment) → IsWithin old new → (q : List ℕ × Formula) → IsNewValueIn old q → IsNewValueIn new q
 value_more old new within q h = (typed_more old new within q.1 h.0, within (q.0, type_of q.1) h.1)
 
-values_more : (old new : Entries) → IsWithin old new → (qs : List (List ℕ × Formula)) → AllByRecursion (IsNewValueIn old) qs → AllByRecursion (IsNewValueIn new) qs
+values_more : (old new : Environment) → IsWithin old new → (qs : List (List ℕ × Formula)) → AllByRecursion (IsNewValueIn old) qs → AllByRecursion (IsNewValueIn new) qs
 values_more old new within = all_more (IsNewValueIn old) (IsNewValueIn new) (value_more old new within)
 
 -- the one target of `x :∈ S`
 members_are : (s : Formula) (t : Ty) → type_of s ≡ ty.Pow t → members (type_of s) ≡ Some t
 members_are s t e = ap members e ∙ ap members_at (outs-Pow t)
 
-abbrev target_of : List ℕ → Option Ty → Entries
+abbrev target_of : List ℕ → Option Ty → Environment
 target_of x o = map (λ t. (x, t)) (option_to_list o)
 
 -- targets of an action stand in a larger environment
-targets_stand : (old new : Entries) → IsWithin old new → (a : Action) → IsActionIn old a → AllByRecursion (Stands new) (open_targets a)
+targets_stand : (old new : Environment) → IsWithin old new → (a : Action) → IsTypedActionIn old a → AllByRecursion (Stands new) (open_targets a)
 targets_stand old new within (Assign pairs) h = tt
 targets_stand old new within (ChooseIn x s) h =
     let t = h.1.0 in
@@ -69,15 +69,15 @@ each_primed P [] h = tt
 each_primed P (a ∷ xs) h = let k = mapped_front P with_prime (open_targets a) (for_each open_targets xs) h in (k.0, each_primed P xs k.1)
 
 -- an action of an environment, whose primed targets stand in a larger one that is good
-module _ (old new : Entries) (within : IsWithin old new) (good : IsGoodEnv new) where
+module _ (old new : Environment) (within : IsWithin old new) (good : IsGoodEnv new) where
   primed_value : (y : List ℕ × Ty) → Stands new y → Stands new (with_prime y) → IsNewValueIn new (y.0, as_term (with_prime y))
   primed_value y h k = (Formulas.term_typed new good (with_prime y) k, h ∙ ap Some (sym (type-Free (with_prime y).0 y.1)))
 
-  target_values : (ts : Entries) → AllByRecursion (Stands new) ts → AllByRecursion (Stands new) (map with_prime ts) → AllByRecursion (IsNewValueIn new) (map (λ y. (y.0, as_term (with_prime y))) ts)
+  target_values : (ts : Environment) → AllByRecursion (Stands new) ts → AllByRecursion (Stands new) (map with_prime ts) → AllByRecursion (IsNewValueIn new) (map (λ y. (y.0, as_term (with_prime y))) ts)
   target_values [] h k = tt
   target_values (y ∷ ts) h k = (primed_value y h.0 k.0, target_values ts h.1 k.1)
 
-  new_values_are : (a : Action) → IsActionIn old a → AllByRecursion (Stands new) (map with_prime (open_targets a)) → AllByRecursion (IsNewValueIn new) (new_values a)
+  new_values_are : (a : Action) → IsTypedActionIn old a → AllByRecursion (Stands new) (map with_prime (open_targets a)) → AllByRecursion (IsNewValueIn new) (new_values a)
   new_values_are (Assign pairs) h k = values_more old new within pairs h
   new_values_are (ChooseIn x s) h k = target_values (open_targets (ChooseIn x s)) (targets_stand old new within (ChooseIn x s) h) k
   new_values_are (ChooseSuch targets q) h k = target_values targets (targets_stand old new within (ChooseSuch targets q) h) k
@@ -86,7 +86,7 @@ module _ (old new : Entries) (within : IsWithin old new) (good : IsGoodEnv new) 
   chosen_is x s t h e k =
       Formulas.member_typed new (with_prime (x, t)) s (Formulas.term_typed new good (with_prime (x, t)) k) (Formulas.value_at new good (with_prime (x, t)).0 t k) h e
 
-  before_after_is : (a : Action) → IsActionIn old a → AllByRecursion (Stands new) (map with_prime (open_targets a)) → AllByRecursion (IsPredicateIn new) (before_after a)
+  before_after_is : (a : Action) → IsTypedActionIn old a → AllByRecursion (Stands new) (map with_prime (open_targets a)) → AllByRecursion (IsPredicateIn new) (before_after a)
   before_after_is (Assign pairs) h k = tt
   before_after_is (ChooseIn x s) h k =
       let t = h.1.0 in
@@ -97,32 +97,32 @@ module _ (old new : Entries) (within : IsWithin old new) (good : IsGoodEnv new) 
   before_after_is (ChooseSuch targets q) h k =
       (predicate_more (old ++ map with_prime targets) new (within_both old (map with_prime targets) new within (list_within (map with_prime targets) new k)) q h.2, tt)
 
-  action_at : (a : Action) → IsActionIn old a → AllByRecursion (Stands new) (map with_prime (open_targets a)) → IsActionAt new a
+  action_at : (a : Action) → IsTypedActionIn old a → AllByRecursion (Stands new) (map with_prime (open_targets a)) → IsActionAt new a
   action_at (Assign pairs) h k = values_more old new within pairs h
   action_at (ChooseIn x s) h k = (typed_more old new within s h.0, (h.1.0, h.1.1, within (x, h.1.0) h.1.2))
   action_at (ChooseSuch targets q) h k = (h.0, of_mapped (Stands new) with_prime targets k, (before_after_is (ChooseSuch targets q) h k).0)
 
   -- lost variables alone
   module _ (lost : List (List ℕ)) where
-    lost_one : (b : Bool) (y : List ℕ × Ty) (rest : Entries) (values : List (List ℕ × Formula)) → Stands new y
+    lost_one : (b : Bool) (y : List ℕ × Ty) (rest : Environment) (values : List (List ℕ × Formula)) → Stands new y
         → (AllByRecursion (Stands new) (map with_prime rest) → AllByRecursion (IsNewValueIn new) values)
         → AllByRecursion (Stands new) (map with_prime (cond b (y ∷ rest) rest)) → AllByRecursion (IsNewValueIn new) (cond b ((y.0, as_term (with_prime y)) ∷ values) values)
     lost_one true y rest values h more k = (primed_value y h k.0, more k.1)
     lost_one false y rest values h more k = more k
 
-    lost_targets : (ts : Entries) → AllByRecursion (Stands new) ts → AllByRecursion (Stands new) (map with_prime (filter (λ x. is_among lost x.0) ts))
+    lost_targets : (ts : Environment) → AllByRecursion (Stands new) ts → AllByRecursion (Stands new) (map with_prime (filter (λ x. is_among lost x.0) ts))
         → AllByRecursion (IsNewValueIn new) (filter (λ p. is_among lost p.0) (map (λ y. (y.0, as_term (with_prime y))) ts))
     lost_targets [] h k = tt
     lost_targets (y ∷ ts) h k =
         lost_one (is_among lost y.0) y (filter (λ x. is_among lost x.0) ts) (filter (λ p. is_among lost p.0) (map (λ z. (z.0, as_term (with_prime z))) ts)) h.0 (lost_targets ts h.1) k
 
-    lost_of_action : (a : Action) → IsActionIn old a → AllByRecursion (Stands new) (map with_prime (filter (λ x. is_among lost x.0) (open_targets a)))
+    lost_of_action : (a : Action) → IsTypedActionIn old a → AllByRecursion (Stands new) (map with_prime (filter (λ x. is_among lost x.0) (open_targets a)))
         → AllByRecursion (IsNewValueIn new) (filter (λ p. is_among lost p.0) (new_values a))
     lost_of_action (Assign pairs) h k = all_filtered (IsNewValueIn new) (λ p. is_among lost p.0) pairs (values_more old new within pairs h)
     lost_of_action (ChooseIn x s) h k = lost_targets (open_targets (ChooseIn x s)) (targets_stand old new within (ChooseIn x s) h) k
     lost_of_action (ChooseSuch targets q) h k = lost_targets targets (targets_stand old new within (ChooseSuch targets q) h) k
 
-    lost_values : (xs : List Action) → AllByRecursion (IsActionIn old) xs → AllByRecursion (Stands new) (map with_prime (filter (λ x. is_among lost x.0) (for_each open_targets xs)))
+    lost_values : (xs : List Action) → AllByRecursion (IsTypedActionIn old) xs → AllByRecursion (Stands new) (map with_prime (filter (λ x. is_among lost x.0) (for_each open_targets xs)))
         → AllByRecursion (IsNewValueIn new) (filter (λ p. is_among lost p.0) (for_each new_values xs))
     lost_values [] h k = tt
     lost_values (a ∷ xs) h k =
@@ -132,16 +132,16 @@ module _ (old new : Entries) (within : IsWithin old new) (good : IsGoodEnv new) 
         (both (IsNewValueIn new) (filter (λ p. is_among lost p.0) (new_values a)) (filter (λ p. is_among lost p.0) (for_each new_values xs)) (lost_of_action a h.0 parts.0) (lost_values xs h.1 parts.1))
 
 -- an abstract action of parameters' environment, whose primed targets are names of it no more
-module _ (old new : Entries) (within : IsWithin old new) where
+module _ (old new : Environment) (within : IsWithin old new) where
   abbrev IsNone : List ℕ × Ty → Type 0
   IsNone y = type_in old y.0 ≡ None
 
-  given_values : (a : Action) → IsActionIn old a → AreNewValues new a
+  given_values : (a : Action) → IsTypedActionIn old a → AreNewValues new a
   given_values (Assign pairs) h = values_more old new within pairs h
   given_values (ChooseIn x s) h = tt
   given_values (ChooseSuch targets q) h = tt
 
-  choices_are : (own : Entries) → IsGoodEnv own → IsWithin own old → (a : Action) → IsActionIn old a → AllByRecursion (Stands own) (open_targets a)
+  choices_are : (own : Environment) → IsGoodEnv own → IsWithin own old → (a : Action) → IsTypedActionIn old a → AllByRecursion (Stands own) (open_targets a)
       → AllByRecursion IsNone (map with_prime (open_targets a)) → AllByRecursion (IsPredicateIn (map with_prime (open_targets a) ++ new)) (before_after a)
   choices_are own good inner (Assign pairs) h k none = tt
   choices_are own good inner (ChooseIn x s) h k none =
@@ -160,7 +160,7 @@ module _ (old new : Entries) (within : IsWithin old new) where
   choices_are own good inner (ChooseSuch targets q) h k none =
       (predicate_more (old ++ map with_prime targets) (map with_prime targets ++ new) (front_within old new (map with_prime targets) within none) q h.2, tt)
 
-  abstract_at : (own : Entries) → IsGoodEnv own → IsWithin own old → (a : Action) → IsActionIn old a → AllByRecursion (Stands own) (open_targets a)
+  abstract_at : (own : Environment) → IsGoodEnv own → IsWithin own old → (a : Action) → IsTypedActionIn old a → AllByRecursion (Stands own) (open_targets a)
       → AllByRecursion IsNone (map with_prime (open_targets a)) → IsAbstractActionAt new a
   abstract_at own good inner a h k none = record {
     values = given_values a h;
@@ -168,25 +168,25 @@ module _ (old new : Entries) (within : IsWithin old new) where
     choices = choices_are own good inner a h k none;
   }
 
-none_primed : (old vs ts : Entries) → AllByRecursion (λ y. type_in old y.0 ≡ None) (map with_prime vs) → AllByRecursion (Stands vs) ts → AllByRecursion (λ y. type_in old y.0 ≡ None) (map with_prime ts)
+none_primed : (old vs ts : Environment) → AllByRecursion (λ y. type_in old y.0 ≡ None) (map with_prime vs) → AllByRecursion (Stands vs) ts → AllByRecursion (λ y. type_in old y.0 ≡ None) (map with_prime ts)
 none_primed old vs [] h k = tt
 none_primed old vs (x ∷ ts) h k = (named_has (λ n. type_in old n ≡ None) vs x h k.0, none_primed old vs ts h k.1)
 
-module _ (m : CheckedMachine) (refined : List CheckedEvent) (e : CheckedEvent) (own : IsGoodEnv m.env) (h : IsTypedEvent m refined e)
+module _ (m : CheckedMachine) (refined : List CheckedEvent) (e : CheckedEvent) (own : IsGoodEnv m.env) (h : IsWellTypedEvent m refined e)
     (named : AllByRecursion (λ n. (t : Ty) × Stands m.env (n, t)) (m.variables ++ m.lost)) (distinct : IsDistinct bytes_eq (m.variables ++ m.lost)) where
-  abbrev event_env : Entries
+  abbrev event_env : Environment
   event_env = m.env ++ e.params
 
-  abbrev params : Entries
+  abbrev params : Environment
   params = params_env m e refined
 
-  abbrev primed : Entries
+  abbrev primed : Environment
   primed = witnesses_env m e refined
 
-  abbrev env : Entries
+  abbrev env : Environment
   env = obligation_env m e refined
 
-  abbrev chosen : Entries
+  abbrev chosen : Environment
   chosen = for_each open_targets (actions_of e) ++ filter (λ x. is_among m.lost x.0) (for_each open_targets (actions_of_first refined))
 
   params_within : IsWithin params env
@@ -201,7 +201,7 @@ module _ (m : CheckedMachine) (refined : List CheckedEvent) (e : CheckedEvent) (
   machine_within : IsWithin m.env env
   machine_within x k = params_within x (machine_inner x k)
 
-  abbrev variables : Entries
+  abbrev variables : Environment
   variables = variables_of m
 
   variables_stand : AllByRecursion (Stands m.env) variables
@@ -211,12 +211,12 @@ module _ (m : CheckedMachine) (refined : List CheckedEvent) (e : CheckedEvent) (
   none_stands = absent params (map with_prime variables) h.primed.names
 
   -- targets are variables
-  module _ (big : Entries) (larger : IsWithin m.env big) where
-    target_stands : (ts : Entries) → AllByRecursion (Stands big) ts → AllByRecursion (λ x. is_among (m.variables ++ m.lost) x.0 ≡ true) ts → AllByRecursion (Stands variables) ts
+  module _ (big : Environment) (larger : IsWithin m.env big) where
+    target_stands : (ts : Environment) → AllByRecursion (Stands big) ts → AllByRecursion (λ x. is_among (m.variables ++ m.lost) x.0 ≡ true) ts → AllByRecursion (Stands variables) ts
     target_stands [] k l = tt
     target_stands (t ∷ ts) k l = (variable_stands (m.variables ++ m.lost) m.env big larger named t k.0 l.0, target_stands ts k.1 l.1)
 
-    targets_are : (xs : List Action) → AllByRecursion (IsActionIn big) xs → AllByRecursion (λ x. is_among (m.variables ++ m.lost) x.0 ≡ true) (for_each open_targets xs)
+    targets_are : (xs : List Action) → AllByRecursion (IsTypedActionIn big) xs → AllByRecursion (λ x. is_among (m.variables ++ m.lost) x.0 ≡ true) (for_each open_targets xs)
         → AllByRecursion (λ a. AllByRecursion (Stands variables) (open_targets a)) xs
     targets_are [] k l = tt
     targets_are (a ∷ xs) k l = (
@@ -229,7 +229,7 @@ module _ (m : CheckedMachine) (refined : List CheckedEvent) (e : CheckedEvent) (
       targets_are event_env (stands_more m.env e.params) (actions_of e) h.actions
       (of_keys (λ n. is_among (m.variables ++ m.lost) n ≡ true) (for_each open_targets (actions_of e))
       (chosen_have (λ n. is_among (m.variables ++ m.lost) n ≡ true) (actions_of e)
-      (all_more (λ n. is_among m.variables n ≡ true) (λ n. is_among (m.variables ++ m.lost) n ≡ true) (λ n. among_more n m.variables m.lost) (all_assigned (actions_of e)) h.targets)))
+      (all_more (λ n. is_among m.variables n ≡ true) (λ n. is_among (m.variables ++ m.lost) n ≡ true) (λ n. among_more n m.variables m.lost) (targets_of_all (actions_of e)) h.targets)))
 
   refined_targets : AllByRecursion (λ a. AllByRecursion (Stands variables) (open_targets a)) (actions_of_first refined)
   refined_targets =
@@ -278,11 +278,11 @@ module _ (m : CheckedMachine) (refined : List CheckedEvent) (e : CheckedEvent) (
       (back (Stands env) params (map with_prime chosen) (entries_stand env env_good.names))
 
   abbrev IsOwn : Action → Type 0
-  IsOwn a = IsActionIn event_env a × AllByRecursion (Stands env) (map with_prime (open_targets a))
+  IsOwn a = IsTypedActionIn event_env a × AllByRecursion (Stands env) (map with_prime (open_targets a))
 
   own_actions : AllByRecursion IsOwn (actions_of e)
   own_actions =
-      both_hold (IsActionIn event_env) (λ a. AllByRecursion (Stands env) (map with_prime (open_targets a))) (actions_of e)
+      both_hold (IsTypedActionIn event_env) (λ a. AllByRecursion (Stands env) (map with_prime (open_targets a))) (actions_of e)
       h.actions (each_primed (Stands env) (actions_of e) chosen_stand.0)
 
   choices : AllByRecursion (IsPredicateIn env) (for_each before_after (actions_of e))
@@ -348,14 +348,14 @@ module _ (m : CheckedMachine) (refined : List CheckedEvent) (e : CheckedEvent) (
       (λ w k. (replaced_predicate primed env (primed_values m (after_pairs m e refined)) variables_replaced w.1 k.0, named_here w k.1)) e.witnesses
       (both_hold (λ w. IsPredicateIn primed w.1) (λ w. (t : Ty) × Stands (wants_witness m e refined) (w.0, t)) e.witnesses h.witnesses (all_named (wants_witness m e refined) e.witnesses h.witness_names)))
 
-  module _ (axioms : ArePredicatesIn m.env m.axioms) (invariants : ArePredicatesIn m.env m.invariants) (variant : IfSome m.variant (IsVariantIn m.env)) where
-    axioms_here : ArePredicatesIn env m.axioms
+  module _ (axioms : AreTypedPredicates m.env m.axioms) (invariants : AreTypedPredicates m.env m.invariants) (variant : IfSome m.variant (IsTypedVariantIn m.env)) where
+    axioms_here : AreTypedPredicates env m.axioms
     axioms_here = labelled_more m.env env machine_within m.axioms axioms
 
-    invariants_here : ArePredicatesIn env m.invariants
+    invariants_here : AreTypedPredicates env m.invariants
     invariants_here = labelled_more m.env env machine_within m.invariants invariants
 
-    guards_here : ArePredicatesIn env e.guards
+    guards_here : AreTypedPredicates env e.guards
     guards_here = labelled_more event_env env event_within e.guards h.guards
 
     base_is : (b : Bool) → AllByRecursion (IsPredicateIn env) (if b then formulas m.axioms else (machine_hyps m ++ formulas e.guards))
@@ -371,12 +371,12 @@ module _ (m : CheckedMachine) (refined : List CheckedEvent) (e : CheckedEvent) (
       after = after;
     }
 
-    variant_here : (v : Option Formula) → IfSome v (IsVariantIn m.env) → IfSome v (IsVariantIn env)
+    variant_here : (v : Option Formula) → IfSome v (IsTypedVariantIn m.env) → IfSome v (IsTypedVariantIn env)
     variant_here None k = tt
     variant_here (Some v) k = (typed_more m.env env machine_within v k.0, k.1)
 
     abbrev IsAbstract : Action → Type 0
-    IsAbstract a = IsActionIn params a × AllByRecursion (Stands (variables_of m)) (open_targets a)
+    IsAbstract a = IsTypedActionIn params a × AllByRecursion (Stands (variables_of m)) (open_targets a)
 
     abstract_is : (a : Action) → IsAbstract a → IsAbstractActionAt env a
     abstract_is a k =
@@ -391,20 +391,20 @@ module _ (m : CheckedMachine) (refined : List CheckedEvent) (e : CheckedEvent) (
       variant = variant_here m.variant variant;
       guards = guards_here;
       actions = of_mapped (IsActionAt env) (λ a. a.1) e.actions (all_more IsOwn (IsActionAt env) (λ a k. action_at event_env env event_within env_good a k.0 k.1) (actions_of e) own_actions);
-      refined_guards = all_more (λ r. ArePredicatesIn params r.guards) (λ r. ArePredicatesIn env r.guards) (λ r. labelled_more params env params_within r.guards) refined h.refined_guards;
+      refined_guards = all_more (λ r. AreTypedPredicates params r.guards) (λ r. AreTypedPredicates env r.guards) (λ r. labelled_more params env params_within r.guards) refined h.refined_guards;
       refined_actions = all_more IsAbstract (IsAbstractActionAt env) abstract_is (actions_of_first refined)
-          (both_hold (IsActionIn params) (λ a. AllByRecursion (Stands (variables_of m)) (open_targets a)) (actions_of_first refined) h.refined_actions refined_targets);
+          (both_hold (IsTypedActionIn params) (λ a. AllByRecursion (Stands (variables_of m)) (open_targets a)) (actions_of_first refined) h.refined_actions refined_targets);
     }
 
     has_good_parts : HasGoodParts m refined e
     has_good_parts = (good_parts, reads)
 
-pub machine_has_good_parts : (m : CheckedMachine) (abstraction : Option CheckedMachine) → IsTypedMachine m abstraction → IsGoodMachine m abstraction
+pub machine_has_good_parts : (m : CheckedMachine) (abstraction : Option CheckedMachine) → IsWellTypedMachine m abstraction → IsGoodMachine m abstraction
 machine_has_good_parts m abstraction h = record {
   env = h.env;
   axioms = h.axioms;
   invariants = h.invariants;
   variant = h.variant;
-  events = all_more (λ e. IsTypedEvent m (refined_by abstraction e) e) (λ e. HasGoodParts m (refined_by abstraction e) e)
+  events = all_more (λ e. IsWellTypedEvent m (refined_by abstraction e) e) (λ e. HasGoodParts m (refined_by abstraction e) e)
       (λ e k. has_good_parts m (refined_by abstraction e) e h.env k h.variables h.once h.axioms h.invariants h.variant) m.events h.events;
 }

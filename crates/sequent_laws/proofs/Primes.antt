@@ -20,7 +20,7 @@ use Rattle.formula_core.proofs.Equations.{carriers-Given, carriers-Pow}
 use Rattle.formula_core.proofs.TypedIn.{replaced_predicate}
 use Rattle.model_core.specs.Each.{IsIn}
 use Rattle.po_rules.specs.Parts.{with_prime}
-use Rattle.sequent_laws.specs.Sound.{Entries}
+use Rattle.sequent_laws.specs.Sound.{Environment}
 use Rattle.sequent_laws.proofs.Formulas.{carriers_at}
 
 pub name_is : (x : List ℕ) → bytes_eq x x ≡ true
@@ -42,11 +42,11 @@ of_each P (y ∷ xs) h x i = elim i [
 pub same_unprimed : (x y : List ℕ) → bytes_eq (x ++ prime ∷ []) (y ++ prime ∷ []) ≡ true → x ≡ y
 same_unprimed x y e = append_cancel_right x y (prime ∷ []) (same_text _ _ (sym e))
 
-module _ (env : Entries) where
-  abbrev Stand : Entries → Type 0
+module _ (env : Environment) where
+  abbrev Stand : Environment → Type 0
   Stand = AllByRecursion (Stands env)
 
-  abbrev with_primes : Entries → Entries
+  abbrev with_primes : Environment → Environment
   with_primes us = map with_prime us ++ env
 
   -- two with one name have one type
@@ -54,7 +54,7 @@ module _ (env : Entries) where
   one_type x u h k e = let same : Some u.1 ≡ Some x.1 = sym k ∙ ap (type_in env) (sym e) ∙ h in cc
 
   -- a target stands with its prime
-  primed_stands : (us : Entries) (x : List ℕ × Ty) → Stand us → Stands env x → IsIn x us → Stands (with_primes us) (with_prime x)
+  primed_stands : (us : Environment) (x : List ℕ × Ty) → Stand us → Stands env x → IsIn x us → Stands (with_primes us) (with_prime x)
   primed_stands [] x all h i = absurd i
   primed_stands (u ∷ us) x all h i =
       let rest : bytes_eq (with_prime x).0 (with_prime u).0 ≡ false → Stands (with_primes us) (with_prime x) = λ e. elim i [
@@ -74,7 +74,7 @@ module _ (env : Entries) where
         (subst Stand (carriers-Pow (ty.Given set) ∙ carriers-Given set) all).0
 
     -- a carrier set is no variable with a prime, or it stands in the environment too
-    pub sets_stand : (us : Entries) → Stand us → (set : List ℕ) → Stands (with_primes us) (set, ty.Pow (ty.Given set)) → Stands env (set, ty.Pow (ty.Given set))
+    pub sets_stand : (us : Environment) → Stand us → (set : List ℕ) → Stands (with_primes us) (set, ty.Pow (ty.Given set)) → Stands env (set, ty.Pow (ty.Given set))
     sets_stand [] all set h = h
     sets_stand (u ∷ us) all set h =
         let go : (b : Bool) → cond b (Some u.1) (type_in (with_primes us) set) ≡ Some (ty.Pow (ty.Given set)) → Stands env (set, ty.Pow (ty.Given set)) = elim [
@@ -84,10 +84,10 @@ module _ (env : Entries) where
         go (bytes_eq set (with_prime u).0) h
 
     module _ (value : List ℕ × Ty → Formula) where
-      abbrev pairs_of : Entries → List (List ℕ × Formula)
+      abbrev pairs_of : Environment → List (List ℕ × Formula)
       pairs_of us = map (λ x. ((with_prime x).0, value x)) us
 
-      pub others_stand : (us : Entries) (x : List ℕ × Ty) → Stands (with_primes us) x → lookup (bytes_eq x.0) (pairs_of us) ≡ None → Stands env x
+      pub others_stand : (us : Environment) (x : List ℕ × Ty) → Stands (with_primes us) x → lookup (bytes_eq x.0) (pairs_of us) ≡ None → Stands env x
       others_stand [] x h e = h
       others_stand (u ∷ us) x h e =
           let go : (b : Bool) → cond b (Some u.1) (type_in (with_primes us) x.0) ≡ Some x.1 → cond b (Some (value u)) (lookup (bytes_eq x.0) (pairs_of us)) ≡ None → Stands env x = elim [
@@ -96,8 +96,8 @@ module _ (env : Entries) where
           ] in
           go (bytes_eq x.0 (with_prime u).0) h e
 
-      module _ (typed : (x : List ℕ × Ty) → Stands env x → IsTypedIn env (value x)) (type : (x : List ℕ × Ty) → Stands env x → type_of (value x) ≡ x.1) (us : Entries) (all : Stand us) where
-        new_values : (vs : Entries) → ((x : List ℕ × Ty) → IsIn x vs → IsIn x us) → AllByRecursion (IsNewValue (with_primes us) env) (pairs_of vs)
+      module _ (typed : (x : List ℕ × Ty) → Stands env x → IsTypedIn env (value x)) (type : (x : List ℕ × Ty) → Stands env x → type_of (value x) ≡ x.1) (us : Environment) (all : Stand us) where
+        new_values : (vs : Environment) → ((x : List ℕ × Ty) → IsIn x vs → IsIn x us) → AllByRecursion (IsNewValue (with_primes us) env) (pairs_of vs)
         new_values [] within = tt
         new_values (x ∷ vs) within =
             let h = of_each (Stands env) us all x (within x (inl refl)) in (

@@ -27,16 +27,16 @@ use Rattle.model_core.specs.declared.checked.Labelled.{Labelled}
 use Rattle.model_core.specs.Each.{at_each, for_each}
 use Rattle.sequent_core.specs.declared.sequent.Obligation.{Obligation}
 use Rattle.sequent_core.specs.Sequents.{IsSequent}
-use Rattle.po_rules.specs.Parts.{EventParts, slash, formulas, initialises, is_extended, with_prime, as_term, machine_hyps}
-use Rattle.po_rules.specs.Rows.{needed, from_base, from_choices, from_witnesses, of_kind, chain, for_some_of, equal, labelled_rows, variant_rows, witness_row, witness_rows, conditions, strengthening_rows, merging_rows, action_condition, feasible, action_row, action_rows, equality_row, equality_rows, is_changed, invariant_row, invariant_rows, was_convergent, decrease, naturals, decrease_rows}
+use Rattle.po_rules.specs.Parts.{EventParts, path_with, formulas, initialises, is_extended, with_prime, as_term, machine_hyps}
+use Rattle.po_rules.specs.Rows.{needed, from_base, from_choices, from_witnesses, of_kind, chain, for_some_of, equal_terms, labelled_rows, variant_rows, witness_row, witness_rows, conditions, strengthening_rows, merging_rows, action_condition, feasible, action_row, action_rows, equality_row, equality_rows, is_changed, invariant_row, invariant_rows, was_convergent, decrease, naturals, decrease_rows}
 use Rattle.po_rules.specs.Sequents.{IsNewValueIn, AreGoodParts, AreSequents}
-use Rattle.sequent_laws.specs.Sound.{Entries, ArePredicatesIn, IsVariantIn, IsActionAt}
+use Rattle.sequent_laws.specs.Sound.{Environment, AreTypedPredicates, IsTypedVariantIn, IsActionAt}
 use Rattle.sequent_laws.proofs.Formulas
 
 abbrev IsOne : Obligation → Type 0
 IsOne o = IsSequent o.sequent
 
-pub needed_is : (name : List ℕ) (env : Entries) (hyps : List Formula) (goal : Formula) → IsGoodEnv env → AllByRecursion (IsPredicateIn env) hyps → IsPredicateIn env goal
+pub needed_is : (name : List ℕ) (env : Environment) (hyps : List Formula) (goal : Formula) → IsGoodEnv env → AllByRecursion (IsPredicateIn env) hyps → IsPredicateIn env goal
     → AreSequents (needed name env hyps goal)
 needed_is name env hyps goal good all is =
     let go : (b : Bool) → AreSequents (if b then [] else (record { name = name; sequent = record { env = env; hyps = hyps; goal = goal } } ∷ [])) = elim [
@@ -95,38 +95,38 @@ all_given P f (x ∷ xs) h = both P (f x) (for_each f xs) h.0 (all_given P f xs 
 split : {X : Type 0} (P : X → Type 0) (n : ℕ) (xs : List X) → AllByRecursion P xs → AllByRecursion P (take n xs) × AllByRecursion P (drop n xs)
 split P n xs h = let k = subst (AllByRecursion P) (sym (take-append-drop n xs)) h in (front P (take n xs) (drop n xs) k, back P (take n xs) (drop n xs) k)
 
-pub formulas_are : (env : Entries) (ls : List Labelled) → ArePredicatesIn env ls → AllByRecursion (IsPredicateIn env) (formulas ls)
+pub formulas_are : (env : Environment) (ls : List Labelled) → AreTypedPredicates env ls → AllByRecursion (IsPredicateIn env) (formulas ls)
 formulas_are env = all_of (IsPredicateIn env) (λ l. l.formula)
 
-pub hyps_are : (env : Entries) (m : CheckedMachine) → ArePredicatesIn env m.axioms → ArePredicatesIn env m.invariants → AllByRecursion (IsPredicateIn env) (machine_hyps m)
+pub hyps_are : (env : Environment) (m : CheckedMachine) → AreTypedPredicates env m.axioms → AreTypedPredicates env m.invariants → AllByRecursion (IsPredicateIn env) (machine_hyps m)
 hyps_are env m a i = both (IsPredicateIn env) (formulas m.axioms) (formulas m.invariants) (formulas_are env m.axioms a) (formulas_are env m.invariants i)
 
 -- `l/WD` and `l/THM`
-module _ (path : List ℕ) (env : Entries) (hyps : List Formula) (good : IsGoodEnv env) (all : AllByRecursion (IsPredicateIn env) hyps) where
-  labelled_is : (before : List Labelled) (l : Labelled) → ArePredicatesIn env before → IsPredicateIn env l.formula → AreSequents (labelled_rows path env hyps before l)
+module _ (path : List ℕ) (env : Environment) (hyps : List Formula) (good : IsGoodEnv env) (all : AllByRecursion (IsPredicateIn env) hyps) where
+  labelled_is : (before : List Labelled) (l : Labelled) → AreTypedPredicates env before → IsPredicateIn env l.formula → AreSequents (labelled_rows path env hyps before l)
   labelled_is before l b is =
       let hs = both (IsPredicateIn env) hyps (formulas before) all (formulas_are env before b) in
-      join (needed (slash path (of_kind l.label (codes "WD"))) env (hyps ++ formulas before) (wd_of l.formula)) _
+      join (needed (path_with path (of_kind l.label (codes "WD"))) env (hyps ++ formulas before) (wd_of l.formula)) _
       (needed_is _ env (hyps ++ formulas before) (wd_of l.formula) good hs (Formulas.condition_typed env l.formula is.0))
       (if_so l.theorem _ (needed_is _ env (hyps ++ formulas before) l.formula good hs is))
 
-  pub labelled_are : (from : ℕ) (ls : List Labelled) → ArePredicatesIn env ls → AreSequents (at_each (labelled_rows path env hyps) (take from ls) (drop from ls))
+  pub labelled_are : (from : ℕ) (ls : List Labelled) → AreTypedPredicates env ls → AreSequents (at_each (labelled_rows path env hyps) (take from ls) (drop from ls))
   labelled_are from ls h =
       let parts = split (λ l. IsPredicateIn env l.formula) from ls h in
       each_beside (λ l. IsPredicateIn env l.formula) (labelled_rows path env hyps) labelled_is (take from ls) (drop from ls) parts.0 parts.1
 
 -- a variant that is no integer is a set of values
-pub set_of_values : (env : Entries) (v : Formula) → IsVariantIn env v → is_integer (type_of v) ≡ false → if_set (type_of v) is_value_type ≡ true
+pub set_of_values : (env : Environment) (v : Formula) → IsTypedVariantIn env v → is_integer (type_of v) ≡ false → if_set (type_of v) is_value_type ≡ true
 set_of_values env v h e = set_values v h.0.well (subst (λ b. (b || is_some (members (type_of v))) ≡ true) e h.1)
 
-pub variant_are : (m : CheckedMachine) → IsGoodEnv m.env → AllByRecursion (IsPredicateIn m.env) (machine_hyps m) → (v : Formula) → IsVariantIn m.env v → AreSequents (variant_rows m v)
+pub variant_are : (m : CheckedMachine) → IsGoodEnv m.env → AllByRecursion (IsPredicateIn m.env) (machine_hyps m) → (v : Formula) → IsTypedVariantIn m.env v → AreSequents (variant_rows m v)
 variant_are m good all v h =
-    let rows = needed (slash m.name (codes "FIN")) m.env (machine_hyps m) (finite v) in
+    let rows = needed (path_with m.name (codes "FIN")) m.env (machine_hyps m) (finite v) in
     let go : (b : Bool) → is_integer (type_of v) ≡ b → AreSequents (if b then [] else rows) = elim [
       | true ↦ λ e. tt
       | false ↦ λ e. needed_is _ m.env (machine_hyps m) (finite v) good all (Formulas.finite_typed m.env v (set_of_values m.env v h e) h.0)
     ] in
-    join (needed (slash m.name (codes "VWD")) m.env (machine_hyps m) (wd_of v)) _
+    join (needed (path_with m.name (codes "VWD")) m.env (machine_hyps m) (wd_of v)) _
     (needed_is _ m.env (machine_hyps m) (wd_of v) good all (Formulas.condition_typed m.env v h.0))
     (go (is_integer (type_of v)) refl)
 
@@ -141,14 +141,14 @@ module _ (p : EventParts) (good : AreGoodParts p) where
   choices_hyps = both Is p.base p.choices good.base good.choices
 
   pub from_base_is : (name : List ℕ) (goal : Formula) → Is goal → AreSequents (from_base p name goal)
-  from_base_is name goal is = needed_is (slash p.path name) p.env p.base goal good.env good.base is
+  from_base_is name goal is = needed_is (path_with p.path name) p.env p.base goal good.env good.base is
 
   pub from_choices_is : (name : List ℕ) (goal : Formula) → Is goal → AreSequents (from_choices p name goal)
-  from_choices_is name goal is = needed_is (slash p.path name) p.env (p.base ++ p.choices) goal good.env choices_hyps is
+  from_choices_is name goal is = needed_is (path_with p.path name) p.env (p.base ++ p.choices) goal good.env choices_hyps is
 
   pub from_witnesses_is : (name : List ℕ) (goal : Formula) → Is goal → AreSequents (from_witnesses p name goal)
   from_witnesses_is name goal is =
-      needed_is (slash p.path name) p.env (p.base ++ p.choices ++ map (λ w. w.1) p.witnesses) goal good.env (both Is (p.base ++ p.choices) (map (λ w. w.1) p.witnesses) choices_hyps witnessed) is
+      needed_is (path_with p.path name) p.env (p.base ++ p.choices ++ map (λ w. w.1) p.witnesses) goal good.env (both Is (p.base ++ p.choices) (map (λ w. w.1) p.witnesses) choices_hyps witnessed) is
 
   -- INV
   invariant_is : (e : CheckedEvent) (i : Labelled) → Is i.formula → AreSequents (invariant_row e p i)
@@ -156,7 +156,7 @@ module _ (p : EventParts) (good : AreGoodParts p) where
       if_so (not i.theorem && (initialises e || is_changed p i.formula)) _
       (from_witnesses_is (of_kind i.label (codes "INV")) (substituted p.after i.formula) (Formulas.after_predicate p.env p.after good.after i.formula is))
 
-  pub invariants_are : (m : CheckedMachine) (e : CheckedEvent) → ArePredicatesIn p.env m.invariants → AreSequents (invariant_rows m e p)
+  pub invariants_are : (m : CheckedMachine) (e : CheckedEvent) → AreTypedPredicates p.env m.invariants → AreSequents (invariant_rows m e p)
   invariants_are m e h = each_by (λ i. Is i.formula) (invariant_row e p) (invariant_is e) (drop m.own_from m.invariants) (split (λ i. Is i.formula) m.own_from m.invariants h).1
 
   -- WWD and WFIS
@@ -174,10 +174,10 @@ module _ (p : EventParts) (good : AreGoodParts p) where
   witnesses_are = each_by _ (witness_row p) witness_is p.witnesses good.witnesses
 
   -- GRD
-  conditions_are : (r : CheckedEvent) → ArePredicatesIn p.env r.guards → ArePredicatesIn p.env (conditions r)
+  conditions_are : (r : CheckedEvent) → AreTypedPredicates p.env r.guards → AreTypedPredicates p.env (conditions r)
   conditions_are r = all_filtered (λ g. Is g.formula) (λ g. not g.theorem) r.guards
 
-  pub strengthening_are : (e : CheckedEvent) (refined : List CheckedEvent) → AllByRecursion (λ r. ArePredicatesIn p.env r.guards) refined → AreSequents (strengthening_rows e refined p)
+  pub strengthening_are : (e : CheckedEvent) (refined : List CheckedEvent) → AllByRecursion (λ r. AreTypedPredicates p.env r.guards) refined → AreSequents (strengthening_rows e refined p)
   strengthening_are e [] h = tt
   strengthening_are e (r ∷ []) h =
       if_not (is_extended e) _
@@ -186,14 +186,14 @@ module _ (p : EventParts) (good : AreGoodParts p) where
   strengthening_are e (r ∷ s ∷ refined) h = tt
 
   -- MRG
-  all_conditions : (rs : List CheckedEvent) → AllByRecursion (λ r. ArePredicatesIn p.env r.guards) rs → AllByRecursion Is (map (λ x. chain conjunction (formulas (conditions x))) rs)
+  all_conditions : (rs : List CheckedEvent) → AllByRecursion (λ r. AreTypedPredicates p.env r.guards) rs → AllByRecursion Is (map (λ x. chain conjunction (formulas (conditions x))) rs)
   all_conditions [] h = tt
   all_conditions (r ∷ rs) h = (
     Formulas.conjunctions_typed p.env (formulas (conditions r)) (formulas_are p.env (conditions r) (conditions_are r h.0)),
     all_conditions rs h.1,
   )
 
-  pub merging_are : (refined : List CheckedEvent) → AllByRecursion (λ r. ArePredicatesIn p.env r.guards) refined → AreSequents (merging_rows refined p)
+  pub merging_are : (refined : List CheckedEvent) → AllByRecursion (λ r. AreTypedPredicates p.env r.guards) refined → AreSequents (merging_rows refined p)
   merging_are [] h = tt
   merging_are (r ∷ []) h = tt
   merging_are (r ∷ s ∷ refined) h = from_base_is (codes "MRG") _ (Formulas.disjunctions_typed p.env (map (λ x. chain conjunction (formulas (conditions x))) (r ∷ s ∷ refined)) (all_conditions (r ∷ s ∷ refined) h))
@@ -245,17 +245,17 @@ module _ (p : EventParts) (good : AreGoodParts p) where
   pub new_value_type : (x : List ℕ × Ty) → Stands p.env x → type_of (new_value x) ≡ x.1
   new_value_type x h = Formulas.after_type p.env p.after good.after (as_term x) (Formulas.term_typed p.env good.env x h) ∙ type-Free x.0 x.1
 
-  kept_is : (v : List ℕ) (t : Ty) → type_in p.env v ≡ Some t → Is (equal (new_value (v, t)) (as_term (v, t)))
+  kept_is : (v : List ℕ) (t : Ty) → type_in p.env v ≡ Some t → Is (equal_terms (new_value (v, t)) (as_term (v, t)))
   kept_is v t e =
       Formulas.equal_typed p.env (new_value (v, t)) (as_term (v, t)) (new_value_typed (v, t) e) (Formulas.term_typed p.env good.env (v, t) e)
       (ap is_value_type (type-Free v t) ∙ Formulas.value_at p.env good.env v t e) (new_value_type (v, t) e ∙ sym (type-Free v t))
 
   equality_is : (abstraction : Option CheckedMachine) (refined : List CheckedEvent) (v : List ℕ) → AreSequents (equality_row abstraction refined p v)
   equality_is abstraction refined v =
-      let row : Ty → List Obligation = λ t. from_witnesses p (of_kind v (codes "EQL")) (equal (new_value (v, t)) (as_term (v, t))) in
+      let row : Ty → List Obligation = λ t. from_witnesses p (of_kind v (codes "EQL")) (equal_terms (new_value (v, t)) (as_term (v, t))) in
       let go : (o : Option Ty) → type_in p.env v ≡ o → AreSequents (for_each row (option_to_list o)) = elim [
         | None ↦ λ e. tt
-        | Some t ↦ λ e. each_is row (t ∷ []) (from_witnesses_is (of_kind v (codes "EQL")) (equal (new_value (v, t)) (as_term (v, t))) (kept_is v t e), tt)
+        | Some t ↦ λ e. each_is row (t ∷ []) (from_witnesses_is (of_kind v (codes "EQL")) (equal_terms (new_value (v, t)) (as_term (v, t))) (kept_is v t e), tt)
       ] in
       if_so _ _ (go (type_in p.env v) refl)
 
@@ -263,7 +263,7 @@ module _ (p : EventParts) (good : AreGoodParts p) where
   equalities_are m abstraction refined = each_of_any (equality_row abstraction refined p) (equality_is abstraction refined) m.variables
 
   -- NAT and VAR
-  decrease_is : (v : Formula) → IsVariantIn p.env v → (b c : Bool) → is_integer (type_of v) ≡ b → Is (decrease b c (substituted p.after v) v)
+  decrease_is : (v : Formula) → IsTypedVariantIn p.env v → (b c : Bool) → is_integer (type_of v) ≡ b → Is (decrease b c (substituted p.after v) v)
   decrease_is v h b c e =
       let new = Formulas.after_typed p.env p.after good.after v h.0 in
       let same = Formulas.after_type p.env p.after good.after v h.0 in
@@ -281,7 +281,7 @@ module _ (p : EventParts) (good : AreGoodParts p) where
       ] in
       go b c e
 
-  pub decrease_are : (e : CheckedEvent) (refined : List CheckedEvent) (v : Formula) → IsVariantIn p.env v → AreSequents (decrease_rows e refined p v)
+  pub decrease_are : (e : CheckedEvent) (refined : List CheckedEvent) (v : Formula) → IsTypedVariantIn p.env v → AreSequents (decrease_rows e refined p v)
   decrease_are e refined v h =
       let number : (b : Bool) → is_integer (type_of v) ≡ b → AreSequents (if b then from_base p (codes "NAT") (member v naturals) else []) = elim [
         | true ↦ λ k. from_base_is (codes "NAT") (member v naturals) (Formulas.natural_typed p.env v h.0 (integer_exact (type_of v) k))

@@ -19,10 +19,10 @@ use Rattle.model_core.specs.declared.checked.CheckedEvent.{CheckedEvent}
 use Rattle.model_core.specs.declared.checked.CheckedMachine.{CheckedMachine}
 use Rattle.model_core.specs.Each.{for_each, is_among}
 use Rattle.po_rules.specs.Parts.{EventParts, formulas, is_extended, actions_of, actions_of_first, open_targets, with_prime, as_term, before_after, machine_hyps, refined_by, parts_of}
-use Rattle.po_rules.specs.Rows.{of_kind, chain, equal, simulated_value, simulated, simulation_row, simulation_rows, own_invariant_rows, variant_rows, decrease_rows}
+use Rattle.po_rules.specs.Rows.{of_kind, chain, equal_terms, simulated_value, simulated, simulation_row, simulation_rows, own_invariant_rows, variant_rows, decrease_rows}
 use Rattle.po_rules.specs.Sequents.{IsNewValueIn, AreGoodParts, AreSequents}
 use Rattle.po_rules.specs.Tables.{Row, guards, witnesses, strengthening, merging, actions, simulation, equality, invariants, variant, all_rows, row_of_event, event_rows, machine_rows, obligations_of}
-use Rattle.sequent_laws.specs.Sound.{IsVariantIn, IsAbstractActionAt, IsReadIn, HasGoodParts, IsGoodMachine, IsGoodComponent}
+use Rattle.sequent_laws.specs.Sound.{IsTypedVariantIn, IsAbstractActionAt, IsReadIn, HasGoodParts, IsGoodMachine, IsGoodComponent}
 use Rattle.sequent_laws.proofs.Formulas
 use Rattle.sequent_laws.proofs.Primes.{unprimed}
 use Rattle.sequent_laws.proofs.Rows
@@ -38,9 +38,9 @@ module _ (p : EventParts) (good : AreGoodParts p) where
   value_is : (m : CheckedMachine) (x : List ℕ × Formula) → IsNewValueIn p.env x → AllByRecursion Is (simulated_value m p x)
   value_is m x h =
       let v : List ℕ × Ty = (x.0, type_of x.1) in
-      let same : Is (equal (new_value v) x.1) =
+      let same : Is (equal_terms (new_value v) x.1) =
       Formulas.equal_typed p.env (new_value v) x.1 (Rows.new_value_typed p good v h.1) h.0 (Formulas.value_at p.env good.env x.0 (type_of x.1) h.1) (Rows.new_value_type p good v h.1) in
-      let go : (b : Bool) → AllByRecursion Is (if b then [] else (equal (new_value v) x.1 ∷ [])) = elim [
+      let go : (b : Bool) → AllByRecursion Is (if b then [] else (equal_terms (new_value v) x.1 ∷ [])) = elim [
         | true ↦ tt
         | false ↦ (same, tt)
       ] in
@@ -91,7 +91,7 @@ row_is m abstraction e refined p simulation good reads = simulation_are p good m
 row_is m abstraction e refined p equality good reads = Rows.equalities_are p good m abstraction refined
 row_is m abstraction e refined p invariants good reads = Rows.invariants_are p good m e reads.invariants
 row_is m abstraction e refined p variant good reads =
-    Rows.each_by (IsVariantIn p.env) (decrease_rows e refined p) (Rows.decrease_are p good e refined) (option_to_list m.variant) (listed (IsVariantIn p.env) m.variant reads.variant)
+    Rows.each_by (IsTypedVariantIn p.env) (decrease_rows e refined p) (Rows.decrease_are p good e refined) (option_to_list m.variant) (listed (IsTypedVariantIn p.env) m.variant reads.variant)
 
 module _ (m : CheckedMachine) (abstraction : Option CheckedMachine) where
   event_is : (e : CheckedEvent) → HasGoodParts m (refined_by abstraction e) e → AreSequents (event_rows all_rows m abstraction e)
@@ -105,7 +105,7 @@ module _ (m : CheckedMachine) (abstraction : Option CheckedMachine) where
       Rows.join (own_invariant_rows m ++ for_each (variant_rows m) (option_to_list m.variant)) _
       (Rows.join (own_invariant_rows m) _
       (Rows.labelled_are m.name m.env (formulas m.axioms) h.env (Rows.formulas_are m.env m.axioms h.axioms) m.own_from m.invariants h.invariants)
-      (Rows.each_by (IsVariantIn m.env) (variant_rows m) (Rows.variant_are m h.env hyps) (option_to_list m.variant) (listed (IsVariantIn m.env) m.variant h.variant)))
+      (Rows.each_by (IsTypedVariantIn m.env) (variant_rows m) (Rows.variant_are m h.env hyps) (option_to_list m.variant) (listed (IsTypedVariantIn m.env) m.variant h.variant)))
       (Rows.each_by (λ e. HasGoodParts m (refined_by abstraction e) e) (event_rows all_rows m abstraction) event_is m.events h.events)
 
 -- the table of a component

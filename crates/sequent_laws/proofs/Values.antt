@@ -17,7 +17,7 @@ use Rattle.formula_core.specs.declared.ty.Ty.TheOpen.{Bool as BoolF}
 use Rattle.formula_core.specs.declared.ty.Ty.TheViews.{rolls-Bool, outs-Truth}
 use Rattle.formula_core.specs.declared.formula.Formula.{Formula}
 use Rattle.formula_core.specs.Rows.{row_of}
-use Rattle.formula_core.specs.Schemes.{Scheme, alpha, beta, gamma, delta, integer, boolean, truth, power, pair, nullary_scheme, unary_scheme, binary_scheme, result_scheme, binder_scheme, Letters, AreValues, type_at, IsInstance}
+use Rattle.formula_core.specs.Schemes.{Scheme, alpha, beta, gamma, delta, integer, boolean, truth, power, pair, nullary_scheme, unary_scheme, binary_scheme, result_scheme, binder_scheme, Letters, AreValues, type_of_scheme, IsSchemeInstance}
 use Rattle.formula_core.specs.Types.{is_value_step, is_value_type, members_at, members, if_set}
 use Rattle.formula_core.specs.Wellness.{type_of, is_well}
 use Rattle.formula_core.proofs.Equations.{type_fold}
@@ -68,7 +68,7 @@ binder_fine _ = inr refl
 value-Bool : is_value_type ty.Bool ≡ true
 value-Bool = type_fold is_value_step BoolF _ rolls-Bool
 
-plain_value : (l : Letters) → AreValues l → (s : Scheme) → is_plain s ≡ true → is_value_type (type_at l s) ≡ true
+plain_value : (l : Letters) → AreValues l → (s : Scheme) → is_plain s ≡ true → is_value_type (type_of_scheme l s) ≡ true
 plain_value l v alpha h = v.alpha
 plain_value l v beta h = v.beta
 plain_value l v gamma h = v.gamma
@@ -76,16 +76,16 @@ plain_value l v delta h = v.delta
 plain_value l v integer h = value-Int
 plain_value l v boolean h = value-Bool
 plain_value l v truth h = let no : ⊥ = cc in absurd no
-plain_value l v (power s) h = value-Pow (type_at l s) ∙ plain_value l v s h
+plain_value l v (power s) h = value-Pow (type_of_scheme l s) ∙ plain_value l v s h
 plain_value l v (pair s t) h =
-    value-Pair (type_at l s) (type_at l t) ∙ both_true _ _ (plain_value l v s (first_true (is_plain s) (is_plain t) h)) (plain_value l v t (second_true (is_plain s) (is_plain t) h))
+    value-Pair (type_of_scheme l s) (type_of_scheme l t) ∙ both_true _ _ (plain_value l v s (first_true (is_plain s) (is_plain t) h)) (plain_value l v t (second_true (is_plain s) (is_plain t) h))
 
 abbrev IsSort : Ty → Type 0
 IsSort t = (t ≡ ty.Truth) ⊎ (is_value_type t ≡ true)
 
-instance_is : {operands : List Scheme} (whole : Scheme) {types : List Ty} {t : Ty} → IsFine whole → IsInstance operands whole types t → IsSort t
+instance_is : {operands : List Scheme} (whole : Scheme) {types : List Ty} {t : Ty} → IsFine whole → IsSchemeInstance operands whole types t → IsSort t
 instance_is whole fine is = elim fine [
-  | inl e ↦ inl (is.whole_is ∙ ap (type_at is.letters) e)
+  | inl e ↦ inl (is.whole_is ∙ ap (type_of_scheme is.letters) e)
   | inr p ↦ inr (ap is_value_type is.whole_is ∙ plain_value is.letters is.values whole p)
 ]
 

@@ -6,7 +6,7 @@ use Rattle.model_core.specs.declared.checked.CheckedMachine.{CheckedMachine}
 use Rattle.po_rules.specs.Parts.{EventParts}
 use Rattle.po_rules.specs.Sequents.{AreGoodParts, AreSequents}
 use Rattle.po_rules.specs.Tables.{Row, row_of_event, obligations_of}
-use Rattle.sequent_laws.specs.Sound.{IsReadIn, IsTypedComponent, IsGoodComponent, IsGoodMachine, IsTypedMachine}
+use Rattle.sequent_laws.specs.Sound.{IsReadIn, IsWellTypedComponent, IsGoodComponent, IsGoodMachine, IsWellTypedMachine}
 
 -- each row of an event with good parts
 abbrev pub EventRowsAreSequents : Type 0
@@ -25,10 +25,10 @@ GoodTablesAreSequents =
 -- their places
 abbrev pub TypedMachinesAreGood : Type 0
 TypedMachinesAreGood =
-    (m : CheckedMachine) (abstraction : Option CheckedMachine) → IsTypedMachine m abstraction → IsGoodMachine m abstraction
+    (m : CheckedMachine) (abstraction : Option CheckedMachine) → IsWellTypedMachine m abstraction → IsGoodMachine m abstraction
 
 -- the table of a component, where its formulas are typed in the environments of their places
 abbrev pub TablesAreSequents : Type 0
 TablesAreSequents =
     (checked : Checked) (abstraction : Option CheckedMachine) →
-    IsTypedComponent checked abstraction → AreSequents (obligations_of checked abstraction)
+    IsWellTypedComponent checked abstraction → AreSequents (obligations_of checked abstraction)

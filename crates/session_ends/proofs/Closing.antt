@@ -20,7 +20,7 @@ use Rattle.store_log.specs.declared.StoreFault.{StoreFault}
 use Rattle.store_log.specs.StoreLog.{chair_of, IsStoreLog}
 use Rattle.session_run.specs.Dialogue.{Next, tells}
 use Rattle.session_run.specs.OneHistory.{with_begun, IsNextOf, IsUsersLine}
-use Rattle.session_run.specs.Talking.{HasTalked, IsTalking, StopsAt}
+use Rattle.session_run.specs.Talking.{HasTalked, IsTalking, StopsAtLine}
 use Rattle.session_run.proofs.Runs.{CoreLaws}
 use Rattle.session_streams.specs.Reads.{HasRead, IsNextLine}
 use Rattle.session_streams.specs.Streams.{SourceState, Writing, writing, Writes}
@@ -119,7 +119,7 @@ module _ (laws : CoreLaws) (fair : Sequent → Attempt → Type 0) (base : Store
     own_mark = λ event is. no_own_mark laws fair base log xs mark s store t.xs seen t.log.entries has event is;
   }
 
-  abbrev halted : (line : Line) → IsNextLine left line → StopsAt fair base lines text line seen → Came
+  abbrev halted : (line : Line) → IsNextLine left line → StopsAtLine fair base lines text line seen → Came
   halted line next t =
       let q = stopped laws fair base log xs mark s store seen lines text line t has in
       record {

@@ -27,8 +27,8 @@ use Rattle.session_talk.specs.declared.Ending.{Ending}
 use Rattle.session_talk.specs.declared.Ending.TheVariants.{Read, Quit, CutEdit, WriteFault, OutOfMemory as Untold, Store}
 use Rattle.session_ends.specs.Ends.{HasAnswered, EndsAtStoreFault, EndsWithoutMemory}
 use Rattle.session_ends.specs.Sessions.{EndsBy}
-use Rattle.session_ends.specs.Statuses.{fault_status, fault_line}
-use Rattle.session_ends.specs.Private.{end_status, end_line, status_at, line_at}
+use Rattle.session_ends.specs.Statuses.{fault_status, store_fault_line}
+use Rattle.session_ends.specs.Private.{end_status, end_line, status_at, ending_line}
 use Rattle.session_ends.specs.Written.{WritesThen, WritesOrFails, WritesAt, WritesUpTo}
 use Rattle.session_ends.proofs.CutEdits.{cut_at_end}
 use Rattle.session_ends.proofs.Standing.{stopped}
@@ -86,12 +86,12 @@ module _ (laws : CoreLaws) (fair : Sequent → Attempt → Type 0) (workers : �
       let q = stopped laws fair base log xs (mark_in kept) s store seen lines text answers t has in
       then_next fair sink text line q.next q.waits.0 q.waits.1 (line_then line writes w)
 
-  by_fault : (k : KeptFault) → kept ≡ Some k → (ending : Ending) (over : Overs ending) → ending ≢ Untold → Failed ending over → Wrote (fault_line k.fault) →
-      EndsAtStoreFault fair workers source sink xs k.act.1 (fault_line k.fault) s
+  by_fault : (k : KeptFault) → kept ≡ Some k → (ending : Ending) (over : Overs ending) → ending ≢ Untold → Failed ending over → Wrote (store_fault_line k.fault) →
+      EndsAtStoreFault fair workers source sink xs k.act.1 (store_fault_line k.fault) s
   by_fault k is ending over other failed w = record {
     reached = (comes ending over).reach;
     failed = failed k.act.0 k.act.1 (ap mark_in is);
-    written = written_at (fault_line k.fault) ending over other w;
+    written = written_at (store_fault_line k.fault) ending over other w;
   }
 
   -- WANT OF MEMORY
@@ -123,7 +123,7 @@ module _ (laws : CoreLaws) (fair : Sequent → Attempt → Type 0) (workers : �
   abbrev lacking : WithoutMemory → By 9
   lacking e = inr (inr (inr (inr (inr (inr (refl, e))))))
 
-  abbrev faulted : (k : KeptFault) → kept ≡ Some k → EndsAtStoreFault fair workers source sink xs k.act.1 (fault_line k.fault) s → By (fault_status k.fault)
+  abbrev faulted : (k : KeptFault) → kept ≡ Some k → EndsAtStoreFault fair workers source sink xs k.act.1 (store_fault_line k.fault) s → By (fault_status k.fault)
   faulted k is e = inr (inr (inr (inr (inr (inl (k, is, refl, e))))))
 
   -- no fault of the store
@@ -184,7 +184,7 @@ module _ (laws : CoreLaws) (fair : Sequent → Attempt → Type 0) (workers : �
       absurd (not_stopped laws fair base log xs (mark_in kept) s store seen has source (writing before after_ f g) taken ended lines left text read fault over (ap mark_in none))
 
   -- a fault of the store, before all but want of memory
-  pub by_some : (k : KeptFault) → kept ≡ Some k → (ending : Ending) (over : Overs ending) → Failed ending over → Wrote (line_at ending (Some k.fault)) → By (status_at ending (Some k.fault))
+  pub by_some : (k : KeptFault) → kept ≡ Some k → (ending : Ending) (over : Overs ending) → Failed ending over → Wrote (ending_line ending (Some k.fault)) → By (status_at ending (Some k.fault))
   by_some k is (Read Ended) over failed w = faulted k is (by_fault k is (Read Ended) over (λ e. cc) failed w)
   by_some k is (Read ReadFault) over failed w = faulted k is (by_fault k is (Read ReadFault) over (λ e. cc) failed w)
   by_some k is (Read FullInput) over failed w = faulted k is (by_fault k is (Read FullInput) over (λ e. cc) failed w)

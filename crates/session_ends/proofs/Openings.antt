@@ -5,7 +5,7 @@ use Rattle.outside.specs.Cause.{Rose}
 use Rattle.outside.specs.Disk.{Sides, LeavesOnly}
 use Rattle.project_store.specs.declared.fault.OpenFault.{OpenFault}
 use Rattle.project_store.specs.declared.fault.OpenFault.TheVariants.{DiskFault}
-use Rattle.project_store.specs.Opening.{Meaning, StandsFor, durable, IsCause, IsAnswerFor, StandsAsSome}
+use Rattle.project_store.specs.Opening.{StoreMeaning, StandsFor, durable, IsCause, IsAnswerFor, StandsAsSome}
 use Rattle.project_store.specs.Records.{Recovers}
 use Rattle.project_store.specs.Store.{StoreState}
 use Rattle.session_ends.specs.Sessions.{Opens, Refuses}
@@ -18,7 +18,7 @@ module _ {D : Type 0} (told : Type 0) (bytes_of : D → Sides) (images : D → S
   Opened r = told → MatchResult r (λ store. Recovers (bytes_of old) store.base) (λ refused. IsCause (bytes_of old) refused.1)
 
   abbrev Exactly : Result_ → Type 0
-  Exactly r = told → (meaning : Meaning) → StandsFor (bytes_of old) meaning →
+  Exactly r = told → (meaning : StoreMeaning) → StandsFor (bytes_of old) meaning →
       MatchResult r (λ store. meaning ≡ durable store.base) (λ refused. IsAnswerFor meaning refused.1)
 
   pub opens : (r : Result_) → Opened r → Exactly r → IfOk r (λ store. store.count ≡ faults old) → IfOk r (λ store. Opens told bytes_of images faults old store)

@@ -14,9 +14,9 @@ use Rattle.store_log.specs.declared.Logged.{Logged}
 use Rattle.store_log.specs.declared.StoreBase.{StoreBase}
 use Rattle.store_log.specs.History.{own}
 use Rattle.store_log.specs.StoreLog.{chair_of, done, marks, IsStoreLog}
-use Rattle.store_log.specs.Storing.{mark_of}
+use Rattle.store_log.specs.Storing.{failure_mark}
 use Rattle.session_run.specs.Dialogue.{Next, Dialogue, IsPartway}
-use Rattle.session_run.specs.Talking.{IsNext, HasTalked, IsTalking, StopsAt}
+use Rattle.session_run.specs.Talking.{IsNext, HasTalked, IsTalking, StopsAtLine}
 use Rattle.session_run.proofs.Runs.{CoreLaws}
 use Rattle.session_run.proofs.Serving.{plain, plain_both, plain_done, plain_marks}
 use Rattle.session_run.proofs.Talking.{hears, talk_stands, talking_stands}
@@ -76,17 +76,17 @@ module _ (laws : CoreLaws) (fair : Sequent → Attempt → Type 0) (base : Store
 
   -- a chair whose log had no mark, and which has made no act since, has none of its own
   pub no_own_mark : (us : List (ℕ × Exchange)) (seen : List Logged) → seen ≡ map done us → HasSeen chair_of 0 seen log → (event : Event) → mark ≡ Some (0, event) → ⊥
-  no_own_mark us seen is has event own_mark = by (last_part seen has.0.0 (map done xs) (mark_of 0 event) (sym has.0.1 ∙ ends)) where
-    ends : log ≡ map done xs ++ mark_of 0 event ∷ []
+  no_own_mark us seen is has event own_mark = by (last_part seen has.0.0 (map done xs) (failure_mark 0 event) (sym has.0.1 ∙ ends)) where
+    ends : log ≡ map done xs ++ failure_mark 0 event ∷ []
     ends = store.entries ∙ ap (λ m. map done xs ++ marks m) own_mark
 
-    by : (has.0.0 ≡ []) ⊎ ((b : List Logged) × (has.0.0 ≡ b ++ mark_of 0 event ∷ [])) → ⊥
+    by : (has.0.0 ≡ []) ⊎ ((b : List Logged) × (has.0.0 ≡ b ++ failure_mark 0 event ∷ [])) → ⊥
     by (inl none) =
-        let same : map done us ++ marks None ≡ map done xs ++ mark_of 0 event ∷ [] =
+        let same : map done us ++ marks None ≡ map done xs ++ failure_mark 0 event ∷ [] =
         append-nil (map done us) ∙ (sym is ∙ (sym (append-nil seen) ∙ (ap (λ l. seen ++ l) (sym none) ∙ (sym has.0.1 ∙ ends)))) in
-        let m = mark_last us None (map done xs) [] (mark_of 0 event) same refl in
+        let m = mark_last us None (map done xs) [] (failure_mark 0 event) same refl in
         some_none (0, event) (sym m.2)
-    by (inr (b, last)) = not_quiet 0 b (mark_of 0 event) refl (ap (entries_of chair_of 0) (sym last) ∙ rest_quiet chair_of 0 seen has.0.0 (ap (entries_of chair_of 0) (sym has.0.1) ∙ has.1))
+    by (inr (b, last)) = not_quiet 0 b (failure_mark 0 event) refl (ap (entries_of chair_of 0) (sym last) ∙ rest_quiet chair_of 0 seen has.0.0 (ap (entries_of chair_of 0) (sym has.0.1) ∙ has.1))
 
   -- where chair 0 was stopped by a fault
   pub record IsStopped (lines : List Line) (text : List ℕ) (line : Line) : Type 0 where
@@ -96,7 +96,7 @@ module _ (laws : CoreLaws) (fair : Sequent → Attempt → Type 0) (base : Store
     pub waits : (event : Event) × IsNext fair next event
     pub marked : mark ≢ None
 
-  pub stopped : (seen : List Logged) (lines : List Line) (text : List ℕ) (line : Line) → StopsAt fair base lines text line seen → HasSeen chair_of 0 seen log → IsStopped lines text line
+  pub stopped : (seen : List Logged) (lines : List Line) (text : List ℕ) (line : Line) → StopsAtLine fair base lines text line seen → HasSeen chair_of 0 seen log → IsStopped lines text line
   stopped seen lines text line h has = by h.refused.0 where
     e : Logged
     e = h.refused.1.1
@@ -108,7 +108,7 @@ module _ (laws : CoreLaws) (fair : Sequent → Attempt → Type 0) (base : Store
     is_marked : mark ≢ None
     is_marked none = some_none (e.chair, e.event) (sym m.2 ∙ none)
 
-    by : (seen ≡ h.found) ⊎ (seen ≡ h.found ++ mark_of 0 h.event ∷ []) → IsStopped lines text line
+    by : (seen ≡ h.found) ⊎ (seen ≡ h.found ++ failure_mark 0 h.event ∷ []) → IsStopped lines text line
     by (inl same) =
         let still : HasSeen chair_of 0 h.last log = seen_then chair_of 0 h.last h.found log h.seen (subst (λ l. HasSeen chair_of 0 l log) same has) in
         record {
@@ -119,9 +119,9 @@ module _ (laws : CoreLaws) (fair : Sequent → Attempt → Type 0) (base : Store
           marked = is_marked;
         }
     by (inr adds) =
-        let both : h.refused.1.0 ++ e ∷ [] ≡ h.found ++ mark_of 0 h.event ∷ [] = sym h.refused.1.2 ∙ adds in
-        let one : e ≡ mark_of 0 h.event = last_one h.refused.1.0 h.found e (mark_of 0 h.event) both in
-        let front : h.refused.1.0 ≡ h.found = first_ones h.refused.1.0 h.found e (mark_of 0 h.event) both in
+        let both : h.refused.1.0 ++ e ∷ [] ≡ h.found ++ failure_mark 0 h.event ∷ [] = sym h.refused.1.2 ∙ adds in
+        let one : e ≡ failure_mark 0 h.event = last_one h.refused.1.0 h.found e (failure_mark 0 h.event) both in
+        let front : h.refused.1.0 ≡ h.found = first_ones h.refused.1.0 h.found e (failure_mark 0 h.event) both in
         let found : h.found ≡ map done xs = sym front ∙ m.0 in
         record {
           next = h.next;

@@ -17,7 +17,7 @@ use Rattle.store_log.specs.StoreLog.{done, marks, chair_of, store_meaning, IsSto
 use Rattle.project_store.specs.declared.fault.KeptFault.{KeptFault}
 use Rattle.project_store.specs.Opening.{durable}
 use Rattle.project_store.specs.Records.{Recovers}
-use Rattle.project_store.specs.Store.{StoreState, IsSound, logged, mark_in, log_in, base_in}
+use Rattle.project_store.specs.Store.{StoreState, IsSoundStore, logged, mark_in, log_in, base_in}
 use Rattle.session_run.specs.Dialogue.{begins}
 use Rattle.session_run.specs.OneHistory.{OneHistory, CompleteWhenIdle, MakesHistory}
 use Rattle.session_run.specs.Workers.{begins as none_yet}
@@ -27,7 +27,7 @@ use Rattle.session_streams.proofs.Known.{Appends-nothing, Consumes-nothing}
 use Rattle.session_talk.specs.declared.Ending.{Ending}
 use Rattle.session_ends.specs.Ends.{IsClean, HasHistory, EndsWithoutMemory}
 use Rattle.session_play.specs.Playing.{IsPlayed}
-use Rattle.session_ends.specs.Private.{PlaysEnd, status_at, line_at}
+use Rattle.session_ends.specs.Private.{PlaysEnd, status_at, ending_line}
 use Rattle.session_ends.specs.Sessions.{EndsBy, IsSession, Opens}
 use Rattle.session_ends.specs.Written.{WritesOrFails}
 use Rattle.session_ends.proofs.Closing.{Came, came, users, then_nothing}
@@ -56,10 +56,10 @@ log_is history xs m is = ap (λ h. map logged h ++ m) is ∙ same xs where
 module _ {D : Type 0} (told : Type 0) (bytes_of : D → Sides) (images : D → Sides → Type 0) (faults : D → ℕ)
     (laws : CoreLaws) (enters : EntersAll) (rebuilt : TellsTheRebuilt) (fair : Sequent → Attempt → Type 0) (sure : Sequent → Type 0)
     (history_law : OneHistory fair) (complete_law : CompleteWhenIdle fair sure) (workers : ℕ)
-    (first st : StoreState D) (same : base_in st ≡ base_in first) (sound : IsSound told bytes_of images faults st)
+    (first st : StoreState D) (same : base_in st ≡ base_in first) (sound : IsSoundStore told bytes_of images faults st)
     (source : SourceState) (before after_ last : Option (List ℕ)) (f g h : ℕ) (high : g ≤ h) (ending : Ending)
     (played : IsPlayed chair_of store_meaning fair workers (base_in first) (log_in st) source (writing before after_ f g) ending)
-    (wrote : WritesOrFails (writing after_ last g h) (line_at ending (option_map (λ k. k.fault) st.kept))) where
+    (wrote : WritesOrFails (writing after_ last g h) (ending_line ending (option_map (λ k. k.fault) st.kept))) where
   store : IsStoreLog (base_in st) (log_in st) sound.exchanges (mark_in st.kept) st.core
   store = record { entries = log_is st.history sound.exchanges (marks (mark_in st.kept)) sound.run.events; run = sound.run.run }
 
@@ -96,10 +96,10 @@ module _ {D : Type 0} (told : Type 0) (bytes_of : D → Sides) (images : D → S
   by : (kept : Option KeptFault) → st.kept ≡ kept → EndsBy fair workers (status_at ending (option_map (λ k. k.fault) kept)) st.kept source (writing before last f h) sound.exchanges st.core
   by None is = by_none laws fair workers (base_in st) (log_in st) sound.exchanges st.kept st.core store p.seen p.has_seen source before after_ last f g h p.converses.sink_later high
       p.converses.taken p.converses.ended p.converses.lines p.converses.left p.converses.text p.converses.read is (makes.finished (ap mark_in is)) ending p.converses.over makes.failed
-      (subst (λ k. WritesOrFails (writing after_ last g h) (line_at ending (option_map (λ z. z.fault) k))) is wrote)
+      (subst (λ k. WritesOrFails (writing after_ last g h) (ending_line ending (option_map (λ z. z.fault) k))) is wrote)
   by (Some k) is = by_some laws fair workers (base_in st) (log_in st) sound.exchanges st.kept st.core store p.seen p.has_seen source before after_ last f g h p.converses.sink_later high
       p.converses.taken p.converses.ended p.converses.lines p.converses.left p.converses.text p.converses.read k is ending p.converses.over makes.failed
-      (subst (λ z. WritesOrFails (writing after_ last g h) (line_at ending (option_map (λ y. y.fault) z))) is wrote)
+      (subst (λ z. WritesOrFails (writing after_ last g h) (ending_line ending (option_map (λ y. y.fault) z))) is wrote)
 
   abbrev at_first : (old : D) → Opens told bytes_of images faults old first → Opens told bytes_of images faults old st
   at_first old o = record {
@@ -129,7 +129,7 @@ none_cut (y ∷ before) x behind e = cc
 
 -- memory ran out before anything was done
 module _ {D : Type 0} (told : Type 0) (bytes_of : D → Sides) (images : D → Sides → Type 0) (faults : D → ℕ)
-    (fair : Sequent → Attempt → Type 0) (sure : Sequent → Type 0) (workers : ℕ) (st : StoreState D) (sound : IsSound told bytes_of images faults st)
+    (fair : Sequent → Attempt → Type 0) (sure : Sequent → Type 0) (workers : ℕ) (st : StoreState D) (sound : IsSoundStore told bytes_of images faults st)
     (begun : st.core ≡ opened st.base) (empty : st.history ≡ []) (open_ : st.kept ≡ None)
     (left : Option (List ℕ)) (lost : ℕ) (before last : Option (List ℕ)) (f h : ℕ) (wrote : WritesOrFails (writing before last f h) []) (low : f ≤ h) where
   unread : EndsWithoutMemory fair workers (reading left left lost lost) (writing before last f h) [] None st.core

@@ -32,9 +32,9 @@ IsAt left None = ⊤
 IsAt left (Some begun) = IsNextLine left begun.0
 
 -- no line was begun, or of one that was nothing but its text is left
-abbrev pub IsDone : Option (Line × Next) → Type 0
-IsDone None = ⊤
-IsDone (Some begun) = (said : List ℕ) × (begun.1 ≡ tells said)
+abbrev pub HasOnlyTextLeft : Option (Line × Next) → Type 0
+HasOnlyTextLeft None = ⊤
+HasOnlyTextLeft (Some begun) = (said : List ℕ) × (begun.1 ≡ tells said)
 
 module _ (fair : Sequent → Attempt → Type 0) where
   -- Chair 0 did the exchanges that answer these lines, the first ones in the bytes taken, and this is the text of the
@@ -130,6 +130,6 @@ module _ (fair : Sequent → Attempt → Type 0) (workers : ℕ)
   -- The store may have met a fault as well, at this event.
   pub record EndsWithoutMemory (event : Option Event) (s : State) : Type 0 where
     pub reached : HasReached fair source xs
-    pub done : IsDone reached.begun
+    pub done : HasOnlyTextLeft reached.begun
     pub failed : IfSome event (IsFailedEvent fair reached.begun s)
     pub written : Writes sink reached.text

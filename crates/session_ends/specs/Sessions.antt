@@ -12,13 +12,13 @@ use Rattle.core_steps.specs.Run.{Exchange}
 use Rattle.project_store.specs.declared.fault.KeptFault.{KeptFault}
 use Rattle.project_store.specs.declared.fault.OpenFault.{OpenFault}
 use Rattle.project_store.specs.declared.fault.OpenFault.TheVariants.{DiskFault}
-use Rattle.project_store.specs.Opening.{Meaning, StandsFor, durable, IsCause, IsAnswerFor, StandsAsSome}
+use Rattle.project_store.specs.Opening.{StoreMeaning, StandsFor, durable, IsCause, IsAnswerFor, StandsAsSome}
 use Rattle.project_store.specs.Records.{Recovers}
 use Rattle.project_store.specs.Store.{StoreState, IsImage, HasCauseOf}
 use Rattle.session_streams.specs.Streams.{SourceState, Writing, WritesNothing}
 use Rattle.session_ends.specs.Ends.{HasHistory, EndsWell, EndsInsideEdit, EndsAtReadFault, EndsAtWriteFault}
 use Rattle.session_ends.specs.Ends.{EndsWithFullInput, EndsAtStoreFault, EndsWithoutMemory}
-use Rattle.session_ends.specs.Statuses.{fault_status, fault_line, opening_status, opening_line}
+use Rattle.session_ends.specs.Statuses.{fault_status, store_fault_line, opening_status, opening_line}
 use Rattle.session_ends.specs.Written.{WritesOrFails}
 
 module _ (fair : Sequent → Attempt → Type 0) (workers : ℕ) where
@@ -32,21 +32,21 @@ module _ (fair : Sequent → Attempt → Type 0) (workers : ℕ) where
       ⊎ ((status ≡ 4) × (kept ≡ None) × EndsAtWriteFault fair workers source sink xs)
       ⊎ ((status ≡ 7) × (kept ≡ None) × EndsWithFullInput fair workers source sink xs)
       ⊎ ((k : KeptFault) × (kept ≡ Some k) × (status ≡ fault_status k.fault)
-      × EndsAtStoreFault fair workers source sink xs k.act.1 (fault_line k.fault) s)
+      × EndsAtStoreFault fair workers source sink xs k.act.1 (store_fault_line k.fault) s)
       ⊎ ((status ≡ 9) × EndsWithoutMemory fair workers source sink xs (option_map (λ k. k.act.1) kept) s)
 
 module _ {D : Type 0} (told : Type 0) (bytes_of : D → Sides) (images : D → Sides → Type 0) (faults : D → ℕ) where
   -- The project on the disk was opened: its sides stand for the base, and for nothing else.
   pub record Opens (old : D) (store : StoreState D) : Type 0 where
     pub stood : told → Recovers (bytes_of old) store.base
-    pub exactly : told → (meaning : Meaning) → StandsFor (bytes_of old) meaning → meaning ≡ durable store.base
+    pub exactly : told → (meaning : StoreMeaning) → StandsFor (bytes_of old) meaning → meaning ≡ durable store.base
     pub counted : store.count ≡ faults old
 
   -- It isn't opened, for a cause that its sides have, or a fault of the disk in the call, or want of memory; and what a
   -- stop leaves now stands for what a stop would have left at first.
   pub record Refuses (old new : D) (fault : OpenFault) : Type 0 where
     pub cause : told → IsCause (bytes_of old) fault
-    pub exactly : told → (meaning : Meaning) → StandsFor (bytes_of old) meaning → IsAnswerFor meaning fault
+    pub exactly : told → (meaning : StoreMeaning) → StandsFor (bytes_of old) meaning → IsAnswerFor meaning fault
     pub disk_fault : fault ≡ DiskFault → Rose (faults old) (faults new)
     pub stands : told → (c : Sides) → images new c → StandsAsSome (images old) c
 

@@ -16,12 +16,12 @@ fault_status fault.OutOfMemory = 9
 fault_status fault.DiskFault = 5
 fault_status fault.Failed = 5
 
-abbrev pub fault_line : StoreFault → List ℕ
-fault_line fault.SessionFull = codes "full: session\n"
-fault_line fault.JournalFull = codes "full: journal\n"
-fault_line fault.OutOfMemory = []
-fault_line fault.DiskFault = codes "project: disk fault\n"
-fault_line fault.Failed = codes "project: disk fault\n"
+abbrev pub store_fault_line : StoreFault → List ℕ
+store_fault_line fault.SessionFull = codes "full: session\n"
+store_fault_line fault.JournalFull = codes "full: journal\n"
+store_fault_line fault.OutOfMemory = []
+store_fault_line fault.DiskFault = codes "project: disk fault\n"
+store_fault_line fault.Failed = codes "project: disk fault\n"
 
 -- where the project isn't opened
 abbrev pub opening_status : OpenFault → ℕ

@@ -3,11 +3,11 @@ ghost use Rattle.std.specs.Prelude.{◌≡◌, ◌⊎◌, ◌≤◌, ◌<◌, �
 ghost use Rattle.std.specs.Option.{option_map};
 ghost use Rattle.core_steps.specs.State.{opened, no_texts};
 ghost use Rattle.prover_pool.specs.Shift.{fair};
-ghost use Rattle.project_store.specs.Store.{StoreState, IsSound, base_in, log_in};
+ghost use Rattle.project_store.specs.Store.{StoreState, IsSoundStore, base_in, log_in};
 ghost use Rattle.store_log.specs.StoreLog.{chair_of, store_meaning};
 ghost use Rattle.session_play.specs.Playing.{IsPlayed};
 ghost use Rattle.session_streams.specs.Streams.{SourceState, reading, writing, WritesNothing};
-ghost use Rattle.session_ends.specs.Private.{PlaysEnd, status_at, line_at};
+ghost use Rattle.session_ends.specs.Private.{PlaysEnd, status_at, ending_line};
 ghost use Rattle.session_ends.specs.Sessions.{IsSession, Opens, Refuses};
 ghost use Rattle.session_ends.specs.Statuses.{opening_status, opening_line};
 ghost use Rattle.session_ends.specs.Written.{WritesOrFails};
@@ -53,10 +53,10 @@ fn close_session<O: Sink, D: Disk>(store: Store<D>, ending: Ending, output: &mut
     ensures disk { result.disk ≡ store.journal.disk }
     ensures history { result.history.items ≡ store.history }
     ensures last { result.last ≡ store.core.durable }
-    ensures facts { IsSound D.told D.bytes_of D.images D.faults store }
+    ensures facts { IsSoundStore D.told D.bytes_of D.images D.faults store }
     ensures written { WritesOrFails
         (writing (O.written output.old) (O.written output.new) (O.faults output.old) (O.faults output.new))
-        (line_at ending (option_map (λ k. k.fault) store.kept)) }
+        (ending_line ending (option_map (λ k. k.fault) store.kept)) }
     ensures later { O.faults output.old ≤ O.faults output.new }
 {
     let (status, line) = closing(ending, store.kept_fault());

@@ -1,7 +1,7 @@
 //! Exit statuses and last lines.
 ghost use Rattle.std.specs.Prelude.{◌≡◌, IfOk, string_bytes};
-ghost use Rattle.session_ends.specs.Statuses.{fault_status, fault_line};
-ghost use Rattle.session_ends.specs.Private.{end_status, end_line, lacks_memory, status_at, line_at};
+ghost use Rattle.session_ends.specs.Statuses.{fault_status, store_fault_line};
+ghost use Rattle.session_ends.specs.Private.{end_status, end_line, lacks_memory, status_at, ending_line};
 ghost use Rattle.session_ends.specs.Statuses.{opening_status, opening_line, side_word};
 
 use formula_core::OutOfMemory;
@@ -26,7 +26,7 @@ fn fault_status(fault: StoreFault) -> u8
 
 // The last line for it.
 fn fault_line(fault: StoreFault) -> &'static [u8]
-    ensures { result.now ≡ fault_line fault }
+    ensures { result.now ≡ store_fault_line fault }
 {
     match fault {
         StoreFault::SessionFull => b"full: session\n",
@@ -75,7 +75,7 @@ fn lacks_memory(ending: Ending) -> bool
 // The status and the last line of a session on an opened project.
 pub(crate) fn closing(ending: Ending, kept: Option<StoreFault>) -> (u8, &'static [u8])
     ensures status { result.0 ≡ status_at ending kept }
-    ensures line { result.1.now ≡ line_at ending kept }
+    ensures line { result.1.now ≡ ending_line ending kept }
 {
     match kept {
         Some(fault) if !lacks_memory(ending) => (fault_status(fault), fault_line(fault)),

@@ -4,7 +4,7 @@ use Rattle.std.specs.Prelude.{nat_lt, bytes_eq, Some, None}
 use Rattle.formula_core.specs.Texts.{is_ascii_blank, begins_with, begins_with_blank}
 use Rattle.math_tokens.specs.Texts.{blank_length}
 use Rattle.session_lines.specs.Commands.{only_word}
-use Rattle.session_lines.specs.Words.{after_blanks, word_length, first_word, behind_word}
+use Rattle.session_lines.specs.Words.{after_blanks, length_to_blank, first_word, behind_word}
 
 -- the blanks of one byte, as they are tested
 abbrev blank_byte : ℕ → Bool
@@ -75,16 +75,16 @@ some_blank [] = refl
 some_blank (c ∷ []) = ap (λ b. b || (c == 194 && false)) (same_byte c) ∙ some_last (blank_byte c) (c == 194)
 some_blank (c ∷ d ∷ rest) = ap (λ b. b || (c == 194 && d == 160)) (same_byte c) ∙ some_wide (blank_byte c) (c == 194) (d == 160)
 
-behind_one : (line : List ℕ) (at : ℕ) → at < length line → begins_with_blank (drop at line) ≡ false → word_length (drop at line) ≡ 1 + word_length (drop (at + 1) line)
+behind_one : (line : List ℕ) (at : ℕ) → at < length line → begins_with_blank (drop at line) ≡ false → length_to_blank (drop at line) ≡ 1 + length_to_blank (drop (at + 1) line)
 behind_one [] at less other = absurd (omega (arith, less))
-behind_one (c ∷ rest) zero less other = ap (λ b. cond b 0 (1 + word_length rest)) other
+behind_one (c ∷ rest) zero less other = ap (λ b. cond b 0 (1 + length_to_blank rest)) other
 behind_one (c ∷ rest) (suc at) less other =
     let e : suc at + 1 ≡ suc (at + 1) = omega arith in
-    behind_one rest at (omega (arith, less)) other ∙ ap (λ n. 1 + word_length (drop n (c ∷ rest))) (sym e)
+    behind_one rest at (omega (arith, less)) other ∙ ap (λ n. 1 + length_to_blank (drop n (c ∷ rest))) (sym e)
 
 -- where no blank is, none begins before the next byte
-pub one_behind : (line : List ℕ) (at : ℕ) → at < length line → begins_with_blank (drop at line) ≡ false → at + word_length (drop at line) ≡ word_length line →
-    at + 1 + word_length (drop (at + 1) line) ≡ word_length line
+pub one_behind : (line : List ℕ) (at : ℕ) → at < length line → begins_with_blank (drop at line) ≡ false → at + length_to_blank (drop at line) ≡ length_to_blank line →
+    at + 1 + length_to_blank (drop (at + 1) line) ≡ length_to_blank line
 one_behind line at less other so_far = omega (arith, behind_one line at less other, so_far)
 
 -- what is empty, and what isn't

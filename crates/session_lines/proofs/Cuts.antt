@@ -5,7 +5,7 @@ use Rattle.std.specs.Str.Lines.{strip_carriage_return}
 use Rattle.session_lines.specs.declared.lines.Found.{Found}
 use Rattle.session_lines.specs.declared.lines.Found.TheVariants.{Ended, Last}
 use Rattle.session_lines.specs.Commands.{put_byte, cut_lines, last_line, text_lines}
-use Rattle.session_lines.specs.Private.{Unread, HasNoFeed, IsFirstFeed, IsFirstLine, HasNoLine, line_at, behind}
+use Rattle.session_lines.specs.Private.{Unread, HasNoFeed, IsFirstFeed, IsFirstLine, HasNoLine, line_at, left_behind}
 use Rattle.session_lines.specs.Reading.{MayCome}
 
 cut_first : (line rest : List ℕ) → HasNoFeed line → cut_lines (line ++ 10 ∷ rest) ≡ (line ∷ (cut_lines rest).0, (cut_lines rest).1)
@@ -44,7 +44,7 @@ at_feed (b ∷ bytes) (suc at) first =
 
 -- whatever comes, the first line comes first
 pub first_comes : (left : List ℕ) (ended : Bool) (found : Found) → IsFirstLine (record { left = left; ended = ended }) found →
-    (more : List ℕ) (e : Bool) → MayCome ended more e → text_lines (left ++ more) e ≡ line_at left found ∷ text_lines (behind left found ++ more) e
+    (more : List ℕ) (e : Bool) → MayCome ended more e → text_lines (left ++ more) e ≡ line_at left found ∷ text_lines (left_behind left found ++ more) e
 first_comes left ended (Ended at) first more e may =
     ap (λ l. text_lines (l ++ more) e) (at_feed left at first)
     ∙ ap (λ l. text_lines l e) (append_assoc (take at left) (10 ∷ drop (at + 1) left) more)

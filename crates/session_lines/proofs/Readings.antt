@@ -7,7 +7,7 @@ use Rattle.session_lines.specs.declared.command.Command.TheVariants.{CutEdit}
 use Rattle.session_lines.specs.declared.lines.Found.{Found}
 use Rattle.session_lines.specs.declared.lines.Found.TheVariants.{Ended, Last}
 use Rattle.session_lines.specs.Commands.{EditSoFar, Given, given, with_first, text_lines, commands_of}
-use Rattle.session_lines.specs.Private.{Unread, IsFirstLine, HasNoLine, line_at, behind, unread}
+use Rattle.session_lines.specs.Private.{Unread, IsFirstLine, HasNoLine, line_at, left_behind, unread}
 use Rattle.session_lines.specs.Reading.{Fed, MayCome, commands_with, IsSameReading, GivesCommand, GivesNone}
 use Rattle.session_lines.proofs.Cuts.{first_comes, none_comes}
 
@@ -38,7 +38,7 @@ then_read a b c (Some command) same m = same_gives a b c command same m
 
 -- behind the first line
 abbrev behind_line : Fed → Found → Option EditSoFar → Fed
-behind_line a found edit = record { left = behind a.left found; ended = a.ended; edit = edit }
+behind_line a found edit = record { left = left_behind a.left found; ended = a.ended; edit = edit }
 
 line_comes : (a : Fed) (found : Found) → IsFirstLine (unread a) found → (more : List ℕ) (e : Bool) → MayCome a.ended more e →
     commands_with a more e ≡ with_first (given (line_at a.left found) a.edit).command (commands_with (behind_line a found (given (line_at a.left found) a.edit).edit) more e)
@@ -56,7 +56,7 @@ line_read a found (Some command) edit first is = record {
   commands = λ more e may. line_comes a found first more e may ∙ ap (λ (g : Given). with_first g.command (commands_with (behind_line a found g.edit) more e)) (sym is);
 }
 
-pub fewer_left : (a : Fed) (found : Found) → IsFirstLine (unread a) found → length (behind a.left found) < length a.left
+pub fewer_left : (a : Fed) (found : Found) → IsFirstLine (unread a) found → length (left_behind a.left found) < length a.left
 fewer_left a (Ended at) first = omega (arith, first.0, length-drop (at + 1) a.left)
 fewer_left a Last first = by a.left first.1 where
   by : (left : List ℕ) → left ≢ [] → 0 < length left

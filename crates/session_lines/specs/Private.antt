@@ -41,10 +41,10 @@ line_at left (Ended at) = strip_carriage_return (take at left)
 line_at left Last = left
 
 -- what stands behind it
-abbrev pub behind : List ℕ → Found → List ℕ
-behind left (Ended at) = drop (at + 1) left
-behind left Last = []
+abbrev pub left_behind : List ℕ → Found → List ℕ
+left_behind left (Ended at) = drop (at + 1) left
+left_behind left Last = []
 
 -- what contracts see of an open edit
-abbrev pub seen : Option OpenEdit → Option EditSoFar
-seen edit = option_map (λ e. (e.word.items, e.text.items)) edit
+abbrev pub edit_seen : Option OpenEdit → Option EditSoFar
+edit_seen edit = option_map (λ e. (e.word.items, e.text.items)) edit

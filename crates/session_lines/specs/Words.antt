@@ -10,14 +10,14 @@ after_blanks (c ∷ []) = if is_ascii_blank c then [] else c ∷ []
 after_blanks (c ∷ d ∷ line) = if is_ascii_blank c then after_blanks (d ∷ line) else (if c == 194 && d == 160 then after_blanks line else c ∷ d ∷ line)
 
 -- how many bytes stand before the first blank
-abbrev pub word_length : List ℕ → ℕ
-word_length [] = 0
-word_length (c ∷ line) = if begins_with_blank (c ∷ line) then 0 else 1 + word_length line
+abbrev pub length_to_blank : List ℕ → ℕ
+length_to_blank [] = 0
+length_to_blank (c ∷ line) = if begins_with_blank (c ∷ line) then 0 else 1 + length_to_blank line
 
 -- the bytes before the first blank
 abbrev pub first_word : List ℕ → List ℕ
-first_word line = take (word_length line) line
+first_word line = take (length_to_blank line) line
 
 -- what follows them
 abbrev pub behind_word : List ℕ → List ℕ
-behind_word line = drop (word_length line) line
+behind_word line = drop (length_to_blank line) line

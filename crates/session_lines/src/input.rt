@@ -1,7 +1,7 @@
 ghost use Rattle.std.specs.Prelude.{◌≡◌, ◌∷◌, ◌++◌, ◌<◌, [], None, true, false, take, length, IfOk, OnOk, OnErr, MatchOption, bytes_eq, codes};
 ghost use Rattle.std.specs.Option.{option_map};
 ghost use Rattle.session_lines.specs.Commands.{is_skipped, only_word, edited_word, given_outside, given};
-ghost use Rattle.session_lines.specs.Private.{IsFirstLine, HasNoLine, seen, unread};
+ghost use Rattle.session_lines.specs.Private.{IsFirstLine, HasNoLine, edit_seen, unread};
 ghost use Rattle.session_lines.specs.declared.command.Command.TheVariants.{Edit};
 ghost use Rattle.session_lines.specs.Reading.{IsSameReading, GivesCommand, GivesNone};
 
@@ -32,12 +32,12 @@ pub struct Input {
 }
 
 impl Model for Input {
-    ghost use Rattle.session_lines.specs.Private.{seen};
+    ghost use Rattle.session_lines.specs.Private.{edit_seen};
     ghost use Rattle.session_lines.specs.Reading.{Fed};
 
     ghost Value = { Fed };
 
-    ghost view = { λ a. record { left = a.lines.left; ended = a.lines.ended; edit = seen a.edit } };
+    ghost view = { λ a. record { left = a.lines.left; ended = a.lines.ended; edit = edit_seen a.edit } };
 }
 
 impl Input {
@@ -116,8 +116,8 @@ fn given(
     line: &[u8],
 ) -> Result<Option<Command>, OutOfMemory>
     ensures given { IfOk result (λ command.
-        record { command = command; edit = seen edit.new } ≡ given line.now (seen edit.old)) }
-    ensures unchanged { OnErr result (seen edit.new ≡ seen edit.old) }
+        record { command = command; edit = edit_seen edit.new } ≡ given line.now (edit_seen edit.old)) }
+    ensures unchanged { OnErr result (edit_seen edit.new ≡ edit_seen edit.old) }
 {
     match edit {
         None => given_outside(alloc, edit, line),
@@ -135,10 +135,10 @@ fn given_outside(
     edit: &mut Option<OpenEdit>,
     line: &[u8],
 ) -> Result<Option<Command>, OutOfMemory>
-    requires { seen edit.old ≡ None }
+    requires { edit_seen edit.old ≡ None }
     ensures given { IfOk result (λ command.
-        record { command = command; edit = seen edit.new } ≡ given_outside line.now) }
-    ensures unchanged { OnErr result (seen edit.new ≡ seen edit.old) }
+        record { command = command; edit = edit_seen edit.new } ≡ given_outside line.now) }
+    ensures unchanged { OnErr result (edit_seen edit.new ≡ edit_seen edit.old) }
 {
     if is_skipped(line) {
         return Ok(None);
@@ -175,7 +175,7 @@ fn add_line(text: &mut Vec<u8>, line: &[u8]) -> Result<(), OutOfMemory>
 /// The edit that its dot ends.
 fn close(edit: &mut Option<OpenEdit>) -> Option<Command>
     ensures closed { edit.new ≡ None }
-    ensures given { option_map (λ e. Edit e.0 e.1) (seen edit.old) ≡ result }
+    ensures given { option_map (λ e. Edit e.0 e.1) (edit_seen edit.old) ≡ result }
 {
     match edit.take() {
         Some(open) => Some(Command::Edit(List::of(open.word), List::of(open.text))),

@@ -1,6 +1,6 @@
 ghost use Rattle.std.specs.Prelude.{◌≡◌, ◌++◌, [], true, false, OnOk, OnErr, MatchOption};
 ghost use Rattle.std.specs.Str.Lines.{strip_carriage_return};
-ghost use Rattle.session_lines.specs.Private.{HasNoFeed, IsFirstFeed, IsFirstLine, HasNoLine, line_at, behind};
+ghost use Rattle.session_lines.specs.Private.{HasNoFeed, IsFirstFeed, IsFirstLine, HasNoLine, line_at, left_behind};
 
 use formula_core::OutOfMemory;
 use std::alloc::Global;
@@ -126,7 +126,7 @@ impl Lines {
     /// Goes on behind the first line. It takes no memory.
     pub fn skip(&mut self, found: Found)
         requires { IsFirstLine self.old found }
-        ensures { self.new ≡ record self.old { left = behind self.old.left found } }
+        ensures { self.new ≡ record self.old { left = left_behind self.old.left found } }
     {
         match found {
             Found::Ended(at) => self.start += at + 1,

@@ -1,6 +1,6 @@
 ghost use Rattle.std.specs.Prelude.{◌≡◌, ◌≤◌, length};
 ghost use Rattle.formula_core.specs.Texts.{begins_with_blank};
-ghost use Rattle.session_lines.specs.Words.{after_blanks, word_length, first_word, behind_word};
+ghost use Rattle.session_lines.specs.Words.{after_blanks, length_to_blank, first_word, behind_word};
 
 use math_tokens::blank_length;
 
@@ -25,7 +25,7 @@ fn begins_with_blank(line: &[u8]) -> bool
 
 /// How many bytes stand before the first blank of a line.
 fn word_length(line: &[u8]) -> usize
-    ensures place { result ≡ word_length line.now }
+    ensures place { result ≡ length_to_blank line.now }
     ensures within { result ≤ length line.now }
 {
     for at in 0..line.len() {

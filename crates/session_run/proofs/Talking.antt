@@ -13,7 +13,7 @@ use Rattle.session_words.specs.declared.Line.{Line}
 use Rattle.store_log.specs.declared.Logged.{Logged}
 use Rattle.store_log.specs.declared.StoreBase.{StoreBase}
 use Rattle.store_log.specs.History.{exchanges_of, own}
-use Rattle.store_log.specs.StoreLog.{chair_of, done, IsLogOf, Performs}
+use Rattle.store_log.specs.StoreLog.{chair_of, done, IsLogOf, PerformsInLog}
 use Rattle.session_run.specs.Dialogue.{Next, tells, Answering, Dialogue, begins, answers_line, IsPartway}
 use Rattle.session_run.specs.Talking.{HasTalked, IsTalking}
 use Rattle.session_run.proofs.Owns.{own_last, own_quiet}
@@ -60,7 +60,7 @@ module _ (laws : CoreLaws) (base : StoreBase) where
       ap (own k) c.whole ∙ (own_quiet k c.before c.behind (own_quiet_log k rest c.behind c.second quiet) ∙ ap (own k) (sym (paired us c.before same one.0)))
 
   -- the run after an act
-  pub grown : (chair : ℕ) (event : Event) (reply : Reply) (found left : List Logged) (p : Performs base chair event reply found left) →
+  pub grown : (chair : ℕ) (event : Event) (reply : Reply) (found left : List Logged) (p : PerformsInLog base chair event reply found left) →
       IsLogOf base left (p.xs ++ (chair, record { event = event; reply = reply; entry = p.entry }) ∷ []) p.now
   grown chair event reply found left p =
       let x : Exchange = record { event = event; reply = reply; entry = p.entry } in record {
@@ -86,7 +86,7 @@ module _ (laws : CoreLaws) (base : StoreBase) where
 
     -- an act of chair 0 goes on with the answer
     pub line_goes_on : (seen found left : List Logged) (lines : List Line) (text : List ℕ) (line : Line) (next more : Next) (event : Event) (reply : Reply) →
-        IsTalking fair base seen lines text line next → HasSeen chair_of 0 seen found → Performs base 0 event reply found left →
+        IsTalking fair base seen lines text line next → HasSeen chair_of 0 seen found → PerformsInLog base 0 event reply found left →
         ((cut : List Exchange) (x : Exchange) → x.event ≡ event → x.reply ≡ reply → Answering fair line cut next → Answering fair line (cut ++ x ∷ []) more) →
         IsTalking fair base left lines text line more
     line_goes_on seen found left lines text line next more event reply t has p goes =

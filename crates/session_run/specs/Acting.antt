@@ -11,11 +11,11 @@ use Rattle.store_log.specs.declared.Logged.{Logged}
 use Rattle.store_log.specs.declared.StoreBase.{StoreBase}
 use Rattle.store_log.specs.declared.StoreFault.{StoreFault}
 use Rattle.store_log.specs.StoreLog.{chair_of}
-use Rattle.store_log.specs.Storing.{Applies}
+use Rattle.store_log.specs.Storing.{Handles}
 
 -- An act of chair 0, which had seen so much, at the desk: others may have acted before it.
 abbrev pub ActsOn : StoreBase → Event → List Logged → Result Reply StoreFault → List Logged → Type 0
-ActsOn base event seen answer sees = (found : List Logged) × HasSeen chair_of 0 seen found × Applies base 0 event found answer sees
+ActsOn base event seen answer sees = (found : List Logged) × HasSeen chair_of 0 seen found × Handles base 0 event found answer sees
 
 -- A take of a named obligation by chair 0: it gave this ticket, whose sequent a prover may be asked, or another reply.
 abbrev pub TookNamed : StoreBase → List ℕ → List Logged → Result Ticket Reply → List Logged → Type 0

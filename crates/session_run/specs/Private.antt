@@ -6,7 +6,7 @@ use Rattle.store_log.specs.declared.Logged.{Logged}
 use Rattle.store_log.specs.declared.StoreBase.{StoreBase}
 use Rattle.session_words.specs.declared.Line.{Line}
 use Rattle.session_run.specs.Dialogue.{Next}
-use Rattle.session_run.specs.Talking.{IsTalking, StopsAt}
+use Rattle.session_run.specs.Talking.{IsTalking, StopsAtLine}
 
 module _ (fair : Sequent → Attempt → Type 0) (base : StoreBase) where
   -- the answer to the line goes on, from what comes next to what comes next
@@ -14,4 +14,4 @@ module _ (fair : Sequent → Attempt → Type 0) (base : StoreBase) where
   GoesOn line next old more new = (lines : List Line) (text : List ℕ) → IsTalking fair base old lines text line next → IsTalking fair base new lines text line more
 
   abbrev pub StoppedWithin : Line → Next → List Logged → List Logged → Type 0
-  StoppedWithin line next old new = (lines : List Line) (text : List ℕ) → IsTalking fair base old lines text line next → StopsAt fair base lines text line new
+  StoppedWithin line next old new = (lines : List Line) (text : List ℕ) → IsTalking fair base old lines text line next → StopsAtLine fair base lines text line new

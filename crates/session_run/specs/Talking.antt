@@ -13,7 +13,7 @@ use Rattle.store_log.specs.declared.Logged.{Logged}
 use Rattle.store_log.specs.declared.StoreBase.{StoreBase}
 use Rattle.store_log.specs.History.{own}
 use Rattle.store_log.specs.StoreLog.{chair_of, IsLogOf}
-use Rattle.store_log.specs.Storing.{Refuses}
+use Rattle.store_log.specs.Storing.{RefusesEvent}
 use Rattle.session_run.specs.declared.answering.Stop.{Stop}
 use Rattle.session_run.specs.declared.answering.Stop.TheVariants.{OutOfMemory, Store}
 use Rattle.session_run.specs.Dialogue.{Next, asks, owes, tells, Dialogue, IsPartway}
@@ -45,7 +45,7 @@ module _ (fair : Sequent → Attempt → Type 0) where
     AnswersUpTo line old next new = (lines : List Line) (text : List ℕ) → HasTalked old lines text → IsTalking new lines text line next
 
     -- A store fault stopped the answer to the line at the event that came next: so far chair 0 had seen this log.
-    pub record StopsAt (lines : List Line) (text : List ℕ) (line : Line) (new : List Logged) : Type 0 where
+    pub record StopsAtLine (lines : List Line) (text : List ℕ) (line : Line) (new : List Logged) : Type 0 where
       pub last : List Logged
       pub next : Next
       pub event : Event
@@ -53,10 +53,10 @@ module _ (fair : Sequent → Attempt → Type 0) where
       pub talking : IsTalking last lines text line next
       pub is_next : IsNext next event
       pub seen : HasSeen chair_of 0 last found
-      pub refused : Refuses 0 event found new
+      pub refused : RefusesEvent 0 event found new
 
     abbrev pub StoppedIn : Line → List Logged → List Logged → Type 0
-    StoppedIn line old new = (lines : List Line) (text : List ℕ) → HasTalked old lines text → StopsAt lines text line new
+    StoppedIn line old new = (lines : List Line) (text : List ℕ) → HasTalked old lines text → StopsAtLine lines text line new
 
     -- The answer to a line: its text is what is told at last; where memory runs out, it is done, but not told; or a store
     -- fault stopped it.

@@ -25,7 +25,7 @@ use Rattle.session_run.specs.Talking.{HasTalked, IsTalking, AnswersUpTo, ComesOf
 use Rattle.turn_desk.specs.Chairs.{ChairState, IsSameChair}
 use Rattle.session_streams.specs.Reads.{IsUnread, IsReading, ReadsOn, EndsReading}
 use Rattle.session_talk.specs.Conversing.{Converses}
-use Rattle.session_talk.specs.Private.{ending_of, EndsAt, Says, IsServing, ServesLine, TurnsTo}
+use Rattle.session_talk.specs.Private.{ending_of, EndsAt, SaysOrEnds, IsServing, ServesLine, TurnsTo}
 use Rattle.session_streams.proofs.Known.{Appends-both, Appends-keeps, Appends-nothing, Keeps-same}
 use Rattle.session_streams.proofs.Readers.{unread, has_read, rose_later, read_end_later}
 
@@ -220,7 +220,7 @@ module _ (fair : Sequent → Attempt → Type 0) (base : StoreBase) where
 
 module _ (fair : Sequent → Attempt → Type 0) (base : StoreBase) (line : Line) (old new : List Logged) where
   -- its text is made
-  pub served : (said : List ℕ) (sink : Writing) (r : Result ⊤ Ending) → AnswersUpTo fair base line old (tells said) new → Says sink said r → ServesLine fair base line old r new sink
+  pub served : (said : List ℕ) (sink : Writing) (r : Result ⊤ Ending) → AnswersUpTo fair base line old (tells said) new → SaysOrEnds sink said r → ServesLine fair base line old r new sink
   served said sink (Ok done) answers writes = (said, answers, writes)
   served said sink (Err WriteFault) answers writes = (said, answers, writes)
   served said sink (Err Untold) answers wrong = absurd wrong

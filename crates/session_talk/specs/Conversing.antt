@@ -8,7 +8,7 @@ use Rattle.session_words.specs.declared.line.Line.TheVariants as line
 use Rattle.store_log.specs.declared.Logged.{Logged}
 use Rattle.store_log.specs.declared.StoreBase.{StoreBase}
 use Rattle.session_run.specs.Dialogue.{tells}
-use Rattle.session_run.specs.Talking.{HasTalked, IsTalking, StopsAt}
+use Rattle.session_run.specs.Talking.{HasTalked, IsTalking, StopsAtLine}
 use Rattle.session_streams.specs.Reads.{HasRead, IsNextLine, IsReadEnd}
 use Rattle.session_streams.specs.Streams.{SourceState, Writing, SinkFailed, Writes}
 use Rattle.session_talk.specs.declared.conversing.Ending.{Ending}
@@ -35,7 +35,7 @@ module _
         (next : Line) × (said : List ℕ) × IsNextLine left next × IsTalking fair base seen lines text next (tells said)
         × Writes sink text
     IsOver taken ended lines left text (Store fault) =
-        (next : Line) × IsNextLine left next × StopsAt fair base lines text next seen × Writes sink text
+        (next : Line) × IsNextLine left next × StopsAtLine fair base lines text next seen × Writes sink text
 
     -- The commands ended so: these bytes were taken, these lines answered by this text, and these commands are left.
     pub record Converses (ending : Ending) : Type 0 where

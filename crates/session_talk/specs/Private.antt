@@ -27,10 +27,10 @@ abbrev pub EndsAt : Line → Ending → Type 0
 EndsAt it ending = ((it ≡ line.Quit) × (ending ≡ Quit)) ⊎ ((it ≡ line.CutEdit) × (ending ≡ CutEdit))
 
 -- what is said to a line was written whole, or cut where the sink failed
-abbrev pub Says : Writing → List ℕ → Result ⊤ Ending → Type 0
-Says sink said (Ok done) = Writes sink said
-Says sink said (Err WriteFault) = WritesCut sink said
-Says sink said (Err ending) = ⊥
+abbrev pub SaysOrEnds : Writing → List ℕ → Result ⊤ Ending → Type 0
+SaysOrEnds sink said (Ok done) = Writes sink said
+SaysOrEnds sink said (Err WriteFault) = WritesCut sink said
+SaysOrEnds sink said (Err ending) = ⊥
 
 module _ (fair : Sequent → Attempt → Type 0) (base : StoreBase) where
   -- So far chair 0 has answered all lines that it read, and written the answers.

@@ -5,7 +5,7 @@ ghost use Rattle.prover_pool.specs.Shift.{fair};
 ghost use Rattle.session_words.specs.declared.line.Line.{Line};
 ghost use Rattle.session_streams.specs.Streams.{reading, writing};
 ghost use Rattle.session_talk.specs.Conversing.{Converses};
-ghost use Rattle.session_talk.specs.Private.{ending_of, EndsAt, Says, IsServing, ServesLine, TurnsTo};
+ghost use Rattle.session_talk.specs.Private.{ending_of, EndsAt, SaysOrEnds, IsServing, ServesLine, TurnsTo};
 
 use outside::{Gate, Sink, Source};
 use prover_pool::Notices;
@@ -58,7 +58,7 @@ fn before_end(line: Line) -> Result<Line, Ending>
 
 // Writes what is said to a line.
 fn say<O: Sink>(output: &mut O, said: String) -> Result<(), Ending>
-    ensures said { Says
+    ensures said { SaysOrEnds
         (writing (O.written output.old) (O.written output.new) (O.faults output.old) (O.faults output.new))
         (string_bytes said) result }
     ensures later { O.faults output.old ≤ O.faults output.new }

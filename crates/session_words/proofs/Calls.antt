@@ -8,7 +8,7 @@ use Rattle.session_lines.specs.Commands.{text_lines, commands_of, commands_in}
 use Rattle.session_lines.specs.Reading.{MayCome}
 use Rattle.session_words.specs.declared.line.Line.{Line}
 use Rattle.session_words.specs.Lines.{IsLine, AreLines}
-use Rattle.session_words.specs.Reading.{Left, commands_left, KeepsLines, GivesLine, GivesNoLine, Reads, begins, is_fed, ends, gives, keeps}
+use Rattle.session_words.specs.Reading.{Left, commands_left, KeepsLines, GivesLine, GivesNoLine, ReadsLines, begins, is_fed, ends, gives, keeps}
 
 -- the commands of the lines that were given, and what is left, are those of the bytes that were fed, whatever comes
 pub record HasRead (bytes : List ℕ) (lines : List Line) (left : Left) : Type 0 where
@@ -53,7 +53,7 @@ kept_all bytes lines old new k r = record {
   same = λ more e may. r.same more e (λ h. may (k.ended ∙ h)) ∙ ap (λ cs. r.commands ++ cs) (k.commands more e (λ h. may (k.ended ∙ h)));
 }
 
-pub has_read : {bytes : List ℕ} {lines : List Line} {left : Left} → Reads bytes lines left → HasRead bytes lines left
+pub has_read : {bytes : List ℕ} {lines : List Line} {left : Left} → ReadsLines bytes lines left → HasRead bytes lines left
 has_read begins = record { commands = []; say = tt; same = λ more e may. refl }
 has_read (is_fed {bytes} {lines} {old} piece before goes_on) = fed_more bytes piece lines old goes_on (has_read before)
 has_read (ends before) = let r = has_read before in record { commands = r.commands; say = r.say; same = λ more e may. r.same more e (λ h. may refl) }
@@ -61,7 +61,7 @@ has_read (gives {bytes} {lines} {old} line new before given) = given_one bytes l
 has_read (keeps {bytes} {lines} {old} new before kept) = kept_all bytes lines old new kept (has_read before)
 
 -- where no line is left, those that were given are the lines of the bytes
-pub all_given : (bytes : List ℕ) (lines : List Line) (left new : Left) → Reads bytes lines left → GivesNoLine left new → AreLines bytes left.fed.ended lines
+pub all_given : (bytes : List ℕ) (lines : List Line) (left new : Left) → ReadsLines bytes lines left → GivesNoLine left new → AreLines bytes left.fed.ended lines
 all_given bytes lines left new reads none =
     let r : HasRead bytes lines left = has_read reads in
     let whole : commands_in bytes left.fed.ended ≡ r.commands =

@@ -37,11 +37,11 @@ abbrev pub nothing_left : Left
 nothing_left = record { held = None; fed = record { left = []; ended = false; edit = None } }
 
 -- What calls of a reader did, one after another: the bytes that it was fed, the lines that it gave, and what it has left.
-pub data Reads : List ℕ → List Line → Left → Type 0 where
-  begins : Reads [] [] nothing_left
-  is_fed : {bytes : List ℕ} {lines : List Line} {old : Left} (piece : List ℕ) → Reads bytes lines old → old.fed.ended ≡ false →
-      Reads (bytes ++ piece) lines (record old { fed = record old.fed { left = old.fed.left ++ piece } })
-  ends : {bytes : List ℕ} {lines : List Line} {old : Left} → Reads bytes lines old → Reads bytes lines (record old { fed = record old.fed { ended = true } })
-  gives : {bytes : List ℕ} {lines : List Line} {old : Left} (line : Line) (new : Left) → Reads bytes lines old → GivesLine old line new →
-      Reads bytes (lines ++ line ∷ []) new
-  keeps : {bytes : List ℕ} {lines : List Line} {old : Left} (new : Left) → Reads bytes lines old → KeepsLines old new → Reads bytes lines new
+pub data ReadsLines : List ℕ → List Line → Left → Type 0 where
+  begins : ReadsLines [] [] nothing_left
+  is_fed : {bytes : List ℕ} {lines : List Line} {old : Left} (piece : List ℕ) → ReadsLines bytes lines old → old.fed.ended ≡ false →
+      ReadsLines (bytes ++ piece) lines (record old { fed = record old.fed { left = old.fed.left ++ piece } })
+  ends : {bytes : List ℕ} {lines : List Line} {old : Left} → ReadsLines bytes lines old → ReadsLines bytes lines (record old { fed = record old.fed { ended = true } })
+  gives : {bytes : List ℕ} {lines : List Line} {old : Left} (line : Line) (new : Left) → ReadsLines bytes lines old → GivesLine old line new →
+      ReadsLines bytes (lines ++ line ∷ []) new
+  keeps : {bytes : List ℕ} {lines : List Line} {old : Left} (new : Left) → ReadsLines bytes lines old → KeepsLines old new → ReadsLines bytes lines new

@@ -3,7 +3,7 @@ ghost use Rattle.std.specs.Prelude.{◌≡◌, ℕ, Bool, List};
 ghost use Rattle.session_lines.specs.declared.command.Command.{Command};
 ghost use Rattle.session_words.specs.declared.line.Line.{Line};
 ghost use Rattle.session_words.specs.Lines.{IsLine, AreLines};
-ghost use Rattle.session_words.specs.Reading.{Left, GivesNoLine, Reads};
+ghost use Rattle.session_words.specs.Reading.{Left, GivesNoLine, ReadsLines};
 
 use step_items::one_hint;
 
@@ -25,5 +25,5 @@ pub fn one_list()
 /// The lines that a reader gave until it gave none are those of the bytes that it was fed, however these were cut into pieces.
 pub fn gives_all_lines()
     ensures { (bytes : List ℕ) (lines : List Line) (left new : Left)
-        → Reads bytes lines left → GivesNoLine left new → AreLines bytes left.fed.ended lines }
+        → ReadsLines bytes lines left → GivesNoLine left new → AreLines bytes left.fed.ended lines }
 {}

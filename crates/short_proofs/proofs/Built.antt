@@ -9,7 +9,7 @@ use Rattle.rule_table.specs.declared.kind.RuleKind.TheVariants as kind
 use Rattle.rule_table.specs.declared.rule.Antecedent.{Antecedent}
 use Rattle.rule_table.specs.declared.rule.Body.{Body}
 use Rattle.rule_table.specs.declared.rule.Rule.{Rule}
-use Rattle.rule_table.specs.Linear.{is_among}
+use Rattle.rule_table.specs.Linear.{is_formula_among}
 use Rattle.rule_table.specs.Rows.{adds, backward, both, forward, proves}
 use Rattle.rule_table.specs.Rules.{IsSound}
 use Rattle.rule_table.specs.SetLaws.{member_of_whole}
@@ -20,7 +20,7 @@ use Rattle.sequent_core.specs.declared.tree.Tree.TheVariants.{Node}
 use Rattle.sequent_core.specs.Sequents.{IsSequent}
 use Rattle.short_proofs.specs.Private.{truth, rule_of}
 use Rattle.short_proofs.specs.Short.{IsShortProof}
-use Rattle.short_proofs.specs.Sure.{is_reflexive, IsSmall, IsSureByLogic}
+use Rattle.short_proofs.specs.Sure.{is_reflexive, IsSmallSequent, IsSureByLogic}
 use Rattle.short_proofs.proofs.Forms.{top_fits, whole_proof}
 use Rattle.short_proofs.proofs.Plain.{is_sound}
 use Rattle.short_proofs.proofs.Trees.{IsProofOf, is_short}
@@ -47,7 +47,7 @@ nowhere = record { env = []; hyps = []; goal = top }
 pub truth_is_sound : IsSound kind.Top (backward top [])
 truth_is_sound = is_sound nowhere kind.Top (backward top []) (top_fits [], tt) (top_fits [], tt) refl tt
 
-pub whole_as : (s : Sequent) (is : IsSequent s) (small : IsSmall s) → is_some (member_of_whole s.goal) ≡ true → (r : Rule) (below t : Tree)
+pub whole_as : (s : Sequent) (is : IsSequent s) (small : IsSmallSequent s) → is_some (member_of_whole s.goal) ≡ true → (r : Rule) (below t : Tree)
     → r ≡ rule_of (kind.RwGoal 55 []) (backward s.goal (proves top ∷ [])) → below ≡ truth → t ≡ Node r (below ∷ []) → IsShortProof t s
 whole_as s is small h r below t er el et =
     subst (λ u. IsShortProof u s) (sym (et ∙ (λ i. Node (er i) (el i ∷ [])))) (is_short 2 _ s (omega arith) (whole_proof s is small h))
@@ -68,15 +68,15 @@ right false q h = h
 neither : (p q : Bool) → p ≡ false → q ≡ false → (p || q) ≡ false
 neither p q h k = ap (λ x. x || q) h ∙ k
 
-module _ (s : Sequent) (small : IsSmall s) where
+module _ (s : Sequent) (small : IsSmallSequent s) where
   abbrev is_top : Bool
   is_top = same_formula s.goal top
 
   abbrev is_bottom : Bool
-  is_bottom = is_among s.hyps bottom
+  is_bottom = is_formula_among s.hyps bottom
 
   abbrev is_hyp : Bool
-  is_hyp = is_among s.hyps s.goal
+  is_hyp = is_formula_among s.hyps s.goal
 
   abbrev is_equal : Bool
   is_equal = is_reflexive s.goal
@@ -87,10 +87,10 @@ module _ (s : Sequent) (small : IsSmall s) where
   pub sure_top : same_formula s.goal top ≡ true → IsSureByLogic s
   sure_top h = record { small = small; follows = left (is_top || is_bottom || is_hyp || is_equal) is_whole (left (is_top || is_bottom || is_hyp) is_equal (left (is_top || is_bottom) is_hyp (left is_top is_bottom h))) }
 
-  pub sure_bottom : is_among s.hyps bottom ≡ true → IsSureByLogic s
+  pub sure_bottom : is_formula_among s.hyps bottom ≡ true → IsSureByLogic s
   sure_bottom h = record { small = small; follows = left (is_top || is_bottom || is_hyp || is_equal) is_whole (left (is_top || is_bottom || is_hyp) is_equal (left (is_top || is_bottom) is_hyp (right is_top is_bottom h))) }
 
-  pub sure_hyp : is_among s.hyps s.goal ≡ true → IsSureByLogic s
+  pub sure_hyp : is_formula_among s.hyps s.goal ≡ true → IsSureByLogic s
   sure_hyp h = record { small = small; follows = left (is_top || is_bottom || is_hyp || is_equal) is_whole (left (is_top || is_bottom || is_hyp) is_equal (right (is_top || is_bottom) is_hyp h)) }
 
   pub sure_equal : is_reflexive s.goal ≡ true → IsSureByLogic s
@@ -99,7 +99,7 @@ module _ (s : Sequent) (small : IsSmall s) where
   pub sure_whole : is_some (member_of_whole s.goal) ≡ true → IsSureByLogic s
   sure_whole h = record { small = small; follows = right (is_top || is_bottom || is_hyp || is_equal) is_whole h }
 
-  pub unsure : same_formula s.goal top ≡ false → is_among s.hyps bottom ≡ false → is_among s.hyps s.goal ≡ false → is_reflexive s.goal ≡ false → is_some (member_of_whole s.goal) ≡ false → IsSureByLogic s → ⊥
+  pub unsure : same_formula s.goal top ≡ false → is_formula_among s.hyps bottom ≡ false → is_formula_among s.hyps s.goal ≡ false → is_reflexive s.goal ≡ false → is_some (member_of_whole s.goal) ≡ false → IsSureByLogic s → ⊥
   unsure a b c d e h =
       let no = neither (is_top || is_bottom || is_hyp || is_equal) is_whole (neither (is_top || is_bottom || is_hyp) is_equal (neither (is_top || is_bottom) is_hyp (neither is_top is_bottom a b) c) d) e in
       let yes = h.follows in

@@ -18,7 +18,7 @@ use Rattle.formula_core.specs.Same.{same_formula}
 use Rattle.formula_core.specs.Sizes.{IsWithinLimits, formula_nodes, formula_nodes_step, formula_height, formula_height_step, greatest, has_types_within, has_types_within_step, is_type_within}
 use Rattle.formula_core.specs.Typed.{Stands, IsPredicateIn}
 use Rattle.formula_core.specs.Rows.{row_of}
-use Rattle.formula_core.specs.TypeTable.{fits}
+use Rattle.formula_core.specs.TypeTable.{row_fits}
 use Rattle.formula_core.specs.Types.{is_integer, is_truth, is_set_of, is_value_type, same_type}
 use Rattle.formula_core.specs.Wellness.{type_of, is_well_in}
 use Rattle.formula_core.proofs.Equations.{formula_fold, identifiers-Node, formula_nodes-Node, formula_height-Node, has_types_within-Node}
@@ -35,32 +35,32 @@ use Rattle.rule_table.specs.declared.kind.RuleKind.TheVariants as kind
 use Rattle.rule_table.specs.Rows.{backward, forward, proves, adds, IsInstance}
 use Rattle.sequent_core.proofs.Nodes.{all_both, all_first}
 use Rattle.short_proofs.specs.Private.{law_of_reading}
-use Rattle.short_proofs.specs.Sure.{as_comparison, naturals, natural_in}
+use Rattle.short_proofs.specs.Sure.{as_comparison, number_set, natural_in}
 use Rattle.short_proofs.proofs.Plain.{IsFit}
 
 -- what is found is in the set
-pub natural_is : (o : Op) (f e : Formula) → natural_in o f ≡ Some e → f ≡ member e (naturals o)
+pub natural_is : (o : Op) (f e : Formula) → natural_in o f ≡ Some e → f ≡ member e (number_set o)
 natural_is o f e h = go (two_operands op.Member f) h
   where
-    chosen : (p : Formula × Formula) (b : Bool) → same_formula f (member p.0 (naturals o)) ≡ b → (if b then Some p.0 else None) ≡ Some e → f ≡ member e (naturals o)
-    chosen p true s k = let same : p.0 ≡ e = cc in subst (λ x. f ≡ member x (naturals o)) same (same_formula_exact f (member p.0 (naturals o)) s)
+    chosen : (p : Formula × Formula) (b : Bool) → same_formula f (member p.0 (number_set o)) ≡ b → (if b then Some p.0 else None) ≡ Some e → f ≡ member e (number_set o)
+    chosen p true s k = let same : p.0 ≡ e = cc in subst (λ x. f ≡ member x (number_set o)) same (same_formula_exact f (member p.0 (number_set o)) s)
     chosen p false s k = cc
 
-    go : (q : Option (Formula × Formula)) → option_and_then (λ p. if same_formula f (member p.0 (naturals o)) then Some p.0 else None) q ≡ Some e → f ≡ member e (naturals o)
+    go : (q : Option (Formula × Formula)) → option_and_then (λ p. if same_formula f (member p.0 (number_set o)) then Some p.0 else None) q ≡ Some e → f ≡ member e (number_set o)
     go None k = cc
-    go (Some p) k = chosen p (same_formula f (member p.0 (naturals o))) refl k
+    go (Some p) k = chosen p (same_formula f (member p.0 (number_set o))) refl k
 
 member_operands : (e s : Formula) → two_operands op.Member (member e s) ≡ Some (e, s)
 member_operands e s = ap (λ x. option_and_then two_of (operands_at op.Member x)) (outs-Node op.Member (e ∷ s ∷ []) ty.Truth)
 
-pub naturals_law : (e : Formula) → member_of_naturals (member e (naturals op.Naturals)) ≡ Some (at_most zero e)
+pub naturals_law : (e : Formula) → member_of_naturals (member e (number_set op.Naturals)) ≡ Some (at_most zero e)
 naturals_law e =
-    ap (option_and_then (λ x. option_and_then (on_none_of (Some (at_most zero x.0))) (operands op.Naturals x.1))) (member_operands e (naturals op.Naturals))
+    ap (option_and_then (λ x. option_and_then (on_none_of (Some (at_most zero x.0))) (operands op.Naturals x.1))) (member_operands e (number_set op.Naturals))
     ∙ ap (λ x. option_and_then (on_none_of (Some (at_most zero e))) (operands_at op.Naturals x)) (outs-Node op.Naturals [] (ty.Pow ty.Int))
 
-pub positive_law : (e : Formula) → member_of_positive_naturals (member e (naturals op.PositiveNaturals)) ≡ Some (at_most one e)
+pub positive_law : (e : Formula) → member_of_positive_naturals (member e (number_set op.PositiveNaturals)) ≡ Some (at_most one e)
 positive_law e =
-    ap (option_and_then (λ x. option_and_then (on_none_of (Some (at_most one x.0))) (operands op.PositiveNaturals x.1))) (member_operands e (naturals op.PositiveNaturals))
+    ap (option_and_then (λ x. option_and_then (on_none_of (Some (at_most one x.0))) (operands op.PositiveNaturals x.1))) (member_operands e (number_set op.PositiveNaturals))
     ∙ ap (λ x. option_and_then (on_none_of (Some (at_most one e))) (operands_at op.PositiveNaturals x)) (outs-Node op.PositiveNaturals [] (ty.Pow ty.Int))
 
 sum_two : (x y : ℕ) → sum (x ∷ y ∷ []) ≡ x + y
@@ -79,24 +79,24 @@ types-Int : (n : ℤ) → has_types_within 4096 (formula.Int n) ≡ true
 types-Int n = formula_fold (has_types_within_step 4096) (IntF n) (formula.Int n) (rolls-Int n)
 
 -- a comparison of a literal and a member of the natural numbers
-module _ (env : List (List ℕ × Ty)) (o : Op) (c : ℕ) (e : Formula) (h : IsFit env (member e (naturals o))) where
+module _ (env : List (List ℕ × Ty)) (o : Op) (c : ℕ) (e : Formula) (h : IsFit env (member e (number_set o))) where
   abbrev number : Formula
   number = formula.Int (pos c)
 
   abbrev All : List (List ℕ × Ty) → Type 0
   All = AllByRecursion (Stands env)
 
-  parts_well : (list_all (λ f. is_well_in f []) (e ∷ naturals o ∷ []) && fits (row_of op.Member) (type_of e ∷ type_of (naturals o) ∷ []) ty.Truth) ≡ true
-  parts_well = sym (well-Node op.Member (e ∷ naturals o ∷ []) ty.Truth []) ∙ h.0.0.well
+  parts_well : (list_all (λ f. is_well_in f []) (e ∷ number_set o ∷ []) && row_fits (row_of op.Member) (type_of e ∷ type_of (number_set o) ∷ []) ty.Truth) ≡ true
+  parts_well = sym (well-Node op.Member (e ∷ number_set o ∷ []) ty.Truth []) ∙ h.0.0.well
 
   element_well : is_well_in e [] ≡ true
-  element_well = first_true (is_well_in e []) (is_well_in (naturals o) [] && true) (first_true (list_all (λ f. is_well_in f []) (e ∷ naturals o ∷ [])) (fits (row_of op.Member) (type_of e ∷ type_of (naturals o) ∷ []) ty.Truth) parts_well)
+  element_well = first_true (is_well_in e []) (is_well_in (number_set o) [] && true) (first_true (list_all (λ f. is_well_in f []) (e ∷ number_set o ∷ [])) (row_fits (row_of op.Member) (type_of e ∷ type_of (number_set o) ∷ []) ty.Truth) parts_well)
 
-  set_fits : is_set_of (type_of (naturals o)) (type_of e) ≡ true
+  set_fits : is_set_of (type_of (number_set o)) (type_of e) ≡ true
   set_fits =
-      second_true (is_value_type (type_of e)) (is_set_of (type_of (naturals o)) (type_of e))
-      (first_true (is_value_type (type_of e) && is_set_of (type_of (naturals o)) (type_of e)) (is_truth ty.Truth)
-      (second_true (list_all (λ f. is_well_in f []) (e ∷ naturals o ∷ [])) (fits (row_of op.Member) (type_of e ∷ type_of (naturals o) ∷ []) ty.Truth) parts_well))
+      second_true (is_value_type (type_of e)) (is_set_of (type_of (number_set o)) (type_of e))
+      (first_true (is_value_type (type_of e) && is_set_of (type_of (number_set o)) (type_of e)) (is_truth ty.Truth)
+      (second_true (list_all (λ f. is_well_in f []) (e ∷ number_set o ∷ [])) (row_fits (row_of op.Member) (type_of e ∷ type_of (number_set o) ∷ []) ty.Truth) parts_well))
 
   element_type : type_of e ≡ ty.Int
   element_type = sym (same_type_exact ty.Int (type_of e)
@@ -110,9 +110,9 @@ module _ (env : List (List ℕ × Ty)) (o : Op) (c : ℕ) (e : Formula) (h : IsF
 
   element_names : All (identifiers e)
   element_names =
-      all_first (Stands env) (identifiers e) (joined (map identifiers (naturals o ∷ [])))
-      (all_first (Stands env) (joined (map identifiers (e ∷ naturals o ∷ []))) (carriers ty.Truth)
-      (subst All (identifiers-Node op.Member (e ∷ naturals o ∷ []) ty.Truth) h.0.0.names))
+      all_first (Stands env) (identifiers e) (joined (map identifiers (number_set o ∷ [])))
+      (all_first (Stands env) (joined (map identifiers (e ∷ number_set o ∷ []))) (carriers ty.Truth)
+      (subst All (identifiers-Node op.Member (e ∷ number_set o ∷ []) ty.Truth) h.0.0.names))
 
   read_names : All (identifiers (at_most number e))
   read_names =
@@ -124,26 +124,26 @@ module _ (env : List (List ℕ × Ty)) (o : Op) (c : ℕ) (e : Formula) (h : IsF
 
   read_nodes : formula_nodes (at_most number e) ≤ 65536
   read_nodes =
-      let old : formula_nodes (member e (naturals o)) ≡ (formula_nodes e + formula_nodes (naturals o)) + 1 = formula_nodes-Node op.Member (e ∷ naturals o ∷ []) ty.Truth ∙ ap (λ n. n + 1) (sum_two (formula_nodes e) (formula_nodes (naturals o))) in
+      let old : formula_nodes (member e (number_set o)) ≡ (formula_nodes e + formula_nodes (number_set o)) + 1 = formula_nodes-Node op.Member (e ∷ number_set o ∷ []) ty.Truth ∙ ap (λ n. n + 1) (sum_two (formula_nodes e) (formula_nodes (number_set o))) in
       let new : formula_nodes (at_most number e) ≡ (formula_nodes number + formula_nodes e) + 1 = formula_nodes-Node op.LessOrEqual (number ∷ e ∷ []) ty.Truth ∙ ap (λ n. n + 1) (sum_two (formula_nodes number) (formula_nodes e)) in
       let n : formula_nodes number ≡ 1 = nodes-Int (pos c) in
-      let s : formula_nodes (naturals o) ≡ 1 = formula_nodes-Node o [] (ty.Pow ty.Int) in
-      let most : formula_nodes (member e (naturals o)) ≤ 65536 = h.1.0 in
+      let s : formula_nodes (number_set o) ≡ 1 = formula_nodes-Node o [] (ty.Pow ty.Int) in
+      let most : formula_nodes (member e (number_set o)) ≤ 65536 = h.1.0 in
       omega (arith, old, new, n, s, most)
 
   read_height : formula_height (at_most number e) ≤ 4096
   read_height =
-      let old : formula_height (member e (naturals o)) ≡ max (formula_height e) (max (formula_height (naturals o)) 0) + 1 = formula_height-Node op.Member (e ∷ naturals o ∷ []) ty.Truth in
+      let old : formula_height (member e (number_set o)) ≡ max (formula_height e) (max (formula_height (number_set o)) 0) + 1 = formula_height-Node op.Member (e ∷ number_set o ∷ []) ty.Truth in
       let new : formula_height (at_most number e) ≡ max (formula_height number) (max (formula_height e) 0) + 1 = formula_height-Node op.LessOrEqual (number ∷ e ∷ []) ty.Truth in
       let n : formula_height number ≡ 1 = height-Int (pos c) in
-      let s : formula_height (naturals o) ≡ 1 = formula_height-Node o [] (ty.Pow ty.Int) in
-      let most : formula_height (member e (naturals o)) ≤ 4096 = h.1.1 in
+      let s : formula_height (number_set o) ≡ 1 = formula_height-Node o [] (ty.Pow ty.Int) in
+      let most : formula_height (member e (number_set o)) ≤ 4096 = h.1.1 in
       omega (arith, old, new, n, s, most)
 
   read_types : has_types_within 4096 (at_most number e) ≡ true
   read_types =
-      let old : (is_type_within 4096 ty.Truth && (has_types_within 4096 e && (has_types_within 4096 (naturals o) && true))) ≡ true = sym (has_types_within-Node 4096 op.Member (e ∷ naturals o ∷ []) ty.Truth) ∙ h.1.2 in
-      let tail : (has_types_within 4096 e && (has_types_within 4096 (naturals o) && true)) ≡ true = second_true _ _ old in
+      let old : (is_type_within 4096 ty.Truth && (has_types_within 4096 e && (has_types_within 4096 (number_set o) && true))) ≡ true = sym (has_types_within-Node 4096 op.Member (e ∷ number_set o ∷ []) ty.Truth) ∙ h.1.2 in
+      let tail : (has_types_within 4096 e && (has_types_within 4096 (number_set o) && true)) ≡ true = second_true _ _ old in
       has_types_within-Node 4096 op.LessOrEqual (number ∷ e ∷ []) ty.Truth
       ∙ both_true _ _ (first_true _ _ old) (both_true _ _ (types-Int (pos c)) (both_true _ _ (first_true _ _ tail) refl))
 
@@ -159,7 +159,7 @@ pub record ReadsBy (env : List (List ℕ × Ty)) (law : ℕ) (f g : Formula) : T
 abbrev pub Reading : List (List ℕ × Ty) → ℕ → Formula → Formula → Type 0
 Reading env law f g = ((law ≡ 0) × (g ≡ f)) ⊎ ((law ≢ 0) × ReadsBy env law f g)
 
-by_naturals : (env : List (List ℕ × Ty)) (f e : Formula) → IsFit env f → f ≡ member e (naturals op.Naturals) → ReadsBy env 61 f (at_most zero e)
+by_naturals : (env : List (List ℕ × Ty)) (f e : Formula) → IsFit env f → f ≡ member e (number_set op.Naturals) → ReadsBy env 61 f (at_most zero e)
 by_naturals env f e h is =
     let right : member_of_naturals f ≡ Some (at_most zero e) = ap member_of_naturals is ∙ naturals_law e in
     record {
@@ -168,7 +168,7 @@ by_naturals env f e h is =
       fits = read_fits env op.Naturals 0 e (subst (IsFit env) is h);
     }
 
-by_positive : (env : List (List ℕ × Ty)) (f e : Formula) → IsFit env f → f ≡ member e (naturals op.PositiveNaturals) → ReadsBy env 62 f (at_most one e)
+by_positive : (env : List (List ℕ × Ty)) (f e : Formula) → IsFit env f → f ≡ member e (number_set op.PositiveNaturals) → ReadsBy env 62 f (at_most one e)
 by_positive env f e h is =
     let right : member_of_positive_naturals f ≡ Some (at_most one e) = ap member_of_positive_naturals is ∙ positive_law e in
     record {

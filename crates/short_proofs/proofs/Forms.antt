@@ -16,7 +16,7 @@ use Rattle.formula_core.specs.Identifiers.{identifiers}
 use Rattle.formula_core.specs.Rows.{row_of}
 use Rattle.formula_core.specs.Same.{same_formula}
 use Rattle.formula_core.specs.Sizes.{IsWithinLimits, formula_nodes, formula_height, has_types_within, is_type_within, type_nodes, type_nodes_step}
-use Rattle.formula_core.specs.TypeTable.{fits}
+use Rattle.formula_core.specs.TypeTable.{row_fits}
 use Rattle.formula_core.specs.Typed.{Stands, IsPredicateIn}
 use Rattle.formula_core.specs.WholeSets.{whole_set}
 use Rattle.formula_core.specs.Wellness.{type_of}
@@ -29,7 +29,7 @@ use Rattle.well_defined.proofs.Types.{type-Node, truth}
 use Rattle.rule_table.specs.declared.kind.RuleKind.TheVariants as kind
 use Rattle.rule_table.specs.declared.rule.Antecedent.{Antecedent}
 use Rattle.rule_table.specs.declared.rule.Body.{Body}
-use Rattle.rule_table.specs.Linear.{is_among}
+use Rattle.rule_table.specs.Linear.{is_formula_among}
 use Rattle.rule_table.specs.Rows.{backward, forward, both, proves, adds, eq_refl, IsInstance}
 use Rattle.rule_table.specs.Rules.{IsSound}
 use Rattle.rule_table.specs.SetLaws.{member_of_whole}
@@ -39,12 +39,12 @@ use Rattle.sequent_core.specs.declared.tree.Tree.TheVariants.{Node}
 use Rattle.sequent_core.specs.Sequents.{IsSequent}
 use Rattle.sequent_core.specs.Trees.{extended}
 use Rattle.short_proofs.specs.Private.{rule_of}
-use Rattle.short_proofs.specs.Sure.{IsSmall, is_reflexive}
+use Rattle.short_proofs.specs.Sure.{IsSmallSequent, is_reflexive}
 use Rattle.short_proofs.proofs.Plain.{IsFit, is_sound, is_rule_of, meets, no_names}
 use Rattle.short_proofs.proofs.Trees.{FitsPlainly, IsProofOf, proof_alone, proof_above, extended_env}
 
 -- a formula among others is one of them
-pub among : (fs : List Formula) (f : Formula) → is_among fs f ≡ true → Contains fs f
+pub among : (fs : List Formula) (f : Formula) → is_formula_among fs f ≡ true → Contains fs f
 among fs f h = Contains-from_any {eq = λ q g. same_formula g q} (λ x y e. sym (same_formula_exact y x e)) f fs h
 
 module _ {X : Type 0} (P : X → Type 0) where
@@ -60,7 +60,7 @@ type_nodes-Truth : type_nodes ty.Truth ≡ 1
 type_nodes-Truth = type_fold type_nodes_step TruthF ty.Truth rolls-Truth
 
 -- ⊤ and ⊥ are predicates everywhere
-pub constant_fits : (env : List (List ℕ × Ty)) (o : Op) → fits (row_of o) [] ty.Truth ≡ true → IsFit env (predicate o [])
+pub constant_fits : (env : List (List ℕ × Ty)) (o : Op) → row_fits (row_of o) [] ty.Truth ≡ true → IsFit env (predicate o [])
 constant_fits env o fit = (
   (
     record {
@@ -109,7 +109,7 @@ whole_is_top g h = go (two_operands op.Member g) h
     go None k = cc
     go (Some p) k = chosen (same_formula p.1 (whole_set (type_of p.0))) k
 
-module _ (s : Sequent) (is : IsSequent s) (small : IsSmall s) where
+module _ (s : Sequent) (is : IsSequent s) (small : IsSmallSequent s) where
   pub goal_fits : IsFit s.env s.goal
   goal_fits = (is.goal, small.goal)
 
@@ -143,7 +143,7 @@ module _ (s : Sequent) (is : IsSequent s) (small : IsSmall s) where
   pub bottom_sound : IsSound kind.Bot (forward (bottom ∷ []) [])
   bottom_sound = is_sound s kind.Bot (forward (bottom ∷ []) []) (bottom_fits s.env, tt) (bottom_fits s.env, tt) refl tt
 
-  pub bottom_proof : is_among s.hyps bottom ≡ true → IsProofOf 1 (Node (rule_of kind.Bot (forward (bottom ∷ []) [])) []) s
+  pub bottom_proof : is_formula_among s.hyps bottom ≡ true → IsProofOf 1 (Node (rule_of kind.Bot (forward (bottom ∷ []) [])) []) s
   bottom_proof h =
       let fit : AllByRecursion (IsFit s.env) (bottom ∷ []) = (bottom_fits s.env, tt) in
       proof_alone (rule_of kind.Bot (forward (bottom ∷ []) [])) s
@@ -158,7 +158,7 @@ module _ (s : Sequent) (is : IsSequent s) (small : IsSmall s) where
   pub hyp_sound : IsSound kind.Hyp (both s.goal (s.goal ∷ []) [])
   hyp_sound = is_sound s kind.Hyp (both s.goal (s.goal ∷ []) []) (goal_fits, (goal_fits, tt)) (goal_fits, (goal_fits, tt)) refl tt
 
-  pub hyp_proof : is_among s.hyps s.goal ≡ true → IsProofOf 1 (Node (rule_of kind.Hyp (both s.goal (s.goal ∷ []) [])) []) s
+  pub hyp_proof : is_formula_among s.hyps s.goal ≡ true → IsProofOf 1 (Node (rule_of kind.Hyp (both s.goal (s.goal ∷ []) [])) []) s
   hyp_proof h =
       let fit : AllByRecursion (IsFit s.env) (s.goal ∷ s.goal ∷ []) = (goal_fits, (goal_fits, tt)) in
       proof_alone (rule_of kind.Hyp (both s.goal (s.goal ∷ []) [])) s

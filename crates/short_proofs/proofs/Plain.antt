@@ -13,7 +13,7 @@ use Rattle.formula_core.specs.Wellness.{type_of}
 use Rattle.rule_table.specs.declared.kind.RuleKind.{RuleKind}
 use Rattle.rule_table.specs.declared.rule.Body.{Body}
 use Rattle.rule_table.specs.Rows.{IsInstance}
-use Rattle.rule_table.specs.Rules.{added_by, formulas_of, in_order, is_named, names_in, needed_formulas, used_of, IsAllowed, IsRule, IsSound}
+use Rattle.rule_table.specs.Rules.{added_by, formulas_of, sorted_by_name, is_named, names_in, needed_formulas, used_of, IsAllowed, IsRule, IsSound}
 use Rattle.rule_table.proofs.InOrder.{all_in_order, each_in_order, filter_added}
 use Rattle.sequent_core.specs.declared.sequent.Sequent.{Sequent}
 use Rattle.sequent_core.specs.Trees.{Meets}
@@ -59,8 +59,8 @@ module _ (s : Sequent) (k : RuleKind) (b : Body)
 
   used_stand : AllByRecursion (Stands s.env) (used_of k b)
   used_stand =
-      subst (λ added. AllByRecursion (Stands s.env) (in_order (filter (λ x. not (is_named added x.0)) names))) (sym none)
-      (subst (λ ns. AllByRecursion (Stands s.env) (in_order ns)) (sym (filter_added names))
+      subst (λ added. AllByRecursion (Stands s.env) (sorted_by_name (filter (λ x. not (is_named added x.0)) names))) (sym none)
+      (subst (λ ns. AllByRecursion (Stands s.env) (sorted_by_name ns)) (sym (filter_added names))
       (all_in_order (Stands s.env) names (names_stand s.env (formulas_of k b) fits)))
 
   pub is_rule_of : IsInstance k b → IsRule (rule_of k b)

@@ -15,7 +15,7 @@ use Rattle.sequent_core.specs.declared.tree.Tree.TheVariants.{Node}
 use Rattle.sequent_core.specs.Sequents.{IsSequent}
 use Rattle.short_proofs.specs.Private.{below_goal, below_hyp, law_of_reading, linear_tree, linear_tree_if, rule_of}
 use Rattle.short_proofs.specs.Short.{IsShortProof}
-use Rattle.short_proofs.specs.Sure.{as_comparison, is_linear_step, IsSmall}
+use Rattle.short_proofs.specs.Sure.{as_comparison, is_linear_step, IsSmallSequent}
 use Rattle.short_proofs.proofs.Built.{tree_alone}
 use Rattle.short_proofs.proofs.Forms.{goal_fits, hyp_fits}
 use Rattle.short_proofs.proofs.Sums.{fits_read, goal_sound, hyp_sound, nothing_short, one_short, read_fits_goal, sum_sound}
@@ -72,7 +72,7 @@ mapped true t f o u e s = (refl, cc)
 mapped false t f o u e s = cc
 
 -- what the code builds without a hypothesis, and with one
-module _ (s : Sequent) (is : IsSequent s) (small : IsSmall s) where
+module _ (s : Sequent) (is : IsSequent s) (small : IsSmallSequent s) where
   pub nothing_sound : (ks : List ℤ) (g : Formula) → g ≡ as_comparison s.goal → IsSound (kind.Linear ks) (both g [] [])
   nothing_sound ks g e =
       let fit = read_fits_goal s is small in

@@ -17,7 +17,7 @@ use Rattle.sequent_core.specs.Sequents.{IsSequent}
 use Rattle.sequent_core.specs.Trees.{extended}
 use Rattle.short_proofs.specs.Private.{below_goal, below_hyp, law_of_reading, linear_tree, rule_of}
 use Rattle.short_proofs.specs.Short.{IsShortProof}
-use Rattle.short_proofs.specs.Sure.{as_comparison, is_linear_step, IsSmall}
+use Rattle.short_proofs.specs.Sure.{as_comparison, is_linear_step, IsSmallSequent}
 use Rattle.short_proofs.proofs.Comparisons.{Reading, ReadsBy, reading}
 use Rattle.short_proofs.proofs.Forms.{goal_fits, hyp_fits}
 use Rattle.short_proofs.proofs.Plain.{IsFit, is_sound, is_rule_of, meets, no_names}
@@ -146,7 +146,7 @@ fits_read env f h = go (law_of_reading f) (as_comparison f) (reading env f h)
     go law r (inr e) = e.1.fits
 
 -- the whole trees
-module _ (s : Sequent) (is : IsSequent s) (small : IsSmall s) where
+module _ (s : Sequent) (is : IsSequent s) (small : IsSmallSequent s) where
   abbrev read : Formula
   read = as_comparison s.goal
 

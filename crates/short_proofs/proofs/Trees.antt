@@ -17,10 +17,10 @@ use Rattle.sequent_core.specs.declared.tree.Tree.TheFolds.{fold-roll-Tree}
 use Rattle.sequent_core.specs.PrivateChildren.{EachApplies}
 use Rattle.sequent_core.specs.Trees.{extended, Meets, IsFresh, Applies, Derives, is_closed, is_reviewed, node_count, rule_count}
 use Rattle.sequent_core.proofs.Nodes.{node_applies, closed-Node, reviewed-Node, node_count-Node, rule_count-Node}
-use Rattle.short_proofs.specs.Short.{is_plain, is_plain_step, takes_no_formula, IsShortProof}
+use Rattle.short_proofs.specs.Short.{is_plain_tree, is_plain_step, takes_no_formula, IsShortProof}
 
-plain-Node : (r : Rule) (trees : List Tree) → is_plain (Node r trees) ≡ (takes_no_formula r.kind && list_all (λ plain. plain) (map is_plain trees))
-plain-Node r trees = ap is_plain (sym (rolls-Node r trees)) ∙ fold-roll-Tree Bool is_plain_step (NodeF r trees)
+plain-Node : (r : Rule) (trees : List Tree) → is_plain_tree (Node r trees) ≡ (takes_no_formula r.kind && list_all (λ plain. plain) (map is_plain_tree trees))
+plain-Node r trees = ap is_plain_tree (sym (rolls-Node r trees)) ∙ fold-roll-Tree Bool is_plain_step (NodeF r trees)
 
 sum_one : (x : ℕ) → sum (x ∷ []) ≡ x
 sum_one x = let first = sum_by-cons (λ n. n) x [] in omega (arith, first)
@@ -30,7 +30,7 @@ pub record IsProofOf (n : ℕ) (tree : Tree) (s : Sequent) : Type 0 where
   pub derives : Derives tree s
   pub nodes : node_count tree ≡ n
   pub rules : rule_count tree ≡ n
-  pub plain : IsTrue (is_plain tree)
+  pub plain : IsTrue (is_plain_tree tree)
 
 pub is_short : (n : ℕ) (tree : Tree) (s : Sequent) → n ≤ 8 → IsProofOf n tree s → IsShortProof tree s
 is_short n tree s le h = record { derives = h.derives; nodes = subst (λ k. k ≤ 8) (sym h.nodes) le; rules = subst (λ k. k ≤ 8) (sym h.rules) le; plain = h.plain }

@@ -24,15 +24,15 @@ is_plain_step Leaf = true
 is_plain_step (Node r children) = takes_no_formula r.kind && list_all (λ plain. plain) children
 
 -- whether no rule of the tree is allL, exR, cut or cases
-abbrev pub is_plain : Tree → Bool
-is_plain = fold-Tree Bool is_plain_step
+abbrev pub is_plain_tree : Tree → Bool
+is_plain_tree = fold-Tree Bool is_plain_step
 
 -- a proof of at most 8 rules, none of which is allL, exR, cut or cases
 pub record IsShortProof (tree : Tree) (s : Sequent) : Type 0 where
   pub derives : Derives tree s
   pub nodes : node_count tree ≤ 8
   pub rules : rule_count tree ≤ 8
-  pub plain : IsTrue (is_plain tree)
+  pub plain : IsTrue (is_plain_tree tree)
 
 -- a short proof, if one was found
 abbrev pub IsShortIfFound : Attempt → Sequent → Type 0

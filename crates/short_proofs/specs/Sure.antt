@@ -10,13 +10,13 @@ use Rattle.formula_core.specs.declared.Formula.TheVariants as formula
 use Rattle.formula_core.specs.Same.{same_formula}
 use Rattle.formula_core.specs.Sizes.{IsWithinLimits}
 use Rattle.well_defined.specs.Predicates.{at_most, member, top, zero}
-use Rattle.rule_table.specs.Linear.{has_linear_form, is_among, is_positive_constant, linear_sum}
+use Rattle.rule_table.specs.Linear.{has_linear_form, is_formula_among, is_positive_constant, linear_sum}
 use Rattle.rule_table.specs.SetLaws.{member_of_whole}
 use Rattle.rule_table.specs.Shapes.{bottom, equal, one, two_operands}
 use Rattle.sequent_core.specs.declared.sequent.Sequent.{Sequent}
 
 -- no formula of it and no type in one passes the limits of a rule's formulas
-pub record IsSmall (s : Sequent) : Type 0 where
+pub record IsSmallSequent (s : Sequent) : Type 0 where
   pub hyps : AllByRecursion IsWithinLimits s.hyps
   pub goal : IsWithinLimits s.goal
 
@@ -27,17 +27,17 @@ is_reflexive g = option_map_or (λ p. same_formula g (equal p.0 p.0)) (two_opera
 -- the goal is ⊤, ⊥ is a hypothesis, the goal is a hypothesis, or it is E = E, or E ∈ T with T the whole set of E's type
 abbrev pub follows_by_logic : Sequent → Bool
 follows_by_logic s =
-    same_formula s.goal top || is_among s.hyps bottom || is_among s.hyps s.goal || is_reflexive s.goal
+    same_formula s.goal top || is_formula_among s.hyps bottom || is_formula_among s.hyps s.goal || is_reflexive s.goal
     || is_some (member_of_whole s.goal)
 
 -- ℕ or ℕ1
-abbrev pub naturals : Op → Formula
-naturals o = formula.Node o [] (ty.Pow ty.Int)
+abbrev pub number_set : Op → Formula
+number_set o = formula.Node o [] (ty.Pow ty.Int)
 
 -- E, where a formula is E ∈ ℕ, or E ∈ ℕ1
 abbrev pub natural_in : Op → Formula → Option Formula
 natural_in o f =
-    option_and_then (λ p. if same_formula f (member p.0 (naturals o)) then Some p.0 else None) (two_operands op.Member f)
+    option_and_then (λ p. if same_formula f (member p.0 (number_set o)) then Some p.0 else None) (two_operands op.Member f)
 
 -- E ∈ ℕ read as 0 ≤ E, E ∈ ℕ1 as 1 ≤ E, and every other formula as itself
 abbrev pub as_comparison : Formula → Formula
@@ -62,9 +62,9 @@ follows_linearly s =
 
 -- the sequents that are surely proved by logic, and those that are by arithmetic
 pub record IsSureByLogic (s : Sequent) : Type 0 where
-  pub small : IsSmall s
+  pub small : IsSmallSequent s
   pub follows : IsTrue (follows_by_logic s)
 
 pub record IsSureByArithmetic (s : Sequent) : Type 0 where
-  pub small : IsSmall s
+  pub small : IsSmallSequent s
   pub follows : IsTrue (follows_linearly s)

@@ -8,7 +8,7 @@ ghost use Rattle.rule_table.specs.Rules.{IsSound};
 ghost use Rattle.sequent_core.specs.Sequents.{IsSequent};
 ghost use Rattle.short_proofs.specs.Private.{below_goal, below_hyp, law_of_reading, linear_tree_if};
 ghost use Rattle.short_proofs.specs.Short.{IsShortProof};
-ghost use Rattle.short_proofs.specs.Sure.{IsSmall, IsSureByArithmetic, as_comparison, follows_from, is_linear_step};
+ghost use Rattle.short_proofs.specs.Sure.{IsSmallSequent, IsSureByArithmetic, as_comparison, follows_from, is_linear_step};
 
 use crate::reading::{Reading, read};
 use crate::rules::{above, alone, goal_by_law, hyp_by_law, rule_of};
@@ -37,7 +37,7 @@ pub fn proof_by_arithmetic(alloc: Global, sequent: &Sequent) -> Result<Option<Tr
 /// A proof in which no hypothesis is used.
 fn from_nothing(alloc: Global, sequent: &Sequent) -> Result<Option<Tree>, OutOfMemory>
     requires sequent { IsSequent sequent.now }
-    requires small { IsSmall sequent.now }
+    requires small { IsSmallSequent sequent.now }
     ensures sure { IfOk result (λ o. IsSome o ↔ IsTrue (is_linear_step [] [] (as_comparison sequent.now.goal))) }
     ensures short { IfOk result (λ o. IfSome o (λ tree. IsShortProof tree sequent.now)) }
 {
@@ -51,7 +51,7 @@ fn from_nothing(alloc: Global, sequent: &Sequent) -> Result<Option<Tree>, OutOfM
 /// A proof in which one hypothesis is used.
 fn from_any(alloc: Global, sequent: &Sequent) -> Result<Option<Tree>, OutOfMemory>
     requires sequent { IsSequent sequent.now }
-    requires small { IsSmall sequent.now }
+    requires small { IsSmallSequent sequent.now }
     ensures sure { IfOk result (λ o. IsSome o
         ↔ IsTrue (list_any (λ h. follows_from (as_comparison sequent.now.goal) (as_comparison h)) sequent.now.hyps)) }
     ensures short { IfOk result (λ o. IfSome o (λ tree. IsShortProof tree sequent.now)) }
@@ -71,7 +71,7 @@ fn from_hypothesis(
     hyp: &Formula,
 ) -> Result<Option<Tree>, OutOfMemory>
     requires sequent { IsSequent sequent.now }
-    requires small { IsSmall sequent.now }
+    requires small { IsSmallSequent sequent.now }
     requires among { Contains sequent.now.hyps hyp.now }
     ensures sure { IfOk result (λ o.
         IsSome o ↔ IsTrue (follows_from (as_comparison sequent.now.goal) (as_comparison hyp.now))) }
@@ -91,7 +91,7 @@ fn from_multiple(
     multiplier: i128,
 ) -> Result<Option<Tree>, OutOfMemory>
     requires sequent { IsSequent sequent.now }
-    requires small { IsSmall sequent.now }
+    requires small { IsSmallSequent sequent.now }
     requires among { Contains sequent.now.hyps hyp.now }
     ensures sure { IfOk result (λ o. IsSome o
         ↔ IsTrue (is_linear_step (multiplier ∷ []) (as_comparison hyp.now ∷ []) (as_comparison sequent.now.goal))) }

@@ -3,12 +3,12 @@ ghost use Rattle.std.specs.Prelude.{◌≡◌, ◌↔◌, IsTrue, IsSome, IfOk, 
 ghost use Rattle.formula_core.specs.Same.{same_formula};
 ghost use Rattle.well_defined.specs.Predicates.{top};
 ghost use Rattle.rule_table.specs.SetLaws.{member_of_whole};
-ghost use Rattle.rule_table.specs.Linear.{is_among};
+ghost use Rattle.rule_table.specs.Linear.{is_formula_among};
 ghost use Rattle.rule_table.specs.Shapes.{bottom};
 ghost use Rattle.sequent_core.specs.Sequents.{IsSequent};
 ghost use Rattle.short_proofs.specs.Private.{truth};
 ghost use Rattle.short_proofs.specs.Short.{IsShortProof};
-ghost use Rattle.short_proofs.specs.Sure.{IsSmall, IsSureByLogic, is_reflexive};
+ghost use Rattle.short_proofs.specs.Sure.{IsSmallSequent, IsSureByLogic, is_reflexive};
 
 use crate::rules::{above, alone, goal_by_law, rule_of};
 use crate::tests::{bottom, is_among, is_reflexive, is_small};
@@ -50,7 +50,7 @@ pub fn proof_by_logic(alloc: Global, sequent: &Sequent) -> Result<Option<Tree>, 
 
 fn by_top(alloc: Global, sequent: &Sequent) -> Result<Tree, OutOfMemory>
     requires sequent { IsSequent sequent.now }
-    requires small { IsSmall sequent.now }
+    requires small { IsSmallSequent sequent.now }
     requires form { IsTrue (same_formula sequent.now.goal top) }
     ensures short { IfOk result (λ tree. IsShortProof tree sequent.now) }
 {
@@ -61,8 +61,8 @@ fn by_top(alloc: Global, sequent: &Sequent) -> Result<Tree, OutOfMemory>
 
 fn by_bottom(alloc: Global, sequent: &Sequent) -> Result<Tree, OutOfMemory>
     requires sequent { IsSequent sequent.now }
-    requires small { IsSmall sequent.now }
-    requires form { IsTrue (is_among sequent.now.hyps bottom) }
+    requires small { IsSmallSequent sequent.now }
+    requires form { IsTrue (is_formula_among sequent.now.hyps bottom) }
     ensures short { IfOk result (λ tree. IsShortProof tree sequent.now) }
 {
     let hyps = one(alloc, bottom(alloc))?;
@@ -73,8 +73,8 @@ fn by_bottom(alloc: Global, sequent: &Sequent) -> Result<Tree, OutOfMemory>
 
 fn by_hypothesis(alloc: Global, sequent: &Sequent) -> Result<Tree, OutOfMemory>
     requires sequent { IsSequent sequent.now }
-    requires small { IsSmall sequent.now }
-    requires form { IsTrue (is_among sequent.now.hyps sequent.now.goal) }
+    requires small { IsSmallSequent sequent.now }
+    requires form { IsTrue (is_formula_among sequent.now.hyps sequent.now.goal) }
     ensures short { IfOk result (λ tree. IsShortProof tree sequent.now) }
 {
     let hyps = one(alloc, sequent.goal.copy(alloc)?)?;
@@ -85,7 +85,7 @@ fn by_hypothesis(alloc: Global, sequent: &Sequent) -> Result<Tree, OutOfMemory>
 
 fn by_reflexivity(alloc: Global, sequent: &Sequent) -> Result<Tree, OutOfMemory>
     requires sequent { IsSequent sequent.now }
-    requires small { IsSmall sequent.now }
+    requires small { IsSmallSequent sequent.now }
     requires form { IsTrue (is_reflexive sequent.now.goal) }
     ensures short { IfOk result (λ tree. IsShortProof tree sequent.now) }
 {
@@ -96,7 +96,7 @@ fn by_reflexivity(alloc: Global, sequent: &Sequent) -> Result<Tree, OutOfMemory>
 
 fn by_whole(alloc: Global, sequent: &Sequent) -> Result<Tree, OutOfMemory>
     requires sequent { IsSequent sequent.now }
-    requires small { IsSmall sequent.now }
+    requires small { IsSmallSequent sequent.now }
     requires form { IsTrue (is_some (member_of_whole sequent.now.goal)) }
     ensures short { IfOk result (λ tree. IsShortProof tree sequent.now) }
 {

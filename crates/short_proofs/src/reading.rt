@@ -2,7 +2,7 @@
 ghost use Rattle.std.specs.Prelude.{◌≡◌, IfOk};
 ghost use Rattle.std.specs.Option.{option_copied};
 ghost use Rattle.short_proofs.specs.Private.{law_of_reading};
-ghost use Rattle.short_proofs.specs.Sure.{as_comparison, natural_in, naturals};
+ghost use Rattle.short_proofs.specs.Sure.{as_comparison, natural_in, number_set};
 
 use formula_core::{Boxed, Formula, List, Op, OutOfMemory, Ty};
 use rule_table::{binary, predicate, two_operands};
@@ -10,7 +10,7 @@ use std::alloc::Global;
 
 /// `ℕ` or `ℕ1`
 fn naturals(alloc: Global, op: Op) -> Result<Formula, OutOfMemory>
-    ensures { IfOk result (λ f. f ≡ naturals op) }
+    ensures { IfOk result (λ f. f ≡ number_set op) }
 {
     let ty = Ty::Pow(Boxed::new(alloc, Ty::Int)?);
     Ok(Formula::Node(op, List::of(Vec::new(alloc)), ty))

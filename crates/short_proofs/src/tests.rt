@@ -2,9 +2,9 @@
 ghost use Rattle.std.specs.Prelude.{◌≡◌, ◌↔◌, IsTrue, IfOk};
 ghost use Rattle.std.specs.List.{AllByRecursion};
 ghost use Rattle.formula_core.specs.Sizes.{IsWithinLimits};
-ghost use Rattle.rule_table.specs.Linear.{is_among};
+ghost use Rattle.rule_table.specs.Linear.{is_formula_among};
 ghost use Rattle.rule_table.specs.Shapes.{bottom};
-ghost use Rattle.short_proofs.specs.Sure.{IsSmall, is_reflexive};
+ghost use Rattle.short_proofs.specs.Sure.{IsSmallSequent, is_reflexive};
 
 use formula_core::{Formula, List, Op, OutOfMemory, Ty};
 use rule_table::{predicate, two_operands};
@@ -13,7 +13,7 @@ use std::alloc::Global;
 
 /// Whether no formula passes the limits.
 pub(crate) fn is_small(sequent: &Sequent) -> bool
-    ensures { IsTrue result ↔ IsSmall sequent.now }
+    ensures { IsTrue result ↔ IsSmallSequent sequent.now }
 {
     sequent.goal.is_within_limits() && are_small(sequent.hyps.items())
 }
@@ -31,7 +31,7 @@ fn are_small(formulas: &[Formula]) -> bool
 
 /// Whether a formula is one of these.
 pub(crate) fn is_among(formulas: &[Formula], f: &Formula) -> bool
-    ensures { result ≡ is_among formulas.now f.now }
+    ensures { result ≡ is_formula_among formulas.now f.now }
 {
     for formula in formulas {
         if formula.same(f) {

@@ -16,7 +16,7 @@ use Rattle.std.proofs.lemmas.Slice.Eq.{bytes_eq-Decides}
 use Rattle.model_core.specs.declared.component.RawComponent.{RawComponent}
 use Rattle.model_core.proofs.Firsts.{taken_more}
 use Rattle.static_check.specs.declared.sorting.Waiting.{Waiting}
-use Rattle.static_check.specs.Settling.{own_name, has}
+use Rattle.static_check.specs.Settling.{own_name, has_component}
 use Rattle.static_check.specs.PrivateSorting.{Waiters, Sorts, component_of, waiting_for, waiters, is_open, and_waits, all_open}
 
 abbrev Open : Type 0
@@ -51,7 +51,7 @@ opened : (before : List RawComponent) (c : RawComponent) (w v : Waiters) (name :
     ((x : List ℕ) → v x ≡ cond (bytes_eq x name) none_waits (w x)) → (x : List ℕ) → v x ≡ all_open (before ++ c ∷ []) x
 opened before c w v name is there after x =
     after x ∙ (λ j. cond (bytes_eq x (is j)) none_waits (there x j))
-    ∙ open_more (has before x) (bytes_eq x (own_name c))
+    ∙ open_more (has_component before x) (bytes_eq x (own_name c))
     ∙ ap (λ b. cond b none_waits None) (sym (list_any-append (λ d. bytes_eq x (own_name d)) before (c ∷ [])))
 
 -- one name of a component more is open

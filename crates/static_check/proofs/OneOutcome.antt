@@ -20,9 +20,9 @@ use Rattle.model_core.specs.declared.checked.Labelled.{Labelled}
 use Rattle.model_core.specs.Faults.{first_by_place}
 use Rattle.check_rules.specs.Visible.{Visible, nothing, seen_from}
 use Rattle.check_rules.specs.Typed.{Entries, AreTyped, AreTypedActions, IsTypedVariant, never_typed}
-use Rattle.check_rules.specs.Contexts.{Outcome, names_of, unless, context_env, context_of, context_declarations, ChecksAxioms, ChecksContext}
-use Rattle.check_rules.specs.Events.{event_env, witness_env, event_of, IsTypedEvent, AreTypedEvents}
-use Rattle.check_rules.specs.Machines.{Written, abstract_events, abstract_view, all_variables, new_variables, machine_env, machine_of, machine_declarations, machine_assignments, machine_refinements, IsTypedMachine, ChecksFormulas, ChecksMachine}
+use Rattle.check_rules.specs.Contexts.{Outcome, names_of, unless, context_env, checked_context_of, context_declarations, ChecksAxioms, ChecksContext}
+use Rattle.check_rules.specs.Events.{event_env, witness_env, checked_event_of, IsTypedEvent, AreTypedEvents}
+use Rattle.check_rules.specs.Machines.{Written, abstract_events, abstract_view, all_variables, new_variables, machine_env, checked_machine_of, machine_declarations, machine_assignments, machine_refinements, IsTypedMachine, ChecksFormulas, ChecksMachine}
 use Rattle.check_rules.specs.Components.{ChecksBeside, contexts_in, first_machine_in}
 use Rattle.static_check.proofs.OneWay.{typed_one_way, actions_one_way, mistyped_one, not_mistyped}
 
@@ -39,14 +39,14 @@ abbrev Typings : Type 0
 Typings = List Labelled × List Fault × Entries
 
 abbrev axioms_give : List ℕ → List Ref → List Ref → Visible → Outcome → Typings → Type 0
-axioms_give name sets constants v outcome x = unless (x.1 ++ never_typed name x.2 constants) (Context (context_of name (sets ++ constants) v x.0 x.2)) outcome
+axioms_give name sets constants v outcome x = unless (x.1 ++ never_typed name x.2 constants) (Context (checked_context_of name (sets ++ constants) v x.0 x.2)) outcome
 
 axioms_one : (name : List ℕ) (sets constants : List Ref) (axioms : List RawLabelled) (v : Visible) (one two : Outcome) →
     ChecksAxioms name sets constants axioms v one → ChecksAxioms name sets constants axioms v two → one ≡ two
 axioms_one name sets constants axioms v one two a b =
     let same = typed_one_way name (context_env sets v) (names_of constants) axioms b.0 a.0 b.1 a.1 b.2 a.2 b.3 a.3 in
     let path : (b.0, b.1, b.2) ≡ (a.0, a.1, a.2) = λ i. (same.0 i, same.1 i, same.2 i) in
-    unless_one (a.1 ++ never_typed name a.2 constants) (Context (context_of name (sets ++ constants) v a.0 a.2)) one two a.4
+    unless_one (a.1 ++ never_typed name a.2 constants) (Context (checked_context_of name (sets ++ constants) v a.0 a.2)) one two a.4
     (subst (axioms_give name sets constants v two) path b.4)
 
 pub context_one : (name : List ℕ) (extends sets constants : List Ref) (axioms : List RawLabelled) (parents : List CheckedContext) (one two : Outcome) →
@@ -77,7 +77,7 @@ event_one component m variables env e t u f g a b =
     let witnesses = typed_one_way component (witness_env m e variables env a.2) [] e.witnesses a.4 b.4 a.5 b.5 a.6 b.6 a.7
     (subst (λ n. AreTyped component (witness_env m e variables env n) [] e.witnesses b.4 b.5 b.6) (sym guards.2) b.7) in
     let actions = actions_one_way component a.2 e.actions a.8 b.8 a.9 b.9 a.10 (subst (λ n. AreTypedActions component n e.actions b.8 b.9) (sym guards.2) b.10) in (
-      a.11 ∙ (λ i. event_of m e (guards.2 i) (guards.0 i) (witnesses.0 i) (actions.0 i)) ∙ sym b.11,
+      a.11 ∙ (λ i. checked_event_of m e (guards.2 i) (guards.0 i) (witnesses.0 i) (actions.0 i)) ∙ sym b.11,
       a.12 ∙ (λ i. guards.1 i ++ never_typed component (guards.2 i) e.params ++ witnesses.1 i ++ actions.1 i) ∙ sym b.12,
     )
 
@@ -97,7 +97,7 @@ machine_typed_one m w v t u f g a b =
     let variant = variant_one name a.2 w.variant a.4 b.4 a.5 b.5 a.6 (subst (λ n. IsTypedVariant name n w.variant b.4 b.5) (sym invariants.2) b.6) in
     let events = events_one name (abstract_events m) (all_variables m w) a.2 w.events a.7 b.7 a.8 b.8 a.9
     (subst (λ n. AreTypedEvents name (abstract_events m) (all_variables m w) n w.events b.7 b.8) (sym invariants.2) b.9) in (
-      a.10 ∙ (λ i. machine_of m w v (invariants.2 i) (invariants.0 i) (variant.0 i) (events.0 i)) ∙ sym b.10,
+      a.10 ∙ (λ i. checked_machine_of m w v (invariants.2 i) (invariants.0 i) (variant.0 i) (events.0 i)) ∙ sym b.10,
       a.11 ∙ (λ i. invariants.1 i ++ never_typed name (invariants.2 i) w.variables ++ variant.1 i ++ events.1 i) ∙ sym b.11,
     )
 

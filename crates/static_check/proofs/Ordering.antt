@@ -10,11 +10,11 @@ use Rattle.formula_core.specs.declared.raw.Ref.{Ref}
 use Rattle.model_core.specs.declared.component.RawComponent.{RawComponent}
 use Rattle.model_core.specs.Each.{is_among}
 use Rattle.static_check.specs.declared.settled.Order.{Order}
-use Rattle.static_check.specs.Settling.{own_name, references, has, IfPresent, IsSettledBy, IsSettled, ReferencesFirst, IsComponentOrder}
+use Rattle.static_check.specs.Settling.{own_name, references, has_component, IfPresent, IsSettledAmong, IsSettled, ReferencesFirst, IsComponentOrder}
 
 -- each of these references is among the sorted names or absent
 abbrev pub are_ready : List RawComponent → List (List ℕ) → List Ref → Bool
-are_ready components sorted refs = list_all (λ r. is_among sorted r.name || not (has components r.name)) refs
+are_ready components sorted refs = list_all (λ r. is_among sorted r.name || not (has_component components r.name)) refs
 
 abbrev pub is_ready : List RawComponent → List (List ℕ) → RawComponent → Bool
 is_ready components sorted c = are_ready components sorted (references c)
@@ -30,7 +30,7 @@ left_out components sorted = filter (λ n. not (is_among sorted n)) (map own_nam
 pub record IsPartOfOrder (components : List RawComponent) (sorted : List (List ℕ)) : Type 0 where
   pub first : ReferencesFirst components [] sorted
   pub once : IsDistinct bytes_eq sorted
-  pub settled : (name : List ℕ) → is_among sorted name ≡ true → IsSettledBy components (length sorted) name
+  pub settled : (name : List ℕ) → is_among sorted name ≡ true → IsSettledAmong components (length sorted) name
 
 pub nothing_sorted : (components : List RawComponent) → IsPartOfOrder components []
 unfolding IsDistinct
@@ -132,22 +132,22 @@ all_present : (components : List RawComponent) (P Q : List ℕ → Type 0) → (
 all_present components P Q f [] all = tt
 all_present components P Q f (r ∷ refs) all = (elim all.0 [ inl p ↦ inl (f r.name p) | inr absent ↦ inr absent ], all_present components P Q f refs all.1)
 
-settled_more : (components : List RawComponent) (k : ℕ) (name : List ℕ) → IsSettledBy components k name → IsSettledBy components (suc k) name
+settled_more : (components : List RawComponent) (k : ℕ) (name : List ℕ) → IsSettledAmong components k name → IsSettledAmong components (suc k) name
 settled_more components zero name s = absurd s
-settled_more components (suc k) name s = (s.0, s.1, s.2, all_present components (IsSettledBy components k) (IsSettledBy components (suc k)) (settled_more components k) _ s.3)
+settled_more components (suc k) name s = (s.0, s.1, s.2, all_present components (IsSettledAmong components k) (IsSettledAmong components (suc k)) (settled_more components k) _ s.3)
 
 ready_all : (components : List RawComponent) (sorted : List (List ℕ)) (refs : List Ref) → are_ready components sorted refs ≡ true →
     AllByRecursion (IfPresent components (λ n. is_among sorted n ≡ true)) refs
 ready_all components sorted [] e = tt
 ready_all components sorted (r ∷ refs) e =
-    let both = and_both (is_among sorted r.name || not (has components r.name)) _ e in
+    let both = and_both (is_among sorted r.name || not (has_component components r.name)) _ e in
     (elim (or_cases (is_among sorted r.name) _ both.0) [ inl a ↦ inl a | inr n ↦ inr (not_true _ n) ], ready_all components sorted refs both.1)
 
 all_ready : (components : List RawComponent) (sorted : List (List ℕ)) (refs : List Ref) →
     AllByRecursion (IfPresent components (λ n. is_among sorted n ≡ true)) refs → are_ready components sorted refs ≡ true
 all_ready components sorted [] all = refl
 all_ready components sorted (r ∷ refs) all =
-    and_of (is_among sorted r.name || not (has components r.name)) _
+    and_of (is_among sorted r.name || not (has_component components r.name)) _
     (elim all.0 [ inl a ↦ or_first (is_among sorted r.name) _ a | inr n ↦ or_second (is_among sorted r.name) _ (not_false _ n) ])
     (all_ready components sorted refs all.1)
 
@@ -173,10 +173,10 @@ part_more components sorted c part in' next =
     record {
       first = first_more components [] sorted (own_name c) part.first (c, in', refl, ready);
       once = IsDistinct-push nat_list_eq_equiv sorted (own_name c) part.once (not_true _ both.0);
-      settled = λ name among. subst (λ k. IsSettledBy components k name) (length_more sorted (own_name c))
+      settled = λ name among. subst (λ k. IsSettledAmong components k name) (length_more sorted (own_name c))
           (elim (among_either sorted (own_name c) name among) [
             | inl old ↦ settled_more components (length sorted) name (part.settled name old)
-            | inr new ↦ (c, in', sym new, all_present components _ (IsSettledBy components (length sorted)) part.settled (references c) ready)
+            | inr new ↦ (c, in', sym new, all_present components _ (IsSettledAmong components (length sorted)) part.settled (references c) ready)
           ]);
     }
   where
@@ -194,11 +194,11 @@ not_next true b e f = refl
 not_next false b e f = sym e ∙ f
 
 pub all_sorted : (components : List RawComponent) (sorted : List (List ℕ)) → AllByRecursion (λ c. is_next components sorted c ≡ false) components →
-    (k : ℕ) (name : List ℕ) → IsSettledBy components k name → is_among sorted name ≡ true
+    (k : ℕ) (name : List ℕ) → IsSettledAmong components k name → is_among sorted name ≡ true
 all_sorted components sorted done zero name s = absurd s
 all_sorted components sorted done (suc k) name s =
     let in' = s.1 in
-    let ready = all_ready components sorted (references s.0) (all_present components (IsSettledBy components k) _ (all_sorted components sorted done k) _ s.3) in
+    let ready = all_ready components sorted (references s.0) (all_present components (IsSettledAmong components k) _ (all_sorted components sorted done k) _ s.3) in
     ap (is_among sorted) (sym s.2) ∙ not_next _ _ (at (λ c. is_next components sorted c ≡ false) components s.0 in'.0 done in'.1 in'.2) ready
 
 one_left : (sorted : List (List ℕ)) (n name : List ℕ) (rest here : Bool) → (bytes_eq name n ≡ true → is_among sorted n ≡ is_among sorted name) → (a : Bool) → is_among sorted n ≡ a →
@@ -214,10 +214,10 @@ one_left sorted n name rest here f false e true g h = ap not (sym (sym (f g) ∙
 one_left sorted n name rest here f false e false g h = h
 
 among_left_out : (components : List RawComponent) (sorted : List (List ℕ)) (name : List ℕ) →
-    is_among (left_out components sorted) name ≡ (has components name && not (is_among sorted name))
+    is_among (left_out components sorted) name ≡ (has_component components name && not (is_among sorted name))
 among_left_out [] sorted name = refl
 among_left_out (c ∷ components) sorted name =
-    split (is_among sorted (own_name c)) ∙ one_left sorted (own_name c) name _ (has components name) (λ e. ap (is_among sorted) (sym (same name (own_name c) e))) (is_among sorted (own_name c)) refl (bytes_eq name (own_name c)) refl (among_left_out components sorted name)
+    split (is_among sorted (own_name c)) ∙ one_left sorted (own_name c) name _ (has_component components name) (λ e. ap (is_among sorted) (sym (same name (own_name c) e))) (is_among sorted (own_name c)) refl (bytes_eq name (own_name c)) refl (among_left_out components sorted name)
   where
     split : (a : Bool) → is_among (cond (not a) (own_name c ∷ left_out components sorted) (left_out components sorted)) name
         ≡ cond (not a) (bytes_eq name (own_name c) || is_among (left_out components sorted) name) (is_among (left_out components sorted) name)
@@ -235,10 +235,10 @@ whole_order components order part left done = record {
   sorted = λ name. (λ among. (length order.sorted, part.settled name among), λ s. all_sorted components order.sorted done s.0 name s.1);
   cyclic = λ name. (
     λ among.
-        let both = and_both (has components name) _ (sym (ap (λ names. is_among names name) left ∙ among_left_out components order.sorted name) ∙ among) in
+        let both = and_both (has_component components name) _ (sym (ap (λ names. is_among names name) left ∙ among_left_out components order.sorted name) ∙ among) in
         (both.0, λ s. true_false _ (all_sorted components order.sorted done s.0 name s.1) (not_true _ both.1)),
     λ h. ap (λ names. is_among names name) left ∙ among_left_out components order.sorted name
-        ∙ and_of (has components name) _ h.0 (not_false _ (unsorted name h.1 (is_among order.sorted name) refl)),
+        ∙ and_of (has_component components name) _ h.0 (not_false _ (unsorted name h.1 (is_among order.sorted name) refl)),
   );
 }
   where

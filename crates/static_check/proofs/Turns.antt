@@ -10,8 +10,8 @@ use Rattle.model_core.specs.declared.component.RawComponent.{RawComponent}
 use Rattle.model_core.specs.Each.{IsIn, is_among}
 use Rattle.model_core.proofs.Members.{in_either, in_first, in_second}
 use Rattle.static_check.specs.declared.sorting.Waiting.{Waiting}
-use Rattle.static_check.specs.Settling.{own_name, references, has, IsComponentOrder}
-use Rattle.static_check.specs.PrivateSorting.{Waiters, component_of, is_open, waiters, and_waits, without, all_open, left_open, open_at, AreNoneOpen, IsOpenReference, Sorts, IsTurn}
+use Rattle.static_check.specs.Settling.{own_name, references, has_component, IsComponentOrder}
+use Rattle.static_check.specs.PrivateSorting.{Waiters, component_of, is_open, waiters, and_waits, without_waiters, all_open, left_open, open_at, AreNoneOpen, IsOpenReference, Sorts, WaitsOrSorts}
 use Rattle.static_check.proofs.Ordering.{are_ready, is_ready, is_next, left_out, IsPartOfOrder, nothing_sorted, part_more, remaining, remaining_less, ordered, and_both, and_of, or_first, or_second, not_true, same, same_self, among_more}
 
 abbrev Names : Type 0
@@ -33,7 +33,7 @@ IsCovered w pending c = (is_open w (own_name c) ≡ false) ⊎ IsIn c pending �
 -- what each turn keeps
 pub record IsSorting (components : Components) (sorted : Names) (w : Waiters) (pending : Components) : Type 0 where
   pub part : IsPartOfOrder components sorted
-  pub opened : (name : List ℕ) → is_open w name ≡ (has components name && not (is_among sorted name))
+  pub opened : (name : List ℕ) → is_open w name ≡ (has_component components name && not (is_among sorted name))
   pub known : (c : RawComponent) → IsIn c pending → Contains components c
   pub known_waiting : (name : List ℕ) (c : RawComponent) → IsIn c (waiters w name) → Contains components c
   pub covered : (c : RawComponent) → IsIn c components → IsCovered w pending c
@@ -161,8 +161,8 @@ module _ (components : Components) (sorted : Names) where
     ready_refs : (refs : List Ref) → AreNoneOpen w refs → are_ready components sorted refs ≡ true
     ready_refs [] none = refl
     ready_refs (r ∷ refs) none =
-        and_of (is_among sorted r.name || not (has components r.name)) _
-        (passed (has components r.name) (is_among sorted r.name) (sym (s.opened r.name) ∙ none.0)) (ready_refs refs none.1)
+        and_of (is_among sorted r.name || not (has_component components r.name)) _
+        (passed (has_component components r.name) (is_among sorted r.name) (sym (s.opened r.name) ∙ none.0)) (ready_refs refs none.1)
       where
         passed : (a b : Bool) → (a && not b) ≡ false → (b || not a) ≡ true
         passed true true e = refl
@@ -172,19 +172,19 @@ module _ (components : Components) (sorted : Names) where
 
     is_next_now : AreNoneOpen w (references c) → is_open w (own_name c) ≡ true → is_next components sorted c ≡ true
     is_next_now none e =
-        and_of (not (is_among sorted (own_name c))) _ (and_both (has components (own_name c)) _ (sym (s.opened (own_name c)) ∙ e)).1
+        and_of (not (is_among sorted (own_name c))) _ (and_both (has_component components (own_name c)) _ (sym (s.opened (own_name c)) ∙ e)).1
         (ready_refs (references c) none)
 
     -- it is sorted
     sorts : AreNoneOpen w (references c) → is_open w (own_name c) ≡ true →
-        IsSorting components (sorted ++ own_name c ∷ []) (without w (own_name c)) (pending ++ waiters w (own_name c))
+        IsSorting components (sorted ++ own_name c ∷ []) (without_waiters w (own_name c)) (pending ++ waiters w (own_name c))
     sorts none e = record {
       part = part_more components sorted c s.part known_here (is_next_now none e);
       opened = λ name.
           without_open_at (w name) (bytes_eq name (own_name c))
           ∙ ap (λ a. a && not (bytes_eq name (own_name c))) (s.opened name)
-          ∙ opened_more (has components name) (is_among sorted name) (bytes_eq name (own_name c))
-          ∙ ap (λ a. has components name && not a) (sym (among_more sorted (own_name c) name));
+          ∙ opened_more (has_component components name) (is_among sorted name) (bytes_eq name (own_name c))
+          ∙ ap (λ a. has_component components name && not a) (sym (among_more sorted (own_name c) name));
       known = λ d h. elim (in_either d pending (waiters w (own_name c)) h) [ inl before ↦ known_before d before | inr woken ↦ s.known_waiting (own_name c) d woken ];
       known_waiting = λ name d h. s.known_waiting name d (without_only_at (w name) (bytes_eq name (own_name c)) d h);
       covered = λ d in'. elim (s.covered d in') [
@@ -199,14 +199,14 @@ module _ (components : Components) (sorted : Names) where
     }
       where
         woken : (d : RawComponent) (r : Ref) → IsIn r (references d) → IsIn d (waiters w r.name) → (b : Bool) → bytes_eq r.name (own_name c) ≡ b →
-            IsCovered (without w (own_name c)) (pending ++ waiters w (own_name c)) d
+            IsCovered (without_waiters w (own_name c)) (pending ++ waiters w (own_name c)) d
         woken d r in' waiting true f = inr (inl (in_second d pending (waiters w (own_name c)) (subst (λ n. IsIn d (waiters w n)) (same r.name (own_name c) f) waiting)))
         woken d r in' waiting false f = inr (inr (r, in', without_kept_at (w r.name) (bytes_eq r.name (own_name c)) d f waiting))
 
 sorts_kept : (components : Components) (sorted longer : Names) (w later : Waiters) (pending more : Components) (c : RawComponent) → IsSorting components sorted w (pending ++ c ∷ []) →
     AreNoneOpen w (references c) → Sorts c w pending sorted later more longer → IsSorting components longer later more
 sorts_kept components sorted longer w later pending more c s none (inl t) =
-    let path : ◌≡◌ {A = State} (without w (own_name c), pending ++ waiters w (own_name c), sorted ++ own_name c ∷ []) (later, more, longer) =
+    let path : ◌≡◌ {A = State} (without_waiters w (own_name c), pending ++ waiters w (own_name c), sorted ++ own_name c ∷ []) (later, more, longer) =
     λ i. ((λ x. sym (t.1 x) i), sym t.2 i, sym t.3 i) in
     subst (λ q. IsSorting components q.2 q.0 q.1) path (sorts components sorted w pending c s none t.0)
 sorts_kept components sorted longer w later pending more c s none (inr t) =
@@ -215,7 +215,7 @@ sorts_kept components sorted longer w later pending more c s none (inr t) =
 
 -- a turn in which it waits, or is sorted, or was sorted already
 pub turn_kept : (components : Components) (sorted longer : Names) (w later : Waiters) (pending more : Components) (c : RawComponent) → IsSorting components sorted w (pending ++ c ∷ []) →
-    IsTurn c w pending sorted later more longer → IsSorting components longer later more
+    WaitsOrSorts c w pending sorted later more longer → IsSorting components longer later more
 turn_kept components sorted longer w later pending more c s (inl t) =
     let path : ◌≡◌ {A = State} (and_waits w t.0.0.name c, pending, sorted) (later, more, longer) = λ i. ((λ x. sym (t.0.2 x) i), sym t.1 i, sym t.2 i) in
     subst (λ q. IsSorting components q.2 q.0 q.1) path (waits components sorted w pending c s t.0.0 t.0.1)
@@ -250,14 +250,14 @@ sorts_smaller : (components : Components) (sorted longer : Names) (w later : Wai
     Sorts c w pending sorted later more longer → length more < 2 ^ 63 → left_of components longer more < left_of components sorted (pending ++ c ∷ [])
 sorts_smaller components sorted longer w later pending more c s (inl t) small =
     let here = known_here components sorted w pending c s in
-    let unsorted = not_true _ (and_both (has components (own_name c)) _ (sym (s.opened (own_name c)) ∙ t.0)).1 in
+    let unsorted = not_true _ (and_both (has_component components (own_name c)) _ (sym (s.opened (own_name c)) ∙ t.0)).1 in
     let less : remaining components longer < remaining components sorted =
     subst (λ n. remaining components n < remaining components sorted) (sym t.3) (remaining_less components sorted c here.0 here.1 here.2 unsorted) in
     two_parts (remaining components longer) (remaining components sorted) (2 ^ 63) (length more) (length (pending ++ c ∷ [])) less small
 sorts_smaller components sorted longer w later pending more c s (inr t) small = same_smaller components sorted longer pending more c t.2 t.3
 
 pub turn_smaller : (components : Components) (sorted longer : Names) (w later : Waiters) (pending more : Components) (c : RawComponent) → IsSorting components sorted w (pending ++ c ∷ []) →
-    IsTurn c w pending sorted later more longer → length more < 2 ^ 63 → left_of components longer more < left_of components sorted (pending ++ c ∷ [])
+    WaitsOrSorts c w pending sorted later more longer → length more < 2 ^ 63 → left_of components longer more < left_of components sorted (pending ++ c ∷ [])
 turn_smaller components sorted longer w later pending more c s (inl t) small = same_smaller components sorted longer pending more c t.1 t.2
 turn_smaller components sorted longer w later pending more c s (inr t) small = sorts_smaller components sorted longer w later pending more c s t.1 small
 
@@ -285,9 +285,9 @@ begins components w pending sorted is all none =
     let path : ◌≡◌ {A = State} (all_open components, reverse components, []) (w, pending, sorted) = λ i. ((λ x. sym (is x) i), sym all i, sym none i) in
     subst (λ q. IsSorting components q.2 q.0 q.1) path (record {
       part = nothing_sorted components;
-      opened = λ name. opened_at (has components name);
+      opened = λ name. opened_at (has_component components name);
       known = λ c h. contains_in c components (reverse_in c components h);
-      known_waiting = λ name c h. absurd (nobody (has components name) c h);
+      known_waiting = λ name c h. absurd (nobody (has_component components name) c h);
       covered = λ c h. inr (inl (in_reverse c components h));
     })
   where
@@ -303,7 +303,7 @@ begins components w pending sorted is all none =
     nobody false c h = h
 
 -- at last none is next
-in_has : (c : RawComponent) (cs : Components) → IsIn c cs → has cs (own_name c) ≡ true
+in_has : (c : RawComponent) (cs : Components) → IsIn c cs → has_component cs (own_name c) ≡ true
 in_has c [] h = absurd h
 in_has c (d ∷ cs) (inl e) = or_first (bytes_eq (own_name c) (own_name d)) _ (ap (λ x. bytes_eq (own_name c) (own_name x)) (sym e) ∙ same_self (own_name c))
 in_has c (d ∷ cs) (inr h) = or_second (bytes_eq (own_name c) (own_name d)) _ (in_has c cs h)
@@ -313,20 +313,20 @@ all_in P [] f = tt
 all_in P (x ∷ xs) f = (f x (inl refl), all_in P xs (λ y h. f y (inr h)))
 
 module _ (components : Components) (sorted : Names) where
-  unready : (w : Waiters) → ((name : List ℕ) → is_open w name ≡ (has components name && not (is_among sorted name))) → (r : Ref) → is_open w r.name ≡ true →
+  unready : (w : Waiters) → ((name : List ℕ) → is_open w name ≡ (has_component components name && not (is_among sorted name))) → (r : Ref) → is_open w r.name ≡ true →
       (refs : List Ref) → IsIn r refs → are_ready components sorted refs ≡ false
   unready w opened r e [] h = absurd h
-  unready w opened r e (q ∷ refs) (inl is) = closed_and _ _ (ap (λ x. is_among sorted x.name || not (has components x.name)) (sym is) ∙ blocked (has components r.name) (is_among sorted r.name) (sym (opened r.name) ∙ e))
+  unready w opened r e (q ∷ refs) (inl is) = closed_and _ _ (ap (λ x. is_among sorted x.name || not (has_component components x.name)) (sym is) ∙ blocked (has_component components r.name) (is_among sorted r.name) (sym (opened r.name) ∙ e))
     where
       blocked : (a b : Bool) → (a && not b) ≡ true → (b || not a) ≡ false
       blocked true true e = sym e
       blocked true false e = refl
       blocked false b e = true_false false e refl
-  unready w opened r e (q ∷ refs) (inr h) = and_closed (is_among sorted q.name || not (has components q.name)) _ (unready w opened r e refs h)
+  unready w opened r e (q ∷ refs) (inr h) = and_closed (is_among sorted q.name || not (has_component components q.name)) _ (unready w opened r e refs h)
 
   none_next : (w : Waiters) → IsSorting components sorted w [] → (c : RawComponent) → IsIn c components → is_next components sorted c ≡ false
   none_next w s c in' = elim (s.covered c in') [
-    | inl closed ↦ sorted_already (has components (own_name c)) (is_among sorted (own_name c)) (is_ready components sorted c) (in_has c components in') (sym (s.opened (own_name c)) ∙ closed)
+    | inl closed ↦ sorted_already (has_component components (own_name c)) (is_among sorted (own_name c)) (is_ready components sorted c) (in_has c components in') (sym (s.opened (own_name c)) ∙ closed)
     | inr (inl none) ↦ absurd none
     | inr (inr q) ↦ and_closed (not (is_among sorted (own_name c))) _ (unready w s.opened q.0 (waits_open_at (w q.0.name) c q.2) (references c) q.1)
   ]
@@ -398,7 +398,7 @@ few : (v : Vec Waiting Global) → length (map component_of v.items) < 2 ^ 63
 few v = rw (length-map v.items component_of, sym v.ok.0) (omega (arith, v.ok.1, v.small))
 
 pub turn_smaller_list : (components : Components) (sorted longer : Names) (w later : Waiters) (all rest : List Waiting) (more : Vec Waiting Global) (last : Waiting) → all ≡ rest ++ last ∷ [] →
-    IsSorting components sorted w (map component_of all) → IsTurn (component_of last) w (map component_of rest) sorted later (map component_of more.items) longer →
+    IsSorting components sorted w (map component_of all) → WaitsOrSorts (component_of last) w (map component_of rest) sorted later (map component_of more.items) longer →
     left_of components longer (map component_of more.items) < left_of components sorted (map component_of all)
 turn_smaller_list components sorted longer w later all rest more last is s t =
     subst (λ cs. left_of components longer (map component_of more.items) < left_of components sorted cs) (sym (ap (map component_of) is ∙ map-append component_of rest (last ∷ [])))

@@ -11,7 +11,7 @@ use Rattle.formula_core.specs.declared.raw.Ref.{Ref}
 use Rattle.model_core.specs.declared.component.RawComponent.{RawComponent}
 use Rattle.model_core.specs.Each.{IsIn}
 use Rattle.static_check.specs.declared.sorting.Waiting.{Waiting}
-use Rattle.static_check.specs.Settling.{own_name, references, has}
+use Rattle.static_check.specs.Settling.{own_name, references, has_component}
 
 abbrev pub component_of : Waiting → RawComponent
 component_of w = w.component.now
@@ -34,12 +34,12 @@ abbrev pub and_waits : Waiters → List ℕ → RawComponent → Waiters
 and_waits w n c name = option_map (λ cs. if bytes_eq name n then cs ++ c ∷ [] else cs) (w name)
 
 -- the name isn't open any more
-abbrev pub without : Waiters → List ℕ → Waiters
-without w n name = if bytes_eq name n then None else w name
+abbrev pub without_waiters : Waiters → List ℕ → Waiters
+without_waiters w n name = if bytes_eq name n then None else w name
 
 -- each name of a component is open, and none waits
 abbrev pub all_open : List RawComponent → Waiters
-all_open components name = if has components name then Some [] else None
+all_open components name = if has_component components name then Some [] else None
 
 -- none of the references is open
 abbrev pub AreNoneOpen : Waiters → List Ref → Type 0
@@ -63,11 +63,11 @@ Waits c w later = (r : Ref) × IsOpenReference w (references c) r × ((x : List 
 -- the component is sorted, and what waited for it is pending; or its name is sorted already
 abbrev pub Sorts : RawComponent → Waiters → List RawComponent → List (List ℕ) → Waiters → List RawComponent → List (List ℕ) → Type 0
 Sorts c w pending sorted later more longer =
-    ((is_open w (own_name c) ≡ true) × ((x : List ℕ) → later x ≡ without w (own_name c) x) × (more ≡ pending ++ waiters w (own_name c))
+    ((is_open w (own_name c) ≡ true) × ((x : List ℕ) → later x ≡ without_waiters w (own_name c) x) × (more ≡ pending ++ waiters w (own_name c))
     × (longer ≡ sorted ++ own_name c ∷ []))
     ⊎ ((is_open w (own_name c) ≡ false) × ((x : List ℕ) → later x ≡ w x) × (more ≡ pending) × (longer ≡ sorted))
 
 -- the component waits, or none of its references is open and it is sorted
-abbrev pub IsTurn : RawComponent → Waiters → List RawComponent → List (List ℕ) → Waiters → List RawComponent → List (List ℕ) → Type 0
-IsTurn c w pending sorted later more longer =
+abbrev pub WaitsOrSorts : RawComponent → Waiters → List RawComponent → List (List ℕ) → Waiters → List RawComponent → List (List ℕ) → Type 0
+WaitsOrSorts c w pending sorted later more longer =
     (Waits c w later × (more ≡ pending) × (longer ≡ sorted)) ⊎ (AreNoneOpen w (references c) × Sorts c w pending sorted later more longer)

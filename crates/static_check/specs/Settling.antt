@@ -18,21 +18,21 @@ references (Context name extends sets constants axioms) = extends
 references (Machine name refines sees variables invariants variant events) = option_to_list refines ++ sees
 
 -- whether some component has the name
-abbrev pub has : List RawComponent → List ℕ → Bool
-has components name = list_any (λ c. bytes_eq name (own_name c)) components
+abbrev pub has_component : List RawComponent → List ℕ → Bool
+has_component components name = list_any (λ c. bytes_eq name (own_name c)) components
 
 -- P holds of the reference, or no component has its name
 abbrev pub IfPresent : List RawComponent → (List ℕ → Type 0) → Ref → Type 0
-IfPresent components P reference = P reference.name ⊎ (has components reference.name ≡ false)
+IfPresent components P reference = P reference.name ⊎ (has_component components reference.name ≡ false)
 
 -- settled in one of the first k rounds
-abbrev pub IsSettledBy : List RawComponent → ℕ → List ℕ → Type 0
-IsSettledBy components zero name = ⊥
-IsSettledBy components (suc k) name =
-    (c : RawComponent) × Contains components c × (own_name c ≡ name) × AllByRecursion (IfPresent components (IsSettledBy components k)) (references c)
+abbrev pub IsSettledAmong : List RawComponent → ℕ → List ℕ → Type 0
+IsSettledAmong components zero name = ⊥
+IsSettledAmong components (suc k) name =
+    (c : RawComponent) × Contains components c × (own_name c ≡ name) × AllByRecursion (IfPresent components (IsSettledAmong components k)) (references c)
 
 abbrev pub IsSettled : List RawComponent → List ℕ → Type 0
-IsSettled components name = (k : ℕ) × IsSettledBy components k name
+IsSettled components name = (k : ℕ) × IsSettledAmong components k name
 
 -- each of these names is that of a component whose references are absent or stand before it
 abbrev pub ReferencesFirst : List RawComponent → List (List ℕ) → List (List ℕ) → Type 0
@@ -45,4 +45,4 @@ pub record IsComponentOrder (components : List RawComponent) (order : Order) : T
   pub references_first : ReferencesFirst components [] order.sorted
   pub once : IsDistinct bytes_eq order.sorted
   pub sorted : (name : List ℕ) → (is_among order.sorted name ≡ true) ↔ IsSettled components name
-  pub cyclic : (name : List ℕ) → (is_among order.cyclic name ≡ true) ↔ ((has components name ≡ true) × ¬ IsSettled components name)
+  pub cyclic : (name : List ℕ) → (is_among order.cyclic name ≡ true) ↔ ((has_component components name ≡ true) × ¬ IsSettled components name)

@@ -3,7 +3,7 @@ ghost use Rattle.std.specs.Prelude.{◌≡◌, ⊤, ℕ, List as Listed, None, I
 ghost use Rattle.std.specs.Option.{option_copied};
 ghost use Rattle.std.specs.List.{slice_get};
 ghost use Rattle.static_check.specs.Settling.{references, IsComponentOrder};
-ghost use Rattle.static_check.specs.PrivateSorting.{AreNoneOpen, IsOpenReference, IsTurn, Sorts, all_open, and_waits};
+ghost use Rattle.static_check.specs.PrivateSorting.{AreNoneOpen, IsOpenReference, WaitsOrSorts, Sorts, all_open, and_waits};
 ghost use Rattle.static_check.specs.PrivateSorting.{component_of, is_open, left_open, open_at, waiting_for};
 
 use crate::settled::Order;
@@ -139,7 +139,7 @@ fn take_turn<'a>(
     pending: &mut Vec<Waiting<'a>>,
     sorted: &mut Vec<Name>,
 ) -> Result<(), OutOfMemory>
-    ensures { OnOk result (IsTurn waiting.entry.component.now
+    ensures { OnOk result (WaitsOrSorts waiting.entry.component.now
         (waiting_for names.old) (map component_of pending.old.items) sorted.old.items
         (waiting_for names.new) (map component_of pending.new.items) sorted.new.items) }
 {

@@ -19,7 +19,7 @@ use Rattle.core_steps.specs.Outcomes.{StepOutcome, told, entering}
 use Rattle.core_steps.specs.Tickets.{IsPresentStatus, CanStore, EndsTicket, tried_with, by_prover}
 use Rattle.prepared_events.specs.Prepared.{Ready}
 use Rattle.table_lookup.specs.Tickets.{IsTicketAt}
-use Rattle.status_core.specs.PrivateParts.{Finds, without_at, ComesAs, Prepares}
+use Rattle.status_core.specs.PrivateParts.{FindsObligation, without_at, ComesAs, Prepares}
 use Rattle.status_core.proofs.Made.{if_ok, as_made}
 use Rattle.status_core.proofs.Finished.{ends_stored, ends_stale, ends_refused, finish_found}
 
@@ -64,7 +64,7 @@ module _ (s : State) (ticket : Ticket) (sequent : Option Sequent) (status : Opti
 
 -- the finish of the ticket at the place of its number, by the result
 pub finish_result : {E : Type 0} (s : State) (number at : ℕ) (ticket : Ticket) (found : Option Obligation) (attempt : Attempt) (r : Result Ready E) →
-    Finds s.durable.built ticket.name found → IsTicketAt s.out number (Some at) → ticket ≡ get_or s.out at ticket →
+    FindsObligation s.durable.built ticket.name found → IsTicketAt s.out number (Some at) → ticket ≡ get_or s.out at ticket →
     IfOk r (λ p. ComesAs s (EndsTicket (without_at s at) ticket (option_map (λ o. o.sequent) found) attempt) p) → IfOk r (λ p. Prepares s (Finish number attempt) p)
 finish_result s number at ticket found attempt r f out there made =
     if_ok (λ p. ComesAs s (EndsTicket (without_at s at) ticket (option_map (λ o. o.sequent) found) attempt) p) (λ p. Prepares s (Finish number attempt) p) r

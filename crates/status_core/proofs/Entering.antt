@@ -1,7 +1,7 @@
 -- What may be built, and in how many steps.
 use Rattle.std.proofs.Common.{◌≡◌, ◌∙◌, sym, ap, subst, ℕ, arith}
 use Rattle.std.specs.FinMap.{entries}
-use Rattle.build_core.specs.Projects.{Project, IsBuildable as IsBuildableList}
+use Rattle.build_core.specs.Projects.{Project, IsBuildableList}
 use Rattle.build_core.specs.Moved.{HasFewSteps}
 use Rattle.core_steps.specs.Durable.{ProjectMap, IsSmallProject}
 use Rattle.core_steps.specs.State.{State}

@@ -6,7 +6,7 @@ use Rattle.std.specs.List.{AllByRecursion, HoldsAt}
 use Rattle.sequent_core.specs.declared.Obligation.{Obligation}
 use Rattle.sequent_core.specs.Sequents.{IsSequent}
 use Rattle.po_rules.specs.Sequents.{AreSequents}
-use Rattle.build_core.specs.Tables.{IsPlaceOf}
+use Rattle.build_core.specs.Tables.{IsPlaceInTable}
 use Rattle.core_steps.specs.Durable.{ProjectMap}
 use Rattle.core_steps.specs.declared.durable.Durable.{Durable}
 use Rattle.core_steps.specs.declared.events.Status.{Status}
@@ -20,10 +20,10 @@ use Rattle.core_steps.specs.Step.{Tells}
 use Rattle.core_steps.specs.Tickets.{IsOpen, IsPresentStatus}
 use Rattle.core_steps.proofs.Lists.{split}
 use Rattle.table_lookup.proofs.Places.{all_at}
-use Rattle.status_core.specs.PrivateParts.{Finds, IsFirstOpen}
+use Rattle.status_core.specs.PrivateParts.{FindsObligation, IsFirstOpen}
 
 -- the obligation at the place of a name is the present one
-pub present_at : (table : List Obligation) (name : List ℕ) (at : ℕ) (o : Obligation) → IsPlaceOf table name (Some at) → o ≡ get_or table at o →
+pub present_at : (table : List Obligation) (name : List ℕ) (at : ℕ) (o : Obligation) → IsPlaceInTable table name (Some at) → o ≡ get_or table at o →
     IsPresent table name (Some o.sequent) × (o.name ≡ name)
 present_at table name at o place is =
     let named : o.name ≡ name = ap (λ p. p.name) is ∙ place.2 o in (
@@ -38,18 +38,18 @@ present_at table name at o place is =
 
 -- the obligation at the place of a name is found
 pub found_at : (project : ProjectMap) (table : List Obligation) (name : List ℕ) (at : ℕ) (o : Obligation) → IsTable project table → AreSequents table →
-    IsPlaceOf table name (Some at) → o ≡ get_or table at o → Finds project name (Some o)
+    IsPlaceInTable table name (Some at) → o ≡ get_or table at o → FindsObligation project name (Some o)
 found_at project table name at o of sequents place is =
     let present = present_at table name at o place is in
     (table, of, present.0, present.1, all_at (λ p. IsSequent p.sequent) table at o place.0 is sequents)
 
 -- the obligation that is found is well typed
-pub found_sequent : (project : ProjectMap) (name : List ℕ) (found : Option Obligation) → Finds project name found → IfSome found (λ o. IsSequent o.sequent)
+pub found_sequent : (project : ProjectMap) (name : List ℕ) (found : Option Obligation) → FindsObligation project name found → IfSome found (λ o. IsSequent o.sequent)
 found_sequent project name None f = tt
 found_sequent project name (Some o) f = f.4
 
 -- its status is that of the clean rebuild
-pub found_rebuilt : (d : Durable) (name : List ℕ) (found : Option Obligation) (status : Option Status) → Finds d.built name found →
+pub found_rebuilt : (d : Durable) (name : List ℕ) (found : Option Obligation) (status : Option Status) → FindsObligation d.built name found →
     IsPresentStatus d.proofs name (option_map (λ o. o.sequent) found) status → IsRebuiltIf d name status
 found_rebuilt d name None status f st = subst (IsRebuiltIf d name) (sym st) f
 found_rebuilt d name (Some o) status f st = subst (IsRebuiltIf d name) (sym st.1) (f.0, o.sequent, f.1, f.2, st.2)

@@ -27,7 +27,7 @@ use Rattle.core_steps.proofs.Lists.{split}
 use Rattle.core_steps.proofs.NameMaps.{get_same}
 use Rattle.prepared_events.specs.Prepared.{Ready, tried_of}
 use Rattle.table_lookup.specs.Tickets.{IsTicketAt}
-use Rattle.status_core.specs.PrivateParts.{Finds, without_at, ComesAs, Prepares, made}
+use Rattle.status_core.specs.PrivateParts.{FindsObligation, without_at, ComesAs, Prepares, made}
 use Rattle.prepared_events.specs.Making.{trying}
 use Rattle.status_core.proofs.Made.{so_made, made_as}
 use Rattle.status_core.proofs.Readied.{ready_trying}
@@ -67,7 +67,7 @@ finishes s number at ticket sequent attempt p table is present out there c = rec
 }
 
 -- the finish of the ticket at the place of its number, where this was found of its name
-pub finish_found : (s : State) (number at : ℕ) (ticket : Ticket) (found : Option Obligation) (attempt : Attempt) (p : Ready) → Finds s.durable.built ticket.name found →
+pub finish_found : (s : State) (number at : ℕ) (ticket : Ticket) (found : Option Obligation) (attempt : Attempt) (p : Ready) → FindsObligation s.durable.built ticket.name found →
     IsTicketAt s.out number (Some at) → ticket ≡ get_or s.out at ticket → ComesAs s (EndsTicket (without_at s at) ticket (option_map (λ o. o.sequent) found) attempt) p →
     Prepares s (Finish number attempt) p
 finish_found s number at ticket None attempt p f out there c = finishes s number at ticket None attempt p f.0 f.1 f.2 out there c

@@ -6,7 +6,7 @@ use Rattle.std.proofs.lemmas.List.{map-append, append-nil}
 use Rattle.std.proofs.lemmas.List.Elements.{filter-append}
 use Rattle.std.proofs.lemmas.Slice.Eq.{bytes_eq-Decides}
 use Rattle.sequent_core.specs.declared.Obligation.{Obligation}
-use Rattle.build_core.specs.Tables.{IsPlaceOf}
+use Rattle.build_core.specs.Tables.{IsPlaceInTable}
 use Rattle.core_steps.specs.Table.{is_obligation}
 use Rattle.core_steps.proofs.Lists.{take-one_more}
 
@@ -32,7 +32,7 @@ named (o ∷ table) name zero lt has = ap (λ b. b || is_obligation table name) 
 named (o ∷ table) name (suc at) lt has = ap (λ b. bytes_eq o.name name || b) (named table name at (omega arith) has) ∙ or_true (bytes_eq o.name name)
 
 -- a name has no place in the table just where the table lacks it
-pub place_named : (table : List Obligation) (name : List ℕ) (place : Option ℕ) → IsPlaceOf table name place → not (is_obligation table name) ≡ is_none place
+pub place_named : (table : List Obligation) (name : List ℕ) (place : Option ℕ) → IsPlaceInTable table name place → not (is_obligation table name) ≡ is_none place
 place_named table name None is = ap not (not_named table name is)
 place_named table name (Some at) is = ap not (named table name at is.0 is.2)
 

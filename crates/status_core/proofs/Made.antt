@@ -9,7 +9,7 @@ use Rattle.core_steps.specs.Outcomes.{StepOutcome, told}
 use Rattle.core_steps.specs.Table.{IsPresent}
 use Rattle.core_steps.specs.Step.{ComesBeside}
 use Rattle.prepared_events.specs.Prepared.{Ready, IsReady}
-use Rattle.status_core.specs.PrivateParts.{Finds, ComesAs, Prepares, made}
+use Rattle.status_core.specs.PrivateParts.{FindsObligation, ComesAs, Prepares, made}
 
 -- what holds of a result where another does
 pub if_ok : {A E : Type 0} (P Q : A → Type 0) (r : Result A E) → ((a : A) → P a → Q a) → IfOk r P → IfOk r Q
@@ -34,11 +34,11 @@ made_as s p q e ready = record { comes = ap (λ r. made r s) e; ready = ready }
 
 module _ (s : State) (event : Event) (p : Ready) (name : List ℕ) where
   -- an event on an obligation that the table lacks
-  pub on_none : Finds s.durable.built name None → ComesAs s (λ x. x ≡ told s (NoObligation name)) p →
+  pub on_none : FindsObligation s.durable.built name None → ComesAs s (λ x. x ≡ told s (NoObligation name)) p →
       ((table : List Obligation) (x : StepOutcome) → IsPresent table name None → x ≡ told s (NoObligation name) → ComesBeside s table event x) → Prepares s event p
   on_none found c f = record { comes = (found.0, found.1, f found.0 (made p s) found.2 c.comes); ready = c.ready }
 
   -- an event on an obligation
-  pub on_one : (o : Obligation) (X : StepOutcome → Type 0) → Finds s.durable.built name (Some o) → ComesAs s X p →
+  pub on_one : (o : Obligation) (X : StepOutcome → Type 0) → FindsObligation s.durable.built name (Some o) → ComesAs s X p →
       ((table : List Obligation) (x : StepOutcome) → IsPresent table name (Some o.sequent) → X x → ComesBeside s table event x) → Prepares s event p
   on_one o X found c f = record { comes = (found.0, found.1, f found.0 (made p s) found.2 c.comes); ready = c.ready }

@@ -25,12 +25,12 @@ use Rattle.core_steps.specs.State.{State}
 use Rattle.core_steps.specs.Tickets.{IsOpen}
 use Rattle.core_steps.specs.declared.events.Event.{Event}
 use Rattle.core_steps.specs.Step.{Comes}
-use Rattle.prepared_events.specs.Prepared.{without, Ready, changed, IsReady}
+use Rattle.prepared_events.specs.Prepared.{without_ticket, Ready, changed_by, IsReady}
 
 -- the table of the project has the obligation of the name, whose sequent is well typed; or it has none
-abbrev pub Finds : ProjectMap → List ℕ → Option Obligation → Type 0
-Finds project name None = (table : List Obligation) × IsTable project table × IsPresent table name None
-Finds project name (Some o) =
+abbrev pub FindsObligation : ProjectMap → List ℕ → Option Obligation → Type 0
+FindsObligation project name None = (table : List Obligation) × IsTable project table × IsPresent table name None
+FindsObligation project name (Some o) =
     (table : List Obligation) × IsTable project table × IsPresent table name (Some o.sequent) × (o.name ≡ name) × IsSequent o.sequent
 
 -- the place of the first open obligation of a table, if there is one
@@ -46,7 +46,7 @@ IsShownAt tree s (Some path) shown = (Applies tree s → shown ≡ leaf_at path 
 
 -- the state without the ticket at a place
 abbrev pub without_at : State → ℕ → State
-without_at s at = record s { out = without at s.out }
+without_at s at = record s { out = without_ticket at s.out }
 
 -- why an edit changes nothing; or its name is an identifier, its text is short, and the project has room
 abbrev pub RefusesEdit : ProjectMap → List ℕ → List ℕ → Option Reply → Type 0
@@ -59,13 +59,13 @@ IsMade leaf (Ok rule) = FitsAt rule leaf
 IsMade leaf (Err fault) = fault ≢ OutOfMemory
 
 -- what is held for the tree, which is to be stored under the name beside these proofs
-abbrev pub IsHeld : FinMap text_cmp Proof → List ℕ → Tree → Held → Type 0
-IsHeld proofs name tree held =
+abbrev pub IsHeldProof : FinMap text_cmp Proof → List ℕ → Tree → Held → Type 0
+IsHeldProof proofs name tree held =
     (held.told ≡ name) × (held.name ≡ name) × AreFactsOf tree held.facts × (contains_key proofs name ≡ false → len proofs < held.room)
 
 -- what comes of what is prepared
 abbrev pub made : Ready → State → StepOutcome
-made p s = record { reply = p.reply; entry = p.entry; new = changed p s }
+made p s = record { reply = p.reply; entry = p.entry; new = changed_by p s }
 
 -- in this state something comes of it, and all is there for it
 pub record ComesAs (s : State) (X : StepOutcome → Type 0) (p : Ready) : Type 0 where

@@ -1,6 +1,6 @@
 // What was prepared takes effect. Nothing here takes memory.
 ghost use Rattle.std.specs.Prelude.{◌≡◌};
-ghost use Rattle.prepared_events.specs.Prepared.{IsReady, changed};
+ghost use Rattle.prepared_events.specs.Prepared.{IsReady, changed_by};
 
 use crate::core_state::Core;
 use core_steps::Reply;
@@ -11,7 +11,7 @@ impl Core {
     pub fn commit(&mut self, prepared: Prepared) -> Reply
         requires ready { IsReady self.old prepared }
         ensures reply { result ≡ prepared.reply }
-        ensures changed { self.new ≡ changed prepared self.old }
+        ensures changed { self.new ≡ changed_by prepared self.old }
     {
         let (reply, entry, built, tickets) = prepared.into_parts();
         let closed = closed_beside(&self.builder, &self.out, &tickets.tickets, self.closed);

@@ -13,7 +13,7 @@ ghost use Rattle.core_steps.specs.Outcomes.{entering};
 ghost use Rattle.core_steps.specs.Stored.{AreFactsOf};
 ghost use Rattle.core_steps.specs.Tickets.{EndsTicket, IsPresentStatus, by_prover};
 ghost use Rattle.table_lookup.specs.Tickets.{IsTicketAt};
-ghost use Rattle.status_core.specs.PrivateParts.{IsHeld, without_at, ComesAs, Prepares};
+ghost use Rattle.status_core.specs.PrivateParts.{IsHeldProof, without_at, ComesAs, Prepares};
 
 use crate::core_state::Core;
 use crate::proving::Held;
@@ -111,7 +111,7 @@ impl Core {
     // The tree is stored as the prover's with what is held for it, and the ticket at the place comes in.
     fn store_held(&self, at: usize, held: Held, tree: Tree) -> Prepared
         requires within { at < length self.now.out }
-        requires held { IsHeld self.now.durable.proofs held.name tree held }
+        requires held { IsHeldProof self.now.durable.proofs held.name tree held }
         ensures { ComesAs self.now (λ x.
             x ≡ entering (without_at self.now at) (Reply.Stored held.name (Some Status.Discharged))
             (Entry.SetProof held.name (by_prover tree))) result }

@@ -11,7 +11,7 @@ ghost use Rattle.core_steps.specs.declared.events.Event.{Event};
 ghost use Rattle.core_steps.specs.declared.events.Question.{Question};
 ghost use Rattle.core_steps.specs.Stored.{AreFactsOf};
 ghost use Rattle.core_steps.specs.Proving.{Keeps, Puts, StepsAt, StepsIn, PrunesAt, ShowsAt, stored_tree, tree_in};
-ghost use Rattle.status_core.specs.PrivateParts.{IsHeld, IsMade, IsShownAt, ComesAs, Prepares};
+ghost use Rattle.status_core.specs.PrivateParts.{IsHeldProof, IsMade, IsShownAt, ComesAs, Prepares};
 
 use crate::core_state::Core;
 use core_steps::{Facts, Reply, Room, StoredProof, facts_of, status_by};
@@ -204,7 +204,7 @@ impl Core {
 
     // What is wanted for the tree to be stored under the name.
     fn hold(&self, name: &PoName, tree: &Tree) -> Result<Held, OutOfMemory>
-        ensures { IfOk result (λ held. IsHeld self.now.durable.proofs name.now tree.now held) }
+        ensures { IfOk result (λ held. IsHeldProof self.now.durable.proofs name.now tree.now held) }
     {
         let facts = facts_of(self.alloc, tree)?;
         self.hold_with(name, facts)
@@ -213,7 +213,7 @@ impl Core {
     /// What is wanted for a tree with these facts to be stored under the name.
     pub(crate) fn hold_with(&self, name: &PoName, facts: Facts) -> Result<Held, OutOfMemory>
         ensures { (tree : Tree) → AreFactsOf tree facts
-            → IfOk result (λ held. IsHeld self.now.durable.proofs name.now tree held) }
+            → IfOk result (λ held. IsHeldProof self.now.durable.proofs name.now tree held) }
     {
         let room = self.durable.proofs.room_for(self.alloc, name)?;
         let told = name.copy(self.alloc)?;
@@ -229,7 +229,7 @@ impl Core {
     // The tree is stored as the user's with what is held for it, and its status is told.
     fn keep_held(&self, held: Held, sequent: &Sequent, tree: Tree) -> Prepared
         requires sequent { IsSequent sequent.now }
-        requires held { IsHeld self.now.durable.proofs held.name tree held }
+        requires held { IsHeldProof self.now.durable.proofs held.name tree held }
         ensures { ComesAs self.now (Keeps self.now held.name sequent.now tree) result }
     {
         let Held {

@@ -10,7 +10,7 @@ use Rattle.math_tokens.specs.declared.cutting.TokenFault.{TokenFault}
 use Rattle.math_tokens.specs.declared.cutting.TokenFault.TheVariants as fault
 use Rattle.math_grammar.specs.declared.holes.Hole.{Hole}
 use Rattle.math_grammar.specs.Tokens.{items_of}
-use Rattle.math_parse.specs.Limits.{IsSentence, Finds}
+use Rattle.math_parse.specs.Limits.{IsSentence, FindsFormula}
 use Rattle.math_parse.specs.declared.fault.ParseFault.{ParseFault}
 use Rattle.math_parse.specs.declared.fault.ParseFault.TheVariants as parse
 use Rattle.step_items.specs.Terms.{IsTermText}
@@ -57,8 +57,8 @@ pub too_wide : CutsOneWay → (text : List ℕ) (found : TokenFault) (at : ℕ) 
 too_wide law text found at is bad = no_tokens law text (fault.NumberTooWide at) (subst (λ f. Cuts sign_forms text (Err f)) is bad)
 
 -- what is not found is not there
-pub no_formula : (P : Raw → Type 0) (found : ParseFault) (at : ℕ) → found ≡ parse.Unexpected at → ((t : Raw) → P t → Finds (Err found) t) → (t : Raw) → P t → ⊥
-no_formula P found at is only = subst (λ f. (t : Raw) → P t → Finds (Err f) t) is only
+pub no_formula : (P : Raw → Type 0) (found : ParseFault) (at : ℕ) → found ≡ parse.Unexpected at → ((t : Raw) → P t → FindsFormula (Err found) t) → (t : Raw) → P t → ⊥
+no_formula P found at is only = subst (λ f. (t : Raw) → P t → FindsFormula (Err f) t) is only
 
-pub too_large : (P : Raw → Type 0) (found : ParseFault) (at : ℕ) → found ≡ parse.TooLarge at → ((t : Raw) → P t → Finds (Err found) t) → (t : Raw) → P t → ⊥
-too_large P found at is only = subst (λ f. (t : Raw) → P t → Finds (Err f) t) is only
+pub too_large : (P : Raw → Type 0) (found : ParseFault) (at : ℕ) → found ≡ parse.TooLarge at → ((t : Raw) → P t → FindsFormula (Err found) t) → (t : Raw) → P t → ⊥
+too_large P found at is only = subst (λ f. (t : Raw) → P t → FindsFormula (Err f) t) is only

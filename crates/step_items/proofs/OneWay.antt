@@ -15,7 +15,7 @@ use Rattle.sequent_core.specs.declared.hint.Hint.{Hint}
 use Rattle.step_items.specs.declared.item.Item.{Item}
 use Rattle.step_items.specs.Hints.{terms_in_item, laws_of, only_law, IsHint}
 use Rattle.step_items.specs.Terms.{IsTermText}
-use Rattle.step_items.specs.Private.{AreTerms}
+use Rattle.step_items.specs.Private.{AreTermTexts}
 
 -- a text has one list of tokens, and tokens spell one formula
 pub record OneReading : Type 0 where
@@ -31,7 +31,7 @@ one_term laws h bytes a b x y =
     let same : x.tokens ≡ y.tokens = ap tokens_in (laws.cut bytes (Ok x.tokens) (Ok y.tokens) x.cut y.cut) in
     laws.formula most_parts h (items_of bytes x.tokens) a b x.spelled.0 (subst (λ ts. IsSentence h (items_of bytes ts) b) (sym same) y.spelled).0
 
-one_terms : OneReading → (ws : List (Hole × List ℕ)) (ts us : List Raw) → AreTerms ws ts → AreTerms ws us → ts ≡ us
+one_terms : OneReading → (ws : List (Hole × List ℕ)) (ts us : List Raw) → AreTermTexts ws ts → AreTermTexts ws us → ts ≡ us
 one_terms laws [] [] [] a b = refl
 one_terms laws [] [] (u ∷ us) a b = absurd b
 one_terms laws [] (t ∷ ts) us a b = absurd a

@@ -21,24 +21,24 @@ before_mark [] = 0
 before_mark (c ∷ rest) = if is_marked (c ∷ rest) then 0 else 1 + before_mark rest
 
 -- the formulas are spelled so
-abbrev pub AreTerms : List (Hole × List ℕ) → List Raw → Type 0
-AreTerms written terms = AllZip (λ one t. IsTermText one.0 one.1 t) written terms
+abbrev pub AreTermTexts : List (Hole × List ℕ) → List Raw → Type 0
+AreTermTexts written terms = AllZip (λ one t. IsTermText one.0 one.1 t) written terms
 
 -- the item is added to the parts
-pub record Adds (it : Item) (old new : Parts) : Type 0 where
+pub record AddsItem (it : Item) (old new : Parts) : Type 0 where
   pub hyps : new.hyps.items ≡ old.hyps.items ++ hyps_of it
   pub multipliers : new.multipliers.items ≡ old.multipliers.items ++ multipliers_of it
   pub names : new.names.items ≡ old.names.items ++ names_in_item it
   pub laws : new.laws.items ≡ old.laws.items ++ laws_of it
   pub read : List Raw
   pub terms : new.terms.items ≡ old.terms.items ++ read
-  pub spelled : AreTerms (terms_in_item it) read
+  pub spelled : AreTermTexts (terms_in_item it) read
 
 -- it has a formula, which can't be read
-abbrev pub IsUnread : Item → Type 0
-IsUnread (item.Expression bytes) = (t : Raw) → IsTermText hole.Expression bytes t → ⊥
-IsUnread (item.Predicate bytes) = (t : Raw) → IsTermText hole.Predicate bytes t → ⊥
-IsUnread _ = ⊥
+abbrev pub IsUnreadable : Item → Type 0
+IsUnreadable (item.Expression bytes) = (t : Raw) → IsTermText hole.Expression bytes t → ⊥
+IsUnreadable (item.Predicate bytes) = (t : Raw) → IsTermText hole.Predicate bytes t → ⊥
+IsUnreadable _ = ⊥
 
 -- the parts that the items have together
 pub record AreParts (items : List Item) (parts : Parts) : Type 0 where
@@ -46,4 +46,4 @@ pub record AreParts (items : List Item) (parts : Parts) : Type 0 where
   pub multipliers : parts.multipliers.items ≡ flat_map multipliers_of items
   pub names : parts.names.items ≡ flat_map names_in_item items
   pub laws : parts.laws.items ≡ flat_map laws_of items
-  pub terms : AreTerms (flat_map terms_in_item items) parts.terms.items
+  pub terms : AreTermTexts (flat_map terms_in_item items) parts.terms.items

@@ -2,7 +2,7 @@
 ghost use Rattle.std.specs.Prelude.{◌≡◌, ◌++◌, ◌∷◌, [], None, Some, IfOk, OnOk, MatchBool, MatchOption};
 ghost use Rattle.sequent_core.specs.declared.hint.Hint.{Hint};
 ghost use Rattle.step_items.specs.Hints.{only_law, IsHint};
-ghost use Rattle.step_items.specs.Private.{Adds, IsUnread, AreParts};
+ghost use Rattle.step_items.specs.Private.{AddsItem, IsUnreadable, AreParts};
 
 use crate::item::Item;
 use crate::terms::{read_expression, read_predicate};
@@ -51,7 +51,7 @@ fn add_name(alloc: Global, names: &mut Vec<Name>, name: &Name) -> Result<(), Out
 
 /// Adds an item, unless its formula can't be read.
 fn add(alloc: Global, parts: &mut Parts, item: &Item) -> Result<bool, OutOfMemory>
-    ensures { IfOk result (λ read. MatchBool read (Adds item.now parts.old parts.new) (IsUnread item.now)) }
+    ensures { IfOk result (λ read. MatchBool read (AddsItem item.now parts.old parts.new) (IsUnreadable item.now)) }
 {
     match item {
         Item::Hyp(number) => parts.hyps.push(*number)?,

@@ -50,7 +50,7 @@ pub record IsStoreLog (base : StoreBase) (log : List Logged) (xs : List (ℕ × 
   pub run : Runs (opened base.durable) (exchanges_of xs) s
 
 -- What an act of a chair does that the store answers: its event is the next exchange.
-pub record Performs (base : StoreBase) (chair : ℕ) (event : Event) (reply : Reply) (found left : List Logged) : Type 0 where
+pub record PerformsInLog (base : StoreBase) (chair : ℕ) (event : Event) (reply : Reply) (found left : List Logged) : Type 0 where
   pub xs : List (ℕ × Exchange)
   pub before : State
   pub now : State

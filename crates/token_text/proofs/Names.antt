@@ -9,13 +9,13 @@ use Rattle.formula_core.specs.Names.{starts_word, is_in_word, is_reserved, is_id
 use Rattle.math_tokens.specs.declared.lexemes.Lexeme.{Lexeme}
 use Rattle.math_tokens.specs.declared.lexemes.Lexeme.TheVariants as lexeme
 use Rattle.math_tokens.specs.declared.cutting.TokenKind.TheVariants as kind
-use Rattle.math_tokens.specs.Lexemes.{sign_in, is_digit, is_word, IsLexeme, a_sign, a_word, a_primed, a_number}
+use Rattle.math_tokens.specs.Lexemes.{sign_in, is_digit, is_token_word, IsLexeme, a_sign, a_word, a_primed, a_number}
 use Rattle.math_tokens.specs.SignForms.{sign_forms}
 use Rattle.math_tokens.specs.Texts.{meaning}
 use Rattle.math_grammar.specs.declared.symbols.Symbol.TheVariants as sym
 use Rattle.math_grammar.specs.Tokens.{or_word}
 use Rattle.math_grammar.specs.Grammar.{item}
-use Rattle.token_text.specs.Spacing.{Fits}
+use Rattle.token_text.specs.Spacing.{FitsBefore}
 use Rattle.token_text.proofs.Following.{stops, Follows}
 use Rattle.token_text.proofs.Tokens.{IsToken, fits, both_true, holds_inside, before_prime, no_form, stopped}
 use Rattle.token_text.proofs.Words.{ends_word, is_lettered, starts_in_word, no_blank_there, none_ends, none_goes_on, name_is_no_sign, name_is_no_word}
@@ -57,7 +57,7 @@ module _ (b : ℕ) (bs : List ℕ) (is : IsFreeWord b bs) where
   in_word : is_in_word b ≡ true
   in_word = starts_in_word b is.starts
 
-  a_word_there : is_word (b ∷ bs) ≡ true
+  a_word_there : is_token_word (b ∷ bs) ≡ true
   a_word_there = (λ i. is.starts i && is.goes_on i)
 
   short_word : (at : ℕ) → meaning (b ∷ bs) lexeme.Word at ≡ Ok kind.Word
@@ -88,7 +88,7 @@ module _ (b : ℕ) (bs : List ℕ) (is : IsFreeWord b bs) where
       let never : is_in_word prime ≡ true = holds_inside is_in_word bs prime (c ∷ more) (both_true (starts_word b) (list_all is_in_word (bs ++ prime ∷ c ∷ more)) w).1 in cc
   no_longer c more other (a_primed w n is_w e) = primed w is_w e
     where
-      primed : (w : List ℕ) → is_word w ≡ true → (b ∷ bs) ++ prime ∷ c ∷ more ≡ w ++ 39 ∷ [] → ⊥
+      primed : (w : List ℕ) → is_token_word w ≡ true → (b ∷ bs) ++ prime ∷ c ∷ more ≡ w ++ 39 ∷ [] → ⊥
       primed [] is_w e = cc
       primed (d ∷ ds) is_w e =
           let tail : bs ++ prime ∷ c ∷ more ≡ ds ++ 39 ∷ [] = cc in
@@ -137,7 +137,7 @@ name_token n h = go (bytes_eq (drop (length n - 1) n) (prime ∷ [])) refl h
         subst (λ t. IsToken stops (item sym.Word 0 t)) whole (with_prime w own)
     go false e v = identifier_token n ((λ i. is_identifier (if back e i then take (length n - 1) n else n)) ∙ v)
 
-pub fits-name : (n : List ℕ) → is_name n ≡ true → (rest : List ℕ) → Follows stops rest → Fits (item sym.Word 0 n) rest
+pub fits-name : (n : List ℕ) → is_name n ≡ true → (rest : List ℕ) → Follows stops rest → FitsBefore (item sym.Word 0 n) rest
 fits-name n h = fits stops (item sym.Word 0 n) (name_token n h)
 
 -- a name begins with a byte of a word

@@ -12,7 +12,7 @@ use Rattle.math_tokens.specs.Lexemes.{is_digit, is_digits, a_number, value_after
 use Rattle.math_tokens.specs.Texts.{meaning}
 use Rattle.math_grammar.specs.declared.symbols.Symbol.TheVariants as sym
 use Rattle.math_grammar.specs.Grammar.{item}
-use Rattle.token_text.specs.Spacing.{Fits}
+use Rattle.token_text.specs.Spacing.{FitsBefore}
 use Rattle.token_text.proofs.Following.{stops, Follows}
 use Rattle.token_text.proofs.Tokens.{IsToken, fits, both_true, stopped}
 use Rattle.token_text.proofs.Words.{is_lettered, digit_in_word, no_blank_there, none_goes_on, number_is_no_sign}
@@ -75,7 +75,7 @@ number_token n (d ∷ ds) small w = record {
     means at = rw (w.value, below) refl
 
 -- a natural number in decimal, before what stops
-pub fits-number : (n : ℕ) → n < 2 ^ 127 → (rest : List ℕ) → Follows stops rest → Fits (item (sym.Number (pos n)) 0 (decimal n)) rest
+pub fits-number : (n : ℕ) → n < 2 ^ 127 → (rest : List ℕ) → Follows stops rest → FitsBefore (item (sym.Number (pos n)) 0 (decimal n)) rest
 fits-number n small = fits stops (item (sym.Number (pos n)) 0 (decimal n)) (number_token n (decimal n) small (decimal_writes n small))
 
 -- it begins with a digit, and so with a byte of a word

@@ -12,7 +12,7 @@ use Rattle.math_grammar.specs.Tokens.{symbol_of}
 use Rattle.math_grammar.specs.Operators.{sign_of, op_form, class_of, raw_sign_of, raw_class_of}
 use Rattle.math_grammar.specs.Grammar.{item}
 use Rattle.math_grammar.proofs.Rows.{any_operator}
-use Rattle.token_text.specs.Spacing.{is_space, Fits}
+use Rattle.token_text.specs.Spacing.{is_space, FitsBefore}
 use Rattle.token_text.proofs.Following.{stops, Follows}
 use Rattle.token_text.proofs.Signs.{kind_of, is_spaced, is_stopped, stopped_fits, before_blank}
 
@@ -43,10 +43,10 @@ own_class op.SetExtension h = cc
 own_class _ h = refl
 
 -- each sign is a token before a blank, and one that stands between no operands before what stops
-pub fits_spaced : (o : Op) → is_signed (op_form o) ≡ true → (rest : List ℕ) → Follows is_space rest → Fits (item (class_of o) 0 (sign_of o)) rest
+pub fits_spaced : (o : Op) → is_signed (op_form o) ≡ true → (rest : List ℕ) → Follows is_space rest → FitsBefore (item (class_of o) 0 (sign_of o)) rest
 fits_spaced o h = before_blank (class_of o) (sign_of o) (own_class o h) (passed (λ o. is_signed (op_form o)) (λ o. is_spaced (sign_of o) || is_stopped (sign_of o)) refl o h)
 
-pub fits_alone : (o : Op) → is_alone (op_form o) ≡ true → (rest : List ℕ) → Follows stops rest → Fits (item (class_of o) 0 (sign_of o)) rest
+pub fits_alone : (o : Op) → is_alone (op_form o) ≡ true → (rest : List ℕ) → Follows stops rest → FitsBefore (item (class_of o) 0 (sign_of o)) rest
 fits_alone o h = stopped_fits (class_of o) (sign_of o) (own_class o (alone_signed (op_form o) h)) (passed (λ o. is_alone (op_form o)) (λ o. is_stopped (sign_of o)) refl o h)
   where
     alone_signed : (f : Form) → is_alone f ≡ true → is_signed f ≡ true
@@ -58,6 +58,6 @@ abbrev pub is_written : RawOp → Bool
 is_written (rawop.Plain o) = is_signed (op_form o)
 is_written _ = true
 
-pub written_fits : (o : RawOp) → is_written o ≡ true → (rest : List ℕ) → Follows is_space rest → Fits (item (raw_class_of o) 0 (raw_sign_of o)) rest
+pub written_fits : (o : RawOp) → is_written o ≡ true → (rest : List ℕ) → Follows is_space rest → FitsBefore (item (raw_class_of o) 0 (raw_sign_of o)) rest
 written_fits (rawop.Plain o) h = fits_spaced o h
 written_fits o h = before_blank (raw_class_of o) (raw_sign_of o) refl refl

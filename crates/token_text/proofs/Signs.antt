@@ -10,13 +10,13 @@ use Rattle.math_tokens.specs.declared.lexemes.Lexeme.TheVariants as lexeme
 use Rattle.math_tokens.specs.declared.cutting.TokenKind.{TokenKind}
 use Rattle.math_tokens.specs.declared.cutting.TokenKind.TheVariants as kind
 use Rattle.math_tokens.specs.declared.cutting.TokenFault.TheVariants as fault
-use Rattle.math_tokens.specs.Lexemes.{sign_in, is_digit, is_word, IsLexeme, a_sign, a_word}
+use Rattle.math_tokens.specs.Lexemes.{sign_in, is_digit, is_token_word, IsLexeme, a_sign, a_word}
 use Rattle.math_tokens.specs.SignForms.{sign_forms}
 use Rattle.math_tokens.specs.Texts.{second_length, blank_length, meaning}
 use Rattle.math_grammar.specs.declared.symbols.Symbol.{Symbol}
 use Rattle.math_grammar.specs.Tokens.{symbol_of}
 use Rattle.math_grammar.specs.Grammar.{item}
-use Rattle.token_text.specs.Spacing.{is_space, Fits}
+use Rattle.token_text.specs.Spacing.{is_space, FitsBefore}
 use Rattle.token_text.proofs.Following.{stops, Follows}
 use Rattle.token_text.proofs.Tokens.{goes_further, NoneGoesOn, IsToken, both_true, fits, stopped, free_sign}
 
@@ -30,19 +30,19 @@ anything (c ∷ rest) = refl
 
 -- a sign before anything ..
 pub free_fits : (k : ℕ) (x : Symbol) (b : ℕ) (bs : List ℕ) → starts_word b ≡ false → is_digit b ≡ false → sign_in sign_forms (b ∷ bs) ≡ Some k → ((rest : List ℕ) → blank_length ((b ∷ bs) ++ rest) ≡ 0)
-    → NoneGoesOn sign_forms (b ∷ bs) (λ c. true) → symbol_of (kind.Sign k) (b ∷ bs) ≡ x → (rest : List ℕ) → Fits (item x 0 (b ∷ bs)) rest
+    → NoneGoesOn sign_forms (b ∷ bs) (λ c. true) → symbol_of (kind.Sign k) (b ∷ bs) ≡ x → (rest : List ℕ) → FitsBefore (item x 0 (b ∷ bs)) rest
 free_fits k x b bs word digit is no_blank none class rest = fits (λ c. true) (item x 0 (b ∷ bs))
     (record { lexeme = lexeme.Sign k; kind = kind.Sign k; some = omega arith; no_blank = no_blank; spells = a_sign is; means = λ at. refl; class = class; no_longer = free_sign (λ c. true) b bs word digit none }) rest (anything rest)
 
 -- .. one before what passes
 pub passing_sign : (p : ℕ → Bool) (k : ℕ) (x : Symbol) (b : ℕ) (bs : List ℕ) → starts_word b ≡ false → is_digit b ≡ false → sign_in sign_forms (b ∷ bs) ≡ Some k → ((rest : List ℕ) → blank_length ((b ∷ bs) ++ rest) ≡ 0)
-    → NoneGoesOn sign_forms (b ∷ bs) p → symbol_of (kind.Sign k) (b ∷ bs) ≡ x → (rest : List ℕ) → Follows p rest → Fits (item x 0 (b ∷ bs)) rest
+    → NoneGoesOn sign_forms (b ∷ bs) p → symbol_of (kind.Sign k) (b ∷ bs) ≡ x → (rest : List ℕ) → Follows p rest → FitsBefore (item x 0 (b ∷ bs)) rest
 passing_sign p k x b bs word digit is no_blank none class rest = fits p (item x 0 (b ∷ bs))
     (record { lexeme = lexeme.Sign k; kind = kind.Sign k; some = omega arith; no_blank = no_blank; spells = a_sign is; means = λ at. refl; class = class; no_longer = free_sign p b bs word digit none }) rest
 
 -- a word with a meaning of its own, before what stops
-pub stop_word : (x : Symbol) (b : ℕ) (bs : List ℕ) → sign_in sign_forms (b ∷ bs) ≡ None → is_word (b ∷ bs) ≡ true → ((rest : List ℕ) → blank_length ((b ∷ bs) ++ rest) ≡ 0)
-    → NoneGoesOn sign_forms (b ∷ bs) stops → symbol_of kind.Word (b ∷ bs) ≡ x → ((at : ℕ) → meaning (b ∷ bs) lexeme.Word at ≡ Ok kind.Word) → (rest : List ℕ) → Follows stops rest → Fits (item x 0 (b ∷ bs)) rest
+pub stop_word : (x : Symbol) (b : ℕ) (bs : List ℕ) → sign_in sign_forms (b ∷ bs) ≡ None → is_token_word (b ∷ bs) ≡ true → ((rest : List ℕ) → blank_length ((b ∷ bs) ++ rest) ≡ 0)
+    → NoneGoesOn sign_forms (b ∷ bs) stops → symbol_of kind.Word (b ∷ bs) ≡ x → ((at : ℕ) → meaning (b ∷ bs) lexeme.Word at ≡ Ok kind.Word) → (rest : List ℕ) → Follows stops rest → FitsBefore (item x 0 (b ∷ bs)) rest
 stop_word x b bs none_is word no_blank none class means rest = fits stops (item x 0 (b ∷ bs))
     (record { lexeme = lexeme.Word; kind = kind.Word; some = omega arith; no_blank = no_blank; spells = a_word none_is word; means = means; class = class; no_longer = stopped b bs none }) rest
 
@@ -62,7 +62,7 @@ begins_no_word (c ∷ cs) = not (starts_word c) && not (is_digit c)
 
 -- a sign, or a word that isn't too long
 abbrev pub is_spelled : List ℕ → Bool
-is_spelled w = is_some (sign_in sign_forms w) || (is_word w && nat_le (length w) 64)
+is_spelled w = is_some (sign_in sign_forms w) || (is_token_word w && nat_le (length w) 64)
 
 -- its kind
 abbrev pub kind_of : List ℕ → TokenKind
@@ -97,7 +97,7 @@ token_of : (p : ℕ → Bool) (x : Symbol) (w : List ℕ) → 0 < length w → b
     → ((c : ℕ) (more : List ℕ) → p c ≡ true → (other : Lexeme) → IsLexeme sign_forms (w ++ c ∷ more) other → ⊥) → IsToken p (item x 0 w)
 token_of p x w some begins spelled class no_longer = go (sign_in sign_forms w) refl spelled
   where
-    go : (found : Option ℕ) → sign_in sign_forms w ≡ found → (is_some found || (is_word w && nat_le (length w) 64)) ≡ true → IsToken p (item x 0 w)
+    go : (found : Option ℕ) → sign_in sign_forms w ≡ found → (is_some found || (is_token_word w && nat_le (length w) 64)) ≡ true → IsToken p (item x 0 w)
     go (Some k) e h = record {
       lexeme = lexeme.Sign k;
       kind = kind.Sign k;
@@ -113,8 +113,8 @@ token_of p x w some begins spelled class no_longer = go (sign_in sign_forms w) r
       kind = kind.Word;
       some = some;
       no_blank = λ rest. stays_no_blank w rest begins;
-      spells = a_word e (both_true (is_word w) (nat_le (length w) 64) h).0;
-      means = λ at. ap (λ b. cond b (Ok kind.Word) (Err (fault.BadSign at))) (both_true (is_word w) (nat_le (length w) 64) h).1;
+      spells = a_word e (both_true (is_token_word w) (nat_le (length w) 64) h).0;
+      means = λ at. ap (λ b. cond b (Ok kind.Word) (Err (fault.BadSign at))) (both_true (is_token_word w) (nat_le (length w) 64) h).1;
       class = ap (λ found. symbol_of (option_map_or (λ k. kind.Sign k) found kind.Word) w) (back e) ∙ class;
       no_longer = no_longer;
     }
@@ -123,14 +123,14 @@ false_of : (b : Bool) → not b ≡ true → b ≡ false
 false_of true h = cc
 false_of false h = refl
 
-pub stopped_fits : (x : Symbol) (w : List ℕ) → symbol_of (kind_of w) w ≡ x → is_stopped w ≡ true → (rest : List ℕ) → Follows stops rest → Fits (item x 0 w) rest
+pub stopped_fits : (x : Symbol) (w : List ℕ) → symbol_of (kind_of w) w ≡ x → is_stopped w ≡ true → (rest : List ℕ) → Follows stops rest → FitsBefore (item x 0 w) rest
 stopped_fits x [] class h rest f = cc
 stopped_fits x (b ∷ bs) class h rest f =
     let begins : (begins_no_blank (b ∷ bs) ≡ true) × ((is_spelled (b ∷ bs) && none_passes stops (b ∷ bs)) ≡ true) = both_true (begins_no_blank (b ∷ bs)) _ h in
     let spelled : (is_spelled (b ∷ bs) ≡ true) × (none_passes stops (b ∷ bs) ≡ true) = both_true (is_spelled (b ∷ bs)) _ begins.1 in
     fits stops (item x 0 (b ∷ bs)) (token_of stops x (b ∷ bs) (omega arith) begins.0 spelled.0 class (stopped b bs spelled.1)) rest f
 
-spaced_fits : (x : Symbol) (w : List ℕ) → symbol_of (kind_of w) w ≡ x → is_spaced w ≡ true → (rest : List ℕ) → Follows is_space rest → Fits (item x 0 w) rest
+spaced_fits : (x : Symbol) (w : List ℕ) → symbol_of (kind_of w) w ≡ x → is_spaced w ≡ true → (rest : List ℕ) → Follows is_space rest → FitsBefore (item x 0 w) rest
 spaced_fits x [] class h rest f = cc
 spaced_fits x (b ∷ bs) class h rest f =
     let begins : (begins_no_blank (b ∷ bs) ≡ true) × ((is_spelled (b ∷ bs) && (begins_no_word (b ∷ bs) && none_passes is_space (b ∷ bs))) ≡ true) = both_true (begins_no_blank (b ∷ bs)) _ h in
@@ -153,9 +153,9 @@ space_stops (c ∷ t) f = go (c == 32) refl (c == 9) refl (c == 13) refl (c == 1
     go false i false j false k false l = let contra : false ≡ true = back (λ n. (i n || (j n || (k n || l n)))) ∙ f in cc
 
 -- before a blank, one of both will do
-pub before_blank : (x : Symbol) (w : List ℕ) → symbol_of (kind_of w) w ≡ x → (is_spaced w || is_stopped w) ≡ true → (rest : List ℕ) → Follows is_space rest → Fits (item x 0 w) rest
+pub before_blank : (x : Symbol) (w : List ℕ) → symbol_of (kind_of w) w ≡ x → (is_spaced w || is_stopped w) ≡ true → (rest : List ℕ) → Follows is_space rest → FitsBefore (item x 0 w) rest
 before_blank x w class h rest f = go (is_spaced w) refl h
   where
-    go : (s : Bool) → is_spaced w ≡ s → (s || is_stopped w) ≡ true → Fits (item x 0 w) rest
+    go : (s : Bool) → is_spaced w ≡ s → (s || is_stopped w) ≡ true → FitsBefore (item x 0 w) rest
     go true e k = spaced_fits x w class e rest f
     go false e k = stopped_fits x w class k rest (space_stops rest f)

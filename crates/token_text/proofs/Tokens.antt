@@ -8,11 +8,11 @@ use Rattle.std.proofs.lemmas.Slice.Eq.{bytes_eq-Decides}
 use Rattle.formula_core.specs.Names.{starts_word, is_in_word}
 use Rattle.math_tokens.specs.declared.lexemes.Lexeme.{Lexeme}
 use Rattle.math_tokens.specs.declared.cutting.TokenKind.{TokenKind}
-use Rattle.math_tokens.specs.Lexemes.{Forms, sign_in, is_digit, is_word, IsLexeme, a_sign, a_word, a_primed, a_number}
+use Rattle.math_tokens.specs.Lexemes.{Forms, sign_in, is_digit, is_token_word, IsLexeme, a_sign, a_word, a_primed, a_number}
 use Rattle.math_tokens.specs.SignForms.{sign_forms}
 use Rattle.math_tokens.specs.Texts.{blank_length, meaning}
 use Rattle.math_grammar.specs.Tokens.{Item, symbol_of}
-use Rattle.token_text.specs.Spacing.{Fits}
+use Rattle.token_text.specs.Spacing.{FitsBefore}
 use Rattle.token_text.proofs.Following.{stops, Follows}
 
 -- a form begins with these bytes, and goes on with one that passes
@@ -72,7 +72,7 @@ beyond p x is (c ∷ rest) follows m more short other lexeme =
     let t : take m (s ++ c ∷ rest) ≡ s ++ c ∷ take (m - length s - 1) rest = ap (λ n. take n (s ++ c ∷ rest)) j ∙ take-append-add s (c ∷ rest) (suc (m - length s - 1)) in
     is.no_longer c (take (m - length s - 1) rest) follows other (subst (λ u. IsLexeme sign_forms u other) t lexeme)
 
-pub fits : (p : ℕ → Bool) (x : Item) → IsToken p x → (rest : List ℕ) → Follows p rest → Fits x rest
+pub fits : (p : ℕ → Bool) (x : Item) → IsToken p x → (rest : List ℕ) → Follows p rest → FitsBefore x rest
 fits p x is rest follows = record {
   lexeme = is.lexeme;
   kind = is.kind;
@@ -109,7 +109,7 @@ stopped b bs none c more h other (a_word n w) =
     clash (is_in_word c) (holds_inside is_in_word bs c more (both_true (starts_word b) (list_all is_in_word (bs ++ c ∷ more)) w).1) (both_true (not (is_in_word c)) _ h).0
 stopped b bs none c more h other (a_primed w n is e) = primed w is e
   where
-    primed : (w : List ℕ) → is_word w ≡ true → (b ∷ bs) ++ c ∷ more ≡ w ++ 39 ∷ [] → ⊥
+    primed : (w : List ℕ) → is_token_word w ≡ true → (b ∷ bs) ++ c ∷ more ≡ w ++ 39 ∷ [] → ⊥
     primed [] is e = cc
     primed (d ∷ ds) is e =
         let tail : bs ++ c ∷ more ≡ ds ++ 39 ∷ [] = cc in
@@ -130,7 +130,7 @@ free_sign p b bs word digit none c more h other (a_sign e) = let n : sign_in sig
 free_sign p b bs word digit none c more h other (a_word n w) = let f : starts_word b ≡ true = (both_true (starts_word b) (list_all is_in_word (bs ++ c ∷ more)) w).0 in cc
 free_sign p b bs word digit none c more h other (a_primed w n is e) = primed w is e
   where
-    primed : (w : List ℕ) → is_word w ≡ true → (b ∷ bs) ++ c ∷ more ≡ w ++ 39 ∷ [] → ⊥
+    primed : (w : List ℕ) → is_token_word w ≡ true → (b ∷ bs) ++ c ∷ more ≡ w ++ 39 ∷ [] → ⊥
     primed [] is e = cc
     primed (d ∷ ds) is e =
         let same : b ≡ d = cc in

@@ -14,7 +14,7 @@ abbrev pub is_space : ℕ → Bool
 is_space c = c == 32 || (c == 9 || (c == 13 || c == 10))
 
 -- the bytes of the token are one of its class where the rest follows: none longer begins there
-pub record Fits (x : Item) (rest : List ℕ) : Type 0 where
+pub record FitsBefore (x : Item) (rest : List ℕ) : Type 0 where
   pub lexeme : Lexeme
   pub kind : TokenKind
   pub longest : IsLongest sign_forms (x.text ++ rest) (length x.text) lexeme
@@ -26,12 +26,12 @@ pub record Fits (x : Item) (rest : List ℕ) : Type 0 where
 pub data Spaced : List Item → List ℕ → Type 0 where
   the_end : Spaced [] []
   a_blank : {tokens : List Item} {text : List ℕ} (c : ℕ) → is_space c ≡ true → Spaced tokens text → Spaced tokens (c ∷ text)
-  a_token : {tokens : List Item} {text : List ℕ} (x : Item) → Fits x text → Spaced tokens text → Spaced (x ∷ tokens) (x.text ++ text)
+  a_token : {tokens : List Item} {text : List ℕ} (x : Item) → FitsBefore x text → Spaced tokens text → Spaced (x ∷ tokens) (x.text ++ text)
 
 -- a token without its place
-abbrev pub unplaced : Item → Symbol × List ℕ
-unplaced x = (x.symbol, x.text)
+abbrev pub without_place : Item → Symbol × List ℕ
+without_place x = (x.symbol, x.text)
 
 -- the text is cut, with no fault, into these tokens, but for their places
 abbrev pub IsCutInto : List ℕ → List Item → Type 0
-IsCutInto text tokens = (us : List Token) × Cut sign_forms text 0 (Ok us) × (map unplaced (items_of text us) ≡ map unplaced tokens)
+IsCutInto text tokens = (us : List Token) × Cut sign_forms text 0 (Ok us) × (map without_place (items_of text us) ≡ map without_place tokens)

@@ -11,7 +11,7 @@ use prog.Atomic.{either}
 use Rattle.atomic_table.specs.Table.{State, Me, step, Act, keeps, takes as takes_slot, gives as gives_slot, Valid, carried_after, stepped, put_back, rest, Allows, Splits, Joins, opening, Final, Seen}
 use Rattle.atomic_table.proofs.Lists.{at_set, set_again, set_here, set_else, at_snoc, at_longer, exchanged}
 use Rattle.turn_desk.specs.declared.view.View.{View}
-use Rattle.turn_desk.specs.Log.{Begins, entries_of, Grows, HasSeen, longer, shorter, Joined, JoinedStay, AllJoined, NoneFrom}
+use Rattle.turn_desk.specs.Log.{IsPrefix, entries_of, Grows, HasSeen, longer, shorter, Joined, JoinedStay, AllJoined, NoneFrom}
 use Rattle.turn_desk.specs.Rule.{Turn, log_of_turns, Truly, odd, Orderly}
 use Rattle.turn_desk.specs.Plays.{first_view, at_turn, after_turn, maker, newcomer, joined_view, spent_view, took, gave, learned}
 use Rattle.turn_desk.proofs.Logs.{at_inside, begins_all, begins_none, begins_more, entries_same, grows_by, entries_between, entries_none, rest_quiet, quiet_empty, begins_other, joined_new}
@@ -143,7 +143,7 @@ module _ {V E B : Type 0} (log_of : V → List E) (chair_of : E → ℕ) (base_o
           each_seat = seats_still chair_of origin (Truly chair_of origin log o.made id true o.seat_of) s.views id w
               (λ _. record {
                 number = mine.number;
-                seen = subst (λ l. Begins l log) (sym home.2) (begins_all log);
+                seen = subst (λ l. IsPrefix l log) (sym home.2) (begins_all log);
                 before = (begins_all (log_of value), refl);
                 told = begins_none (log_of value);
                 own = ap (entries_of chair_of v.number) (sym home.2);
@@ -165,7 +165,7 @@ module _ {V E B : Type 0} (log_of : V → List E) (chair_of : E → ℕ) (base_o
           (λ _. (
             value,
             (λ i. (w, (0, Some value) ∷ empty i)),
-            (subst (Begins v.seen) (sym home.2) mine.seen, ap (entries_of chair_of v.number) home.2 ∙ mine.own),
+            (subst (IsPrefix v.seen) (sym home.2) mine.seen, ap (entries_of chair_of v.number) home.2 ∙ mine.own),
             mine.base ∙ ap Some (sym home.3),
           )),
           λ not. absurd (not is),
@@ -212,7 +212,7 @@ module _ {V E B : Type 0} (log_of : V → List E) (chair_of : E → ℕ) (base_o
               (seats_still chair_of origin (Truly chair_of origin (log ++ added) o.made id false o.seat_of) s.views id w
               (λ _. record {
                 number = mine.number;
-                seen = subst (λ l. Begins l (log ++ added)) (sym now) (begins_all (log ++ added));
+                seen = subst (λ l. IsPrefix l (log ++ added)) (sym now) (begins_all (log ++ added));
                 before = (begins_all (log_of y), refl);
                 told = begins_none (log_of y);
                 own = ap (entries_of chair_of v.number) (sym now);
@@ -363,11 +363,11 @@ module _ {V E B : Type 0} (log_of : V → List E) (chair_of : E → ℕ) (base_o
       let own : List E = entries_of chair_of w.number w.seen in
       let kept : (k : ℕ) → o.seat_of k ≢ other → f k ≡ o.seat_of k = λ k n. reseat_else o.seat_of w.number id k (λ e. n (ap o.seat_of e ∙ theirs.number.1)) in
       let seats : List (View E B) = set s.views id b in
-      let long : Begins (longer v.seen w.seen) log = ⊎_elim (λ t. subst (λ l. Begins l log) (sym t.1) theirs.seen) (λ t. subst (λ l. Begins l log) (sym t.1) mine.seen) (longer_is v.seen w.seen) in
-      let short : Begins (shorter v.seen w.seen) (longer v.seen w.seen) = ⊎_elim
-      (λ t. subst (λ (z : List E × List E). Begins z.0 z.1) (λ i. (sym t.2 i, sym t.1 i)) (begins_other v.seen w.seen log mine.seen theirs.seen (omega arith)))
-      (λ t. subst (λ (z : List E × List E). Begins z.0 z.1) (λ i. (sym t.2 i, sym t.1 i)) (begins_other w.seen v.seen log theirs.seen mine.seen t.0)) (longer_is v.seen w.seen) in
-      let later : Begins v.seen (longer v.seen w.seen) = ⊎_elim (λ t. subst (Begins v.seen) (sym t.1) (begins_other v.seen w.seen log mine.seen theirs.seen (omega arith))) (λ t. subst (Begins v.seen) (sym t.1) (begins_all v.seen)) (longer_is v.seen w.seen) in
+      let long : IsPrefix (longer v.seen w.seen) log = ⊎_elim (λ t. subst (λ l. IsPrefix l log) (sym t.1) theirs.seen) (λ t. subst (λ l. IsPrefix l log) (sym t.1) mine.seen) (longer_is v.seen w.seen) in
+      let short : IsPrefix (shorter v.seen w.seen) (longer v.seen w.seen) = ⊎_elim
+      (λ t. subst (λ (z : List E × List E). IsPrefix z.0 z.1) (λ i. (sym t.2 i, sym t.1 i)) (begins_other v.seen w.seen log mine.seen theirs.seen (omega arith)))
+      (λ t. subst (λ (z : List E × List E). IsPrefix z.0 z.1) (λ i. (sym t.2 i, sym t.1 i)) (begins_other w.seen v.seen log theirs.seen mine.seen t.0)) (longer_is v.seen w.seen) in
+      let later : IsPrefix v.seen (longer v.seen w.seen) = ⊎_elim (λ t. subst (IsPrefix v.seen) (sym t.1) (begins_other v.seen w.seen log mine.seen theirs.seen (omega arith))) (λ t. subst (IsPrefix v.seen) (sym t.1) (begins_all v.seen)) (longer_is v.seen w.seen) in
       let from_mine : (k : ℕ) → entries_of chair_of k log ≡ entries_of chair_of k v.seen → entries_of chair_of k (longer v.seen w.seen) ≡ entries_of chair_of k log = λ k e. ⊎_elim
       (λ t. ap (entries_of chair_of k) t.1 ∙ (entries_between chair_of k v.seen w.seen log (begins_other v.seen w.seen log mine.seen theirs.seen (omega arith)) theirs.seen e ∙ sym e))
       (λ t. ap (entries_of chair_of k) t.1 ∙ sym e) (longer_is v.seen w.seen) in
@@ -415,13 +415,13 @@ module _ {V E B : Type 0} (log_of : V → List E) (chair_of : E → ℕ) (base_o
       }
 
   -- what chair 0 has seen after it took another in: all that both had seen, with all entries of both
-  pub met : (v w u : View E B) → u ≡ joined_view chair_of v w → HasSeen chair_of u.number u.before u.seen → Begins u.told u.seen → JoinedStay chair_of u.joined u.seen
+  pub met : (v w u : View E B) → u ≡ joined_view chair_of v w → HasSeen chair_of u.number u.before u.seen → IsPrefix u.told u.seen → JoinedStay chair_of u.joined u.seen
       → HasSeen chair_of v.number v.seen u.seen × HasSeen chair_of w.number w.seen u.seen
   met v w u is own told stay =
       let own' : HasSeen chair_of v.number v.seen (longer v.seen w.seen) = subst (λ (x : View E B). HasSeen chair_of x.number x.before x.seen) is own in
-      let told' : Begins (shorter v.seen w.seen) (longer v.seen w.seen) = subst (λ (x : View E B). Begins x.told x.seen) is told in
+      let told' : IsPrefix (shorter v.seen w.seen) (longer v.seen w.seen) = subst (λ (x : View E B). IsPrefix x.told x.seen) is told in
       let stay' = subst (λ (x : View E B). JoinedStay chair_of x.joined x.seen) is stay in
-      let theirs : Begins w.seen (longer v.seen w.seen) = ⊎_elim (λ t. subst (Begins w.seen) (sym t.1) (begins_all w.seen)) (λ t. subst (λ l. Begins l (longer v.seen w.seen)) t.2 told') (longer_is v.seen w.seen) in
+      let theirs : IsPrefix w.seen (longer v.seen w.seen) = ⊎_elim (λ t. subst (IsPrefix w.seen) (sym t.1) (begins_all w.seen)) (λ t. subst (λ l. IsPrefix l (longer v.seen w.seen)) t.2 told') (longer_is v.seen w.seen) in
       let kept : entries_of chair_of w.number (longer v.seen w.seen) ≡ entries_of chair_of w.number w.seen = stay' w.number (entries_of chair_of w.number w.seen) (joined_new v.joined w.number (entries_of chair_of w.number w.seen)) in
       subst (λ (x : View E B). HasSeen chair_of v.number v.seen x.seen × HasSeen chair_of w.number w.seen x.seen) (sym is) (own', (theirs, kept))
 

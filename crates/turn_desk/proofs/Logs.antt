@@ -6,7 +6,7 @@ use Rattle.std.specs.List.{cons_option}
 use mathlib.Core.Option.{some, some-ne-none}
 use lib.ListN.{get_elem?}
 use Rattle.atomic_table.proofs.Lists.{at_last, at_longer}
-use Rattle.turn_desk.specs.Log.{Begins, entries_of, Grows, HasSeen, Joined}
+use Rattle.turn_desk.specs.Log.{IsPrefix, entries_of, Grows, HasSeen, Joined}
 
 pub at_inside : {A : Type 0} → (l : List A) (i : ℕ) (a : A) → get_elem? l i ≡ some a → i < length l
 at_inside [] i a e = absurd (some-ne-none a (sym e))
@@ -22,17 +22,17 @@ tail [] = []
 tail (x ∷ xs) = xs
 
 module _ {E : Type 0} where
-  pub begins_all : (xs : List E) → Begins xs xs
+  pub begins_all : (xs : List E) → IsPrefix xs xs
   begins_all xs = ([], sym (append-nil xs))
 
-  pub begins_none : (xs : List E) → Begins [] xs
+  pub begins_none : (xs : List E) → IsPrefix [] xs
   begins_none xs = (xs, refl)
 
-  pub begins_more : (xs ys added : List E) → Begins xs ys → Begins xs (ys ++ added)
+  pub begins_more : (xs ys added : List E) → IsPrefix xs ys → IsPrefix xs (ys ++ added)
   begins_more xs ys added h = (h.0 ++ added, ap (λ l. l ++ added) h.1 ∙ append_assoc xs h.0 added)
 
-  pub begins_then : (xs ys zs : List E) → Begins xs ys → Begins ys zs → Begins xs zs
-  begins_then xs ys zs h k = subst (Begins xs) (sym k.1) (begins_more xs ys k.0 h)
+  pub begins_then : (xs ys zs : List E) → IsPrefix xs ys → IsPrefix ys zs → IsPrefix xs zs
+  begins_then xs ys zs h k = subst (IsPrefix xs) (sym k.1) (begins_more xs ys k.0 h)
 
   module _ (chair_of : E → ℕ) where
     pub entries_both : (k : ℕ) (xs ys : List E) → entries_of chair_of k (xs ++ ys) ≡ entries_of chair_of k xs ++ entries_of chair_of k ys
@@ -66,7 +66,7 @@ module _ {E : Type 0} where
     rest_quiet k xs rest e = none_left (entries_of chair_of k xs) (entries_of chair_of k rest) (sym (entries_both k xs rest) ∙ e)
 
     -- a list between two that have the same entries of the chair has them too
-    pub entries_between : (k : ℕ) (xs ys zs : List E) → Begins xs ys → Begins ys zs → entries_of chair_of k zs ≡ entries_of chair_of k xs → entries_of chair_of k ys ≡ entries_of chair_of k xs
+    pub entries_between : (k : ℕ) (xs ys zs : List E) → IsPrefix xs ys → IsPrefix ys zs → entries_of chair_of k zs ≡ entries_of chair_of k xs → entries_of chair_of k ys ≡ entries_of chair_of k xs
     entries_between k xs ys zs h g e =
         let whole : zs ≡ xs ++ (h.0 ++ g.0) = g.1 ∙ (ap (λ l. l ++ g.0) h.1 ∙ append_assoc xs h.0 g.0) in
         let quiet = rest_quiet k xs (h.0 ++ g.0) (sym (ap (entries_of chair_of k) whole) ∙ e) in
@@ -78,7 +78,7 @@ module _ {E : Type 0} where
     seen_then k xs ys zs h g = (begins_then xs ys zs h.0 g.0, g.1 ∙ h.1)
 
     -- a beginning of a list with no entry of the chair has none
-    pub entries_none : (k : ℕ) (xs ys : List E) → Begins xs ys → entries_of chair_of k ys ≡ [] → entries_of chair_of k xs ≡ []
+    pub entries_none : (k : ℕ) (xs ys : List E) → IsPrefix xs ys → entries_of chair_of k ys ≡ [] → entries_of chair_of k xs ≡ []
     entries_none k xs ys h e = no_first (entries_of chair_of k xs) (entries_of chair_of k h.0) (sym (entries_both k xs h.0) ∙ (sym (ap (entries_of chair_of k) h.1) ∙ e))
 
     -- a list with no entry of any chair is empty
@@ -89,7 +89,7 @@ module _ {E : Type 0} where
         let m : length (entries_of chair_of (chair_of e) (e ∷ es)) ≡ length (e ∷ entries_of chair_of (chair_of e) es) = ap length one in omega arith)
 
   -- of two beginnings of one list, the one that is no longer begins the other
-  pub begins_other : (xs ys zs : List E) → Begins xs zs → Begins ys zs → length xs ≤ length ys → Begins xs ys
+  pub begins_other : (xs ys zs : List E) → IsPrefix xs zs → IsPrefix ys zs → length xs ≤ length ys → IsPrefix xs ys
   begins_other [] ys zs h g le = begins_none ys
   begins_other (x ∷ xs) [] zs h g le = absurd (omega arith)
   begins_other (x ∷ xs) (y ∷ ys) [] h g le = absurd (let n : length {A = E} [] ≡ length {A = E} (x ∷ (xs ++ h.0)) = ap length h.1 in omega arith)

@@ -3,7 +3,7 @@ use Rattle.std.proofs.Common.{◌≡◌, ℕ, ◌+◌, ◌-◌, ◌<◌, List, [
 use Rattle.std.proofs.lemmas.List.{append-nil, get_or-take, take-take, take_at, get_or_push, get_or_default}
 use mathlib.Core.Logic.{dite}
 use native.Mathlib.Decide.{ℕ_discrete}
-use Rattle.turn_desk.specs.Log.{Begins, entries_of, Joined, AllJoined}
+use Rattle.turn_desk.specs.Log.{IsPrefix, entries_of, Joined, AllJoined}
 use Rattle.turn_desk.specs.Chairs.{DeskState, ChairState, IsOf, with_chair, HasTakenIn, HasJoined, IsNumberedFrom, AreNew, AreSame}
 use Rattle.turn_desk.proofs.Logs.{begins_then, joined_new, joined_still}
 
@@ -17,7 +17,7 @@ module _ {E B : Type 0} (chair_of : E → ℕ) (f f' : ChairState E B) (cs xs : 
   last_is : (d : ChairState E B) → get_or cs (length xs) d ≡ x
   last_is d = sym (get_or-take n cs (length xs) d (omega arith)) ∙ (ap (λ l. get_or l (length xs) d) (sym here) ∙ get_or_push xs x d (length xs) refl)
 
-  pub still_taken : f' ≡ with_chair chair_of f x → Begins f.seen f'.seen → Begins x.seen f'.seen → HasJoined chair_of f cs n → HasJoined chair_of f' cs (length xs)
+  pub still_taken : f' ≡ with_chair chair_of f x → IsPrefix f.seen f'.seen → IsPrefix x.seen f'.seen → HasJoined chair_of f cs n → HasJoined chair_of f' cs (length xs)
   still_taken grown mine theirs taken i d low high =
       let more : f'.joined ≡ f.joined ++ (x.number, entries_of chair_of x.number x.seen) ∷ [] = ap (λ s. s.joined) grown in
       dite (ℕ_discrete i (length xs))
@@ -29,7 +29,7 @@ module _ {E B : Type 0} (chair_of : E → ℕ) (f f' : ChairState E B) (cs xs : 
 
 module _ {E B : Type 0} (chair_of : E → ℕ) (f : ChairState E B) (cs : List (ChairState E B)) (taken : HasJoined chair_of f cs 0) (numbers : IsNumberedFrom 1 cs) where
   -- the chair k among them, and what chair 0 knows of it
-  pub taken_in : (k : ℕ) → 0 < k → k < length cs + 1 → (c : ChairState E B) × ((d : ChairState E B) → get_or cs (k - 1) d ≡ c) × (c.number ≡ k) × Joined f.joined k (entries_of chair_of k c.seen) × Begins c.seen f.seen
+  pub taken_in : (k : ℕ) → 0 < k → k < length cs + 1 → (c : ChairState E B) × ((d : ChairState E B) → get_or cs (k - 1) d ≡ c) × (c.number ≡ k) × Joined f.joined k (entries_of chair_of k c.seen) × IsPrefix c.seen f.seen
   taken_in k low high =
       let c : ChairState E B = get_or cs (k - 1) f in
       let number : c.number ≡ k = numbers (k - 1) f (omega arith) ∙ omega arith in

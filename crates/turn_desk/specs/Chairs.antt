@@ -1,7 +1,7 @@
 -- What contracts see of a desk and of a chair, and what one act is.
 use Rattle.std.specs.Prelude.{◌≡◌, ℕ, ◌+◌, ◌<◌, ◌≤◌, List, [], ◌∷◌, ◌++◌, length, slice_index_or, Option, Some}
 use Rattle.atomic_table.specs.Seated.{TableId}
-use Rattle.turn_desk.specs.Log.{Begins, entries_of, longer, HasSeen, Grows, Joined}
+use Rattle.turn_desk.specs.Log.{IsPrefix, entries_of, longer, HasSeen, Grows, Joined}
 
 -- a desk: which one it is, and what its value began from
 pub record DeskState (B : Type 0) : Type 0 where
@@ -58,7 +58,7 @@ module _ {E B : Type 0} where
 
   -- chair 0 has taken the other in, and has seen all that it had seen
   abbrev pub HasTakenIn : (E → ℕ) → ChairState E B → ChairState E B → Type 0
-  HasTakenIn chair_of first c = Joined first.joined c.number (entries_of chair_of c.number c.seen) × Begins c.seen first.seen
+  HasTakenIn chair_of first c = Joined first.joined c.number (entries_of chair_of c.number c.seen) × IsPrefix c.seen first.seen
 
   -- so it has each of these, from the place n on
   abbrev pub HasJoined : (E → ℕ) → ChairState E B → List (ChairState E B) → ℕ → Type 0

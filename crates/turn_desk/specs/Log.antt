@@ -6,8 +6,8 @@ use lib.ListN.{get_elem?}
 
 module _ {E : Type 0} where
   -- the second list begins with the first
-  abbrev pub Begins : List E → List E → Type 0
-  Begins xs ys = (rest : List E) × (ys ≡ xs ++ rest)
+  abbrev pub IsPrefix : List E → List E → Type 0
+  IsPrefix xs ys = (rest : List E) × (ys ≡ xs ++ rest)
 
   abbrev pub longer : List E → List E → List E
   longer xs ys = if nat_lt (length xs) (length ys) then ys else xs
@@ -34,7 +34,7 @@ module _ {E : Type 0} where
 
     -- what the chair k has seen is a beginning of the log, and all entries of that chair are in it
     abbrev pub HasSeen : ℕ → List E → List E → Type 0
-    HasSeen k seen log = Begins seen log × (entries_of k log ≡ entries_of k seen)
+    HasSeen k seen log = IsPrefix seen log × (entries_of k log ≡ entries_of k seen)
 
     -- the entries of the joined chairs are those that they had when they were joined
     abbrev pub JoinedStay : List (ℕ × List E) → List E → Type 0

@@ -2,7 +2,7 @@
 use Rattle.std.specs.Prelude.{◌≡◌, ◌≢◌, ℕ, ◌+◌, true, false, List, [], ◌∷◌, ◌++◌, Option, Some, None}
 use Rattle.atomic_table.specs.Table.{Me, Step}
 use Rattle.turn_desk.specs.declared.view.View.{View}
-use Rattle.turn_desk.specs.Log.{Begins, entries_of, longer, shorter, HasSeen, JoinedStay, NoneFrom}
+use Rattle.turn_desk.specs.Log.{IsPrefix, entries_of, longer, shorter, HasSeen, JoinedStay, NoneFrom}
 
 module _ {E B : Type 0} where
   -- chair 0, with nothing seen
@@ -39,12 +39,12 @@ module _ {V E B : Type 0} (log_of : V → List E) (chair_of : E → ℕ) (base_o
   Sat = Me (Option V) (View E B)
 
   -- the turn was taken, and the value with it. Its log begins with all that the chair had seen, and has no other act of its own
-  abbrev pub Takes : Sat → Sat → Type 0
-  Takes m n = (value : V) × (n ≡ (at_turn m.0 (log_of value), (0, Some value) ∷ []))
+  abbrev pub TakesTurn : Sat → Sat → Type 0
+  TakesTurn m n = (value : V) × (n ≡ (at_turn m.0 (log_of value), (0, Some value) ∷ []))
       × HasSeen chair_of m.0.number m.0.seen (log_of value) × (m.0.base ≡ Some (base_of value))
 
   abbrev pub took : Step (Option V) → Sat → ℕ → Sat → Type 0
-  took st m r n = (r ≡ st.first → Takes m n) × (r ≢ st.first → n ≡ m)
+  took st m r n = (r ≡ st.first → TakesTurn m n) × (r ≢ st.first → n ≡ m)
 
   -- the turn was given back, and the value with it
   abbrev pub gave : Step (Option V) → Sat → ℕ → Sat → Type 0
@@ -54,4 +54,4 @@ module _ {V E B : Type 0} (log_of : V → List E) (chair_of : E → ℕ) (base_o
   -- what the chair has seen has all its entries from before, begins with what it was told, and has the entries of the
   -- joined chairs. Of chair 0 it has none of a chair that isn't made yet
   abbrev pub learned : Step (Option V) → Sat → ℕ → Sat → Type 0
-  learned st m r n = (n ≡ m) × HasSeen chair_of m.0.number m.0.before m.0.seen × Begins m.0.told m.0.seen × JoinedStay chair_of m.0.joined m.0.seen × (m.0.number ≡ 0 → NoneFrom chair_of m.0.made m.0.seen)
+  learned st m r n = (n ≡ m) × HasSeen chair_of m.0.number m.0.before m.0.seen × IsPrefix m.0.told m.0.seen × JoinedStay chair_of m.0.joined m.0.seen × (m.0.number ≡ 0 → NoneFrom chair_of m.0.made m.0.seen)

@@ -7,7 +7,7 @@ use mathlib.Core.Option.{Option as Place}
 use lib.ListN.{get_elem?}
 use Rattle.atomic_table.specs.Table.{State}
 use Rattle.turn_desk.specs.declared.view.View.{View}
-use Rattle.turn_desk.specs.Log.{Begins, entries_of, Joined, HasSeen, NoneFrom}
+use Rattle.turn_desk.specs.Log.{IsPrefix, entries_of, Joined, HasSeen, NoneFrom}
 
 -- a turn: its chair, and the entry that it added, or none
 abbrev pub Turn : Type 0 → Type 0
@@ -21,9 +21,9 @@ module _ {E B : Type 0} (chair_of : E → ℕ) (origin : B) (log : List E) (chai
   -- what a view that is in use says of the log
   pub record Truly (v : View E B) : Type 0 where
     pub number : (v.number < chairs) × (seat_of v.number ≡ seat)
-    pub seen : Begins v.seen log
+    pub seen : IsPrefix v.seen log
     pub before : HasSeen chair_of v.number v.before v.seen
-    pub told : Begins v.told v.seen
+    pub told : IsPrefix v.told v.seen
     pub own : entries_of chair_of v.number log ≡ entries_of chair_of v.number v.seen
     pub base : v.base ≡ Some origin
     pub acting : v.acting ≡ true → (busy ≡ true) × (seat ≡ holder) × (v.seen ≡ log)

@@ -1,6 +1,6 @@
 //! The desk and its chairs.
 ghost use Rattle.std.specs.Prelude.{◌≡◌, ◌+◌, ◌<◌, ◌%◌, ◌^◌, [], ◌∷◌, true, false, Some, None, IfOk, IfErr};
-ghost use Rattle.turn_desk.specs.Log.{Begins, Grows, HasSeen, JoinedStay, AllJoined, NoneFrom};
+ghost use Rattle.turn_desk.specs.Log.{IsPrefix, Grows, HasSeen, JoinedStay, AllJoined, NoneFrom};
 
 use crate::kept::{Act, Kept};
 use crate::plays::{Give, Learn, Make, Take, TakeIn, Turns};

@@ -11,7 +11,7 @@ use Rattle.formula_core.specs.Env.{type_in}
 use Rattle.formula_core.specs.Identifiers.{carriers}
 use Rattle.formula_core.specs.Typed.{Stands, HasCarriers, IsTypedIn}
 use Rattle.formula_core.specs.Wellness.{type_of}
-use Rattle.type_core.specs.Answers.{with_name}
+use Rattle.type_core.specs.Answers.{with_typed_name}
 use Rattle.type_core.specs.Bare.{Bare}
 use Rattle.type_core.proofs.Named.{Entries, all_each, IsWithin, within_name, found_has, name_has}
 use Rattle.type_core.proofs.Settled.{IsOver, over-Truth, over-Pow}
@@ -21,7 +21,7 @@ use Rattle.type_core.proofs.WellTyped.{formula_well}
 use Rattle.type_action.specs.CoreActions.{CoreAction, Assign, ChooseIn, ChooseSuch, core_action, typed_targets, primed, primed_targets, with_all, env_after}
 use Rattle.type_action.specs.Laws.{IsActionIn, TypedActionsStand}
 use Rattle.type_action.specs.Results.{IsOnly}
-use Rattle.type_action.specs.Typings.{IsFormulaOf, IsNewValue, AreNewValues, IsActionOf}
+use Rattle.type_action.specs.Typings.{IsFormulaOf, IsTypedAssignment, AreTypedAssignments, IsActionOf}
 use Rattle.type_action.proofs.Typed.{some_is, known_type, targets_stand}
 
 formula_in : (env : Entries) (b : Bare) (t : Ty) (f : Formula) → HasCarriers env → retyped env f ≡ f → IsFormulaOf env b t f → IsTypedIn env f
@@ -41,12 +41,12 @@ target_over env x t has e = found_has (HasOver env) env x t has e
 abbrev again : Entries → List ℕ × Formula → List ℕ × Formula
 again env p = (p.0, retyped env p.1)
 
-values_again : (env : Entries) (rs : List Ref) (bs : List Bare) (ps : List (List ℕ × Formula)) → HasCarriers env → AreNewValues env rs bs ps → AreNewValues env rs bs (map (again env) ps)
+values_again : (env : Entries) (rs : List Ref) (bs : List Bare) (ps : List (List ℕ × Formula)) → HasCarriers env → AreTypedAssignments env rs bs ps → AreTypedAssignments env rs bs (map (again env) ps)
 values_again env [] [] ps has h = ap (map (again env)) h
 values_again env [] (b ∷ bs) ps has h = absurd h
 values_again env (r ∷ rs) [] ps has h = absurd h
 values_again env (r ∷ rs) (b ∷ bs) ps has h =
-    let v : IsNewValue env r b h.0 = h.2 in
+    let v : IsTypedAssignment env r b h.0 = h.2 in
     let over : IsOver env v.0 = target_over env r.name v.0 has (known_type env r.name v.0 v.1) in (
       again env h.0,
       map (again env) h.1,
@@ -66,13 +66,13 @@ rest_of (p ∷ ps) = ps
 abbrev IsValueIn : Entries → List ℕ × Formula → Type 0
 IsValueIn env p = Stands env (p.0, type_of p.1) × IsTypedIn env p.1
 
-values_in : (env : Entries) (rs : List Ref) (bs : List Bare) (ps : List (List ℕ × Formula)) → HasCarriers env → map (again env) ps ≡ ps → AreNewValues env rs bs ps → AllByRecursion (IsValueIn env) ps
+values_in : (env : Entries) (rs : List Ref) (bs : List Bare) (ps : List (List ℕ × Formula)) → HasCarriers env → map (again env) ps ≡ ps → AreTypedAssignments env rs bs ps → AllByRecursion (IsValueIn env) ps
 values_in env [] [] ps has same h = subst (AllByRecursion (IsValueIn env)) (sym h) tt
 values_in env [] (b ∷ bs) ps has same h = absurd h
 values_in env (r ∷ rs) [] ps has same h = absurd h
 values_in env (r ∷ rs) (b ∷ bs) ps has same h =
     let p = h.0 in
-    let v : IsNewValue env r b h.0 = h.2 in
+    let v : IsTypedAssignment env r b h.0 = h.2 in
     let both : map (again env) (h.0 ∷ h.1) ≡ h.0 ∷ h.1 = subst (λ l. map (again env) l ≡ l) h.4 same in
     let one : retyped env h.0.1 ≡ h.0.1 = ap (λ l. (first_or h.0 l).1) both in
     let others : map (again env) h.1 ≡ h.1 = ap rest_of both in
@@ -83,12 +83,12 @@ values_in env (r ∷ rs) (b ∷ bs) ps has same h =
 
 within_all : (env xs : Entries) → IsWithin env (with_all env xs)
 within_all env [] x t e = e
-within_all env (y ∷ ys) x t e = within_all (with_name env y.0 (Some y.1)) ys x t (within_name env y.0 (Some y.1) x t e)
+within_all env (y ∷ ys) x t e = within_all (with_typed_name env y.0 (Some y.1)) ys x t (within_name env y.0 (Some y.1) x t e)
 
 module _ (P : List ℕ × Ty → Type 0) where
   all_with : (env xs : Entries) → AllByRecursion P env → AllByRecursion P xs → AllByRecursion P (with_all env xs)
   all_with env [] h k = h
-  all_with env (y ∷ ys) h k = all_with (with_name env y.0 (Some y.1)) ys (name_has P env y.0 (Some y.1) h (λ t e. subst (λ u. P (y.0, u)) (some_is y.1 t e) k.0)) k.1
+  all_with env (y ∷ ys) h k = all_with (with_typed_name env y.0 (Some y.1)) ys (name_has P env y.0 (Some y.1) h (λ t e. subst (λ u. P (y.0, u)) (some_is y.1 t e) k.0)) k.1
 
 abbrev with_prime : List ℕ × Ty → List ℕ × Ty
 with_prime x = (primed x.0, x.1)

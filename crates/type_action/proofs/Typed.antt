@@ -14,7 +14,7 @@ use Rattle.type_core.specs.Bare.{Bare}
 use Rattle.type_core.specs.Answers.{HasTwoFormulas}
 use Rattle.type_core.proofs.WellTyped.{formula_well}
 use Rattle.type_action.specs.CoreActions.{CoreAction, Assign, ChooseIn, ChooseSuch, target_type, with_target, typed_targets, unknown_targets, primed_targets, agree, env_after}
-use Rattle.type_action.specs.Typings.{IsFormulaOf, IsNewValue, AreNewValues, IsActionOf, IsWellAs, IsWellAction}
+use Rattle.type_action.specs.Typings.{IsFormulaOf, IsTypedAssignment, AreTypedAssignments, IsActionOf, IsWellAs, IsWellAction}
 use Rattle.type_core.specs.declared.predicate.TypeFault.{TypeFault}
 use Rattle.type_action.specs.Results.{IsOnly, HasNone, HasTwo}
 use Rattle.type_action.specs.Private.{IsAdded, TellsFault}
@@ -26,20 +26,20 @@ some_is a b e = cc
 pub two_formulas : (env : List (List ℕ × Ty)) (b : Bare) (t : Ty) → HasTwoFormulas env [] b (Some t) → HasTwo (IsFormulaOf env b t)
 two_formulas env b t h = record { one = h.one; two = h.two; first = h.first; second = h.second; apart = h.apart }
 
-pub new_value_form : (env : List (List ℕ × Ty)) (r : Ref) (b : Bare) (t : Ty) → target_type env r.name ≡ Some t → IsFormOf (IsFormulaOf env b t) (IsNewValue env r b) (λ f. (r.name, f))
+pub new_value_form : (env : List (List ℕ × Ty)) (r : Ref) (b : Bare) (t : Ty) → target_type env r.name ≡ Some t → IsFormOf (IsFormulaOf env b t) (IsTypedAssignment env r b) (λ f. (r.name, f))
 new_value_form env r b t e = record {
   to = λ f h. (t, e, refl, h);
   from = λ p h. (p.1, subst (λ u. IsFormulaOf env b u p.1) (some_is h.0 t (sym h.1 ∙ e)) h.3, λ i. (h.2 i, p.1));
   apart = λ x y k. ap (λ (p : List ℕ × Formula). p.1) k;
 }
 
-pub no_target : (env : List (List ℕ × Ty)) (r : Ref) (b : Bare) → target_type env r.name ≡ None → (p : List ℕ × Formula) → IsNewValue env r b p → ⊥
+pub no_target : (env : List (List ℕ × Ty)) (r : Ref) (b : Bare) → target_type env r.name ≡ None → (p : List ℕ × Formula) → IsTypedAssignment env r b p → ⊥
 no_target env r b e p h = let never : ◌≡◌ {A = Option Ty} (Some h.0) None = sym h.1 ∙ e in cc
 
-pub new_values_list : (env : List (List ℕ × Ty)) (r : Ref) (rs : List Ref) (b : Bare) (bs : List Bare) → IsListOf (IsNewValue env r b) (AreNewValues env rs bs) (AreNewValues env (r ∷ rs) (b ∷ bs))
+pub new_values_list : (env : List (List ℕ × Ty)) (r : Ref) (rs : List Ref) (b : Bare) (bs : List Bare) → IsListOf (IsTypedAssignment env r b) (AreTypedAssignments env rs bs) (AreTypedAssignments env (r ∷ rs) (b ∷ bs))
 new_values_list env r rs b bs = record { to = λ p ps h k. (p, ps, h, k, refl); from = λ qs h. h }
 
-pub assignment_form : (env : List (List ℕ × Ty)) (targets : List Ref) (values : List Bare) → IsFormOf (AreNewValues env targets values) (IsActionOf env (Assign targets values)) action.Assign
+pub assignment_form : (env : List (List ℕ × Ty)) (targets : List Ref) (values : List Bare) → IsFormOf (AreTypedAssignments env targets values) (IsActionOf env (Assign targets values)) action.Assign
 assignment_form env targets values = record { to = λ ps h. (ps, h, refl); from = λ a h. (h.0, h.1, h.2); apart = λ x y e. cc }
 
 pow_found : (o : Option Ty) (u : Ty) → option_map ty.Pow o ≡ Some u → (t : Ty) × (o ≡ Some t) × (ty.Pow t ≡ u)
@@ -78,10 +78,10 @@ known_type env x t e = found_type (is_identifier x) (type_in env x) t e
 formula_is_well : (env : List (List ℕ × Ty)) (b : Bare) (t : Ty) (f : Formula) → IsFormulaOf env b t f → IsWellAs f (Some t)
 formula_is_well env b t f h = let w = formula_well env [] b (Some t) f h in (w.0, ap Some (sym w.1))
 
-value_is_well : (env : List (List ℕ × Ty)) (r : Ref) (b : Bare) (p : List ℕ × Formula) → IsNewValue env r b p → IsWellAs p.1 (type_in env p.0)
+value_is_well : (env : List (List ℕ × Ty)) (r : Ref) (b : Bare) (p : List ℕ × Formula) → IsTypedAssignment env r b p → IsWellAs p.1 (type_in env p.0)
 value_is_well env r b p h = subst (IsWellAs p.1) (sym (ap (type_in env) h.2 ∙ known_type env r.name h.0 h.1)) (formula_is_well env b h.0 p.1 h.3)
 
-values_are_well : (env : List (List ℕ × Ty)) (rs : List Ref) (bs : List Bare) (ps : List (List ℕ × Formula)) → AreNewValues env rs bs ps → AllByRecursion (λ p. IsWellAs p.1 (type_in env p.0)) ps
+values_are_well : (env : List (List ℕ × Ty)) (rs : List Ref) (bs : List Bare) (ps : List (List ℕ × Formula)) → AreTypedAssignments env rs bs ps → AllByRecursion (λ p. IsWellAs p.1 (type_in env p.0)) ps
 values_are_well env [] [] ps h = subst (AllByRecursion (λ p. IsWellAs p.1 (type_in env p.0))) (sym h) tt
 values_are_well env [] (b ∷ bs) ps h = absurd h
 values_are_well env (r ∷ rs) [] ps h = absurd h
@@ -109,18 +109,18 @@ action_is_well env (ChooseSuch targets b) a h =
 -- Lists of targets and values, first and rest.
 
 module _ (env : List (List ℕ × Ty)) (r : Ref) (rs targets : List Ref) (b : Bare) (bs values : List Bare) (e : targets ≡ r ∷ rs) (k : values ≡ b ∷ bs) where
-  whole : (F : (List (List ℕ × Formula) → Type 0) → Type 0) → F (AreNewValues env (r ∷ rs) (b ∷ bs)) → F (AreNewValues env targets values)
-  whole F h = subst (λ xs. F (AreNewValues env xs values)) (sym e) (subst (λ ys. F (AreNewValues env (r ∷ rs) ys)) (sym k) h)
+  whole : (F : (List (List ℕ × Formula) → Type 0) → Type 0) → F (AreTypedAssignments env (r ∷ rs) (b ∷ bs)) → F (AreTypedAssignments env targets values)
+  whole F h = subst (λ xs. F (AreTypedAssignments env xs values)) (sym e) (subst (λ ys. F (AreTypedAssignments env (r ∷ rs) ys)) (sym k) h)
 
-  pub values_added : (p : List ℕ × Formula) (old mid new : List (List ℕ × Formula)) → IsOnly (IsNewValue env r b) p → mid ≡ old ++ p ∷ [] → IsAdded (AreNewValues env rs bs) mid new
-      → IsAdded (AreNewValues env targets values) old new
-  values_added p old mid new h m added = whole (λ P. IsAdded P old new) (list_added (IsNewValue env r b) (AreNewValues env rs bs) (AreNewValues env (r ∷ rs) (b ∷ bs)) (new_values_list env r rs b bs) p old mid new h m added)
+  pub values_added : (p : List ℕ × Formula) (old mid new : List (List ℕ × Formula)) → IsOnly (IsTypedAssignment env r b) p → mid ≡ old ++ p ∷ [] → IsAdded (AreTypedAssignments env rs bs) mid new
+      → IsAdded (AreTypedAssignments env targets values) old new
+  values_added p old mid new h m added = whole (λ P. IsAdded P old new) (list_added (IsTypedAssignment env r b) (AreTypedAssignments env rs bs) (AreTypedAssignments env (r ∷ rs) (b ∷ bs)) (new_values_list env r rs b bs) p old mid new h m added)
 
-  pub values_fault : (p : List ℕ × Formula) (f : TypeFault) → IsNewValue env r b p → TellsFault (AreNewValues env rs bs) f → TellsFault (AreNewValues env targets values) f
-  values_fault p f h told = whole (λ P. TellsFault P f) (rest_fault (IsNewValue env r b) (AreNewValues env rs bs) (AreNewValues env (r ∷ rs) (b ∷ bs)) (new_values_list env r rs b bs) p f h told)
+  pub values_fault : (p : List ℕ × Formula) (f : TypeFault) → IsTypedAssignment env r b p → TellsFault (AreTypedAssignments env rs bs) f → TellsFault (AreTypedAssignments env targets values) f
+  values_fault p f h told = whole (λ P. TellsFault P f) (rest_fault (IsTypedAssignment env r b) (AreTypedAssignments env rs bs) (AreTypedAssignments env (r ∷ rs) (b ∷ bs)) (new_values_list env r rs b bs) p f h told)
 
-  pub values_untyped : (old new : List (List ℕ × Formula)) → HasTwo (IsNewValue env r b) → IsAdded (AreNewValues env rs bs) old new → HasTwo (AreNewValues env targets values)
-  values_untyped old new h added = whole HasTwo (first_untyped (IsNewValue env r b) (AreNewValues env rs bs) (AreNewValues env (r ∷ rs) (b ∷ bs)) (new_values_list env r rs b bs) old new h added)
+  pub values_untyped : (old new : List (List ℕ × Formula)) → HasTwo (IsTypedAssignment env r b) → IsAdded (AreTypedAssignments env rs bs) old new → HasTwo (AreTypedAssignments env targets values)
+  values_untyped old new h added = whole HasTwo (first_untyped (IsTypedAssignment env r b) (AreTypedAssignments env rs bs) (AreTypedAssignments env (r ∷ rs) (b ∷ bs)) (new_values_list env r rs b bs) old new h added)
 
-  pub values_clash : HasNone (IsNewValue env r b) → HasNone (AreNewValues env targets values)
-  values_clash h = whole HasNone (first_none (IsNewValue env r b) (AreNewValues env rs bs) (AreNewValues env (r ∷ rs) (b ∷ bs)) (new_values_list env r rs b bs) h)
+  pub values_clash : HasNone (IsTypedAssignment env r b) → HasNone (AreTypedAssignments env targets values)
+  values_clash h = whole HasNone (first_none (IsTypedAssignment env r b) (AreTypedAssignments env rs bs) (AreTypedAssignments env (r ∷ rs) (b ∷ bs)) (new_values_list env r rs b bs) h)

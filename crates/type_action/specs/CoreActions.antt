@@ -11,10 +11,10 @@ use Rattle.formula_core.specs.Env.{type_in}
 use Rattle.formula_core.specs.Formulas.{joined}
 use Rattle.formula_core.specs.Names.{is_identifier, prime}
 use Rattle.formula_core.specs.Types.{same_type}
-use Rattle.type_core.specs.Answers.{with_name}
+use Rattle.type_core.specs.Answers.{with_typed_name}
 use Rattle.type_core.specs.Bare.{Bare, Identifier, Form}
-use Rattle.type_core.specs.CoreForms.{core_form, one, two}
-use Rattle.type_core.specs.Unknowns.{unknowns, first_by_place}
+use Rattle.type_core.specs.CoreForms.{core_form, single_part, two}
+use Rattle.type_core.specs.Unknowns.{unknowns, first_name_by_place}
 
 -- an action in core form
 pub data CoreAction : Type 0 where
@@ -27,7 +27,7 @@ pub data CoreAction : Type 0 where
 
 -- `f <+ {x ↦ E}`
 abbrev pub overridden : Ref → Bare → Bare → Bare
-overridden f x e = Form op.Overriding (two (Identifier f.name f.place) (Form op.SetExtension (one (Form op.Maplet (two x e)))))
+overridden f x e = Form op.Overriding (two (Identifier f.name f.place) (Form op.SetExtension (single_part (Form op.Maplet (two x e)))))
 
 -- `f(x) ≔ E` is `f ≔ f <+ {x ↦ E}`
 abbrev pub core_action : RawAction → CoreAction
@@ -64,7 +64,7 @@ primed_targets env targets = map (λ x. (primed x.0, x.1)) (typed_targets env ta
 -- an environment with those of the names that it lacks
 abbrev pub with_all : List (List ℕ × Ty) → List (List ℕ × Ty) → List (List ℕ × Ty)
 with_all env [] = env
-with_all env (x ∷ xs) = with_all (with_name env x.0 (Some x.1)) xs
+with_all env (x ∷ xs) = with_all (with_typed_name env x.0 (Some x.1)) xs
 
 -- the environment of an action's predicate, in which the targets stand with their primes, too
 abbrev pub env_after : List (List ℕ × Ty) → List Ref → List (List ℕ × Ty)
@@ -82,4 +82,4 @@ unknowns_of env (ChooseSuch targets p) = unknown_targets env targets ++ unknowns
 
 -- the first name of a written action that is unknown
 abbrev pub unknown_in_action : List (List ℕ × Ty) → RawAction → Option (List ℕ × ℕ)
-unknown_in_action env raw = first_by_place (unknowns_of env (core_action raw))
+unknown_in_action env raw = first_name_by_place (unknowns_of env (core_action raw))

@@ -4,7 +4,7 @@ use Rattle.formula_core.specs.declared.ty.Ty.{Ty}
 use Rattle.formula_core.specs.declared.raw.Action.{Action}
 use Rattle.type_core.specs.declared.predicate.TypeFault.{TypeFault}
 use Rattle.type_core.specs.declared.predicate.TypeFault.TheVariants as fault
-use Rattle.type_core.specs.Unknowns.{first_by_place}
+use Rattle.type_core.specs.Unknowns.{first_name_by_place}
 use Rattle.type_action.specs.Results.{IsOnly, HasNone, HasTwo}
 use Rattle.type_action.specs.CoreActions.{CoreAction, unknowns_of}
 use Rattle.type_action.specs.Typings.{IsActionOf}
@@ -34,5 +34,5 @@ TellsAfter u P (Ok a) = (u ≡ None) × IsOnly P a
 TellsAfter u P (Err e) = TellsFaultAfter u P e
 
 -- an answer about an action: its first unknown name goes first
-abbrev pub Tells : List (List ℕ × Ty) → CoreAction → Result Action TypeFault → Type 0
-Tells env a r = TellsAfter (first_by_place (unknowns_of env a)) (IsActionOf env a) r
+abbrev pub TellsAction : List (List ℕ × Ty) → CoreAction → Result Action TypeFault → Type 0
+TellsAction env a r = TellsAfter (first_name_by_place (unknowns_of env a)) (IsActionOf env a) r

@@ -19,14 +19,14 @@ abbrev pub IsFormulaOf : List (List ℕ × Ty) → Bare → Ty → Formula → T
 IsFormulaOf env b t f = IsTypedAs env [] b (Some t) f
 
 -- a target with its new value, which has the target's type
-abbrev pub IsNewValue : List (List ℕ × Ty) → Ref → Bare → List ℕ × Formula → Type 0
-IsNewValue env r b p = (t : Ty) × (target_type env r.name ≡ Some t) × (p.0 ≡ r.name) × IsFormulaOf env b t p.1
+abbrev pub IsTypedAssignment : List (List ℕ × Ty) → Ref → Bare → List ℕ × Formula → Type 0
+IsTypedAssignment env r b p = (t : Ty) × (target_type env r.name ≡ Some t) × (p.0 ≡ r.name) × IsFormulaOf env b t p.1
 
 -- the targets with their new values, of which there are as many
-abbrev pub AreNewValues : List (List ℕ × Ty) → List Ref → List Bare → List (List ℕ × Formula) → Type 0
-AreNewValues env [] [] ps = ps ≡ []
-AreNewValues env (r ∷ rs) (b ∷ bs) ps = (p : List ℕ × Formula) × (rest : List (List ℕ × Formula)) × IsNewValue env r b p × AreNewValues env rs bs rest × (ps ≡ p ∷ rest)
-AreNewValues env _ _ ps = ⊥
+abbrev pub AreTypedAssignments : List (List ℕ × Ty) → List Ref → List Bare → List (List ℕ × Formula) → Type 0
+AreTypedAssignments env [] [] ps = ps ≡ []
+AreTypedAssignments env (r ∷ rs) (b ∷ bs) ps = (p : List ℕ × Formula) × (rest : List (List ℕ × Formula)) × IsTypedAssignment env r b p × AreTypedAssignments env rs bs rest × (ps ≡ p ∷ rest)
+AreTypedAssignments env _ _ ps = ⊥
 
 -- a set of values of the target's type
 abbrev pub IsChoiceIn : List (List ℕ × Ty) → Ref → Bare → Formula → Type 0
@@ -39,7 +39,7 @@ IsChoiceSuch env targets b f =
 
 -- the action may be typed so
 abbrev pub IsActionOf : List (List ℕ × Ty) → CoreAction → Action → Type 0
-IsActionOf env (Assign targets values) a = (ps : List (List ℕ × Formula)) × AreNewValues env targets values ps × (a ≡ action.Assign ps)
+IsActionOf env (Assign targets values) a = (ps : List (List ℕ × Formula)) × AreTypedAssignments env targets values ps × (a ≡ action.Assign ps)
 IsActionOf env (ChooseIn target set) a = (f : Formula) × IsChoiceIn env target set f × (a ≡ action.ChooseIn target.name f)
 IsActionOf env (ChooseSuch targets p) a = (f : Formula) × IsChoiceSuch env targets p f × (a ≡ action.ChooseSuch (typed_targets env targets) f)
 

@@ -3,10 +3,10 @@ ghost use Rattle.std.specs.Prelude.{◌≡◌, ℕ, [], ◌∷◌, ◌++◌, Lis
 ghost use Rattle.std.specs.Option.{option_map};
 ghost use Rattle.formula_core.specs.Typed.{HasCarriers};
 ghost use Rattle.type_core.specs.CoreForms.{core_form};
-ghost use Rattle.type_core.specs.Unknowns.{first_by_place, unknowns};
+ghost use Rattle.type_core.specs.Unknowns.{first_name_by_place, unknowns};
 ghost use Rattle.type_core.specs.Views.{bare_of};
 ghost use Rattle.type_action.specs.Answers.{IsActionTyping};
-ghost use Rattle.type_action.specs.Private.{Tells, TellsFault};
+ghost use Rattle.type_action.specs.Private.{TellsAction, TellsFault};
 ghost use Rattle.type_action.specs.CoreActions.{Assign, ChooseIn, ChooseSuch, core_action, overridden, target_type, typed_targets, unknown_in_action, unknown_targets, unknowns_of, primed_targets, env_after};
 ghost use Rattle.type_action.specs.Laws.{IsActionIn};
 ghost use Rattle.type_action.specs.Results.{HasNone, HasTwo, IsOnly};
@@ -41,7 +41,7 @@ pub fn type_action(alloc: Global, env: &Env, raw: &RawAction) -> Result<Action, 
 }
 
 fn type_written(alloc: Global, env: &Env, raw: &RawAction) -> Result<Action, TypeFault>
-    ensures { Tells env.now (core_action raw.now) result }
+    ensures { TellsAction env.now (core_action raw.now) result }
 {
     match raw {
         RawAction::Assign(targets, values) => {
@@ -61,7 +61,7 @@ fn type_values(
     targets: &[Ref],
     values: &[Raw],
 ) -> Result<Action, TypeFault>
-    ensures { Tells env.now (Assign targets.now (map core_form values.now)) result }
+    ensures { TellsAction env.now (Assign targets.now (map core_form values.now)) result }
 {
     let trees = read_all(alloc, values)?;
     assign(alloc, env, targets, &trees)
@@ -74,7 +74,7 @@ fn type_value_at(
     x: &Raw,
     value: &Raw,
 ) -> Result<Action, TypeFault>
-    ensures { Tells env.now
+    ensures { TellsAction env.now
         (Assign (target.now ∷ []) (overridden target.now (core_form x.now) (core_form value.now) ∷ [])) result }
 {
     let tree = override_at(alloc, target, x, value)?;
@@ -82,7 +82,7 @@ fn type_value_at(
 }
 
 fn assign(alloc: Global, env: &Env, targets: &[Ref], trees: &[Tree]) -> Result<Action, TypeFault>
-    ensures { Tells env.now (Assign targets.now (map bare_of trees.now)) result }
+    ensures { TellsAction env.now (Assign targets.now (map bare_of trees.now)) result }
 {
     match first_unknown_in_values(alloc, env, targets, trees)? {
         Some((name, place)) => Err(TypeFault::Unknown(name, place)),
@@ -97,7 +97,7 @@ fn first_unknown_in_values(
     trees: &[Tree],
 ) -> Result<Option<(Name, u32)>, OutOfMemory>
     ensures { IfOk result (λ found.
-        found ≡ first_by_place (unknowns_of env.now (Assign targets.now (map bare_of trees.now)))) }
+        found ≡ first_name_by_place (unknowns_of env.now (Assign targets.now (map bare_of trees.now)))) }
 {
     let mut found = None;
     keep_unknown_targets(alloc, env, targets, &mut found)?;
@@ -120,14 +120,14 @@ fn assign_known(
 }
 
 fn type_choice_in(alloc: Global, env: &Env, target: &Ref, set: &Raw) -> Result<Action, TypeFault>
-    ensures { Tells env.now (ChooseIn target.now (core_form set.now)) result }
+    ensures { TellsAction env.now (ChooseIn target.now (core_form set.now)) result }
 {
     let tree = read(alloc, set)?;
     choose_in(alloc, env, target, &tree)
 }
 
 fn choose_in(alloc: Global, env: &Env, target: &Ref, tree: &Tree) -> Result<Action, TypeFault>
-    ensures { Tells env.now (ChooseIn target.now (bare_of tree.now)) result }
+    ensures { TellsAction env.now (ChooseIn target.now (bare_of tree.now)) result }
 {
     match first_unknown(alloc, env, slice::from_ref(target), env, tree)? {
         Some((name, place)) => Err(TypeFault::Unknown(name, place)),
@@ -144,7 +144,7 @@ fn first_unknown(
     tree: &Tree,
 ) -> Result<Option<(Name, u32)>, OutOfMemory>
     ensures { IfOk result (λ found. found
-        ≡ first_by_place (unknown_targets env.now targets.now ++ unknowns tree_env.now [] [] (bare_of tree.now))) }
+        ≡ first_name_by_place (unknown_targets env.now targets.now ++ unknowns tree_env.now [] [] (bare_of tree.now))) }
 {
     let mut found = None;
     keep_unknown_targets(alloc, env, targets, &mut found)?;
@@ -193,7 +193,7 @@ fn type_choice_such(
     targets: &[Ref],
     predicate: &Raw,
 ) -> Result<Action, TypeFault>
-    ensures { Tells env.now (ChooseSuch targets.now (core_form predicate.now)) result }
+    ensures { TellsAction env.now (ChooseSuch targets.now (core_form predicate.now)) result }
 {
     let tree = read(alloc, predicate)?;
     let primed = primed_targets(alloc, env, targets)?;
@@ -211,7 +211,7 @@ fn choose_such(
 ) -> Result<Action, TypeFault>
     requires primed { primed.now ≡ primed_targets env.now targets.now }
     requires after { after.now ≡ env_after env.now targets.now }
-    ensures { Tells env.now (ChooseSuch targets.now (bare_of tree.now)) result }
+    ensures { TellsAction env.now (ChooseSuch targets.now (bare_of tree.now)) result }
 {
     match first_unknown(alloc, env, targets, after, tree)? {
         Some((name, place)) => Err(TypeFault::Unknown(name, place)),

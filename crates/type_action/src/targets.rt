@@ -2,8 +2,8 @@
 ghost use Rattle.std.specs.Prelude.{◌≡◌, ◌∷◌, [], fold, IfOk, IfSome, IsTrue, OnOk, Some};
 ghost use Rattle.std.specs.Option.{option_copied};
 ghost use Rattle.formula_core.specs.Names.{is_identifier};
-ghost use Rattle.type_core.specs.Answers.{with_name};
-ghost use Rattle.type_core.specs.Unknowns.{earlier};
+ghost use Rattle.type_core.specs.Answers.{with_typed_name};
+ghost use Rattle.type_core.specs.Unknowns.{earlier_name};
 ghost use Rattle.type_action.specs.CoreActions.{target_type, typed_targets, unknown_targets, primed_targets, with_all, agree};
 
 use formula_core::{Env, EnvFault, Name, OutOfMemory, Ref, Ty};
@@ -28,7 +28,7 @@ pub(crate) fn keep_unknown_targets(
     targets: &[Ref],
     found: &mut Option<(Name, u32)>,
 ) -> Result<(), OutOfMemory>
-    ensures { OnOk result (found.new ≡ fold earlier found.old (unknown_targets env.now targets.now)) }
+    ensures { OnOk result (found.new ≡ fold earlier_name found.old (unknown_targets env.now targets.now)) }
 {
     for target in targets {
         keep_unknown_target(alloc, env, target, found)?;
@@ -42,7 +42,7 @@ fn keep_unknown_target(
     target: &Ref,
     found: &mut Option<(Name, u32)>,
 ) -> Result<(), OutOfMemory>
-    ensures { OnOk result (found.new ≡ fold earlier found.old (unknown_targets env.now (target.now ∷ []))) }
+    ensures { OnOk result (found.new ≡ fold earlier_name found.old (unknown_targets env.now (target.now ∷ []))) }
 {
     if target_type(env, &target.name).is_some() {
         return Ok(());
@@ -96,7 +96,7 @@ pub(crate) fn with_all(alloc: Global, env: &Env, names: &[(Name, Ty)]) -> Result
 }
 
 fn add_name(alloc: Global, env: &mut Env, name: &Name, ty: &Ty) -> Result<(), OutOfMemory>
-    ensures { OnOk result (env.new ≡ with_name env.old name.now (Some ty.now)) }
+    ensures { OnOk result (env.new ≡ with_typed_name env.old name.now (Some ty.now)) }
 {
     let name = name.copy(alloc)?;
     match env.add(name, ty.copy(alloc)?) {

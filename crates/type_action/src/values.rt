@@ -2,12 +2,12 @@
 ghost use Rattle.std.specs.Prelude.{◌≡◌, ◌∷◌, [], fold, map, IfErr, IfOk, OnOk};
 ghost use Rattle.formula_core.specs.Formulas.{joined};
 ghost use Rattle.type_core.specs.CoreForms.{core_form};
-ghost use Rattle.type_core.specs.Unknowns.{earlier, unknowns};
+ghost use Rattle.type_core.specs.Unknowns.{earlier_name, unknowns};
 ghost use Rattle.type_core.specs.Views.{bare_of};
 ghost use Rattle.type_action.specs.CoreActions.{overridden};
 ghost use Rattle.type_action.specs.Results.{IsOnly};
 ghost use Rattle.type_action.specs.Private.{IsAdded, TellsFault};
-ghost use Rattle.type_action.specs.Typings.{IsFormulaOf, IsNewValue, AreNewValues};
+ghost use Rattle.type_action.specs.Typings.{IsFormulaOf, IsTypedAssignment, AreTypedAssignments};
 
 use crate::targets::target_type;
 use formula_core::{Env, Formula, Name, Op, OutOfMemory, Raw, Ref, Ty};
@@ -49,7 +49,7 @@ pub(crate) fn keep_unknowns(
     found: &mut Option<(Name, u32)>,
 ) -> Result<(), OutOfMemory>
     ensures { OnOk result (found.new
-        ≡ fold earlier found.old (joined (map (unknowns env.now [] []) (map bare_of trees.now)))) }
+        ≡ fold earlier_name found.old (joined (map (unknowns env.now [] []) (map bare_of trees.now)))) }
 {
     for tree in trees {
         keep_unknown(alloc, env, tree, found)?;
@@ -80,8 +80,8 @@ fn type_value(
     target: &Ref,
     tree: &Tree,
 ) -> Result<(Name, Formula), TypeFault>
-    ensures typed { IfOk result (λ p. IsOnly (IsNewValue env.now target.now (bare_of tree.now)) p) }
-    ensures fault { IfErr result (λ e. TellsFault (IsNewValue env.now target.now (bare_of tree.now)) e) }
+    ensures typed { IfOk result (λ p. IsOnly (IsTypedAssignment env.now target.now (bare_of tree.now)) p) }
+    ensures fault { IfErr result (λ e. TellsFault (IsTypedAssignment env.now target.now (bare_of tree.now)) e) }
 {
     let Some(ty) = target_type(env, &target.name) else {
         return Err(TypeFault::Clash);
@@ -101,8 +101,8 @@ pub(crate) fn add_values(
     pairs: &mut Vec<(Name, Formula)>,
 ) -> Result<(), TypeFault>
     ensures typed { OnOk result (IsAdded
-        (AreNewValues env.now targets.now (map bare_of trees.now)) pairs.old.items pairs.new.items) }
-    ensures fault { IfErr result (λ e. TellsFault (AreNewValues env.now targets.now (map bare_of trees.now)) e) }
+        (AreTypedAssignments env.now targets.now (map bare_of trees.now)) pairs.old.items pairs.new.items) }
+    ensures fault { IfErr result (λ e. TellsFault (AreTypedAssignments env.now targets.now (map bare_of trees.now)) e) }
 {
     match targets.split_first() {
         None => no_more(trees),
@@ -128,7 +128,7 @@ pub(crate) fn add_values(
 /// Values without a target have no typing.
 fn no_more(trees: &[Tree]) -> Result<(), TypeFault>
     ensures typed { OnOk result (map bare_of trees.now ≡ []) }
-    ensures fault { IfErr result (λ e. TellsFault (AreNewValues [] [] (map bare_of trees.now)) e) }
+    ensures fault { IfErr result (λ e. TellsFault (AreTypedAssignments [] [] (map bare_of trees.now)) e) }
 {
     if trees.is_empty() {
         Ok(())

@@ -15,9 +15,9 @@ use Rattle.type_core.specs.Typings.{Types}
 use Rattle.type_core.specs.PrivateGenerated.{generated}
 use Rattle.type_core.proofs.Built.{built}
 use Rattle.type_core.specs.PrivateClosed.{known}
-use Rattle.type_core.specs.PrivateViews.{scope_of, numbered, free_scope, expected_term}
+use Rattle.type_core.specs.PrivateViews.{scope_of, numbered_scope, free_scope, expected_term}
 use Rattle.type_core.specs.declared.scope.Entry.{Entry}
-use Rattle.type_core.specs.Answers.{paired, AreValueTypes, IsExpected, IsTypedAs, extended, IsTheTyping, HasNoTyping, HasTwoTypings, IsTheFormula, HasNoFormula, HasTwoFormulas}
+use Rattle.type_core.specs.Answers.{paired, AreValueTypes, IsExpected, IsTypedAs, with_names_typed, IsTheTyping, HasNoTyping, HasTwoTypings, IsTheFormula, HasNoFormula, HasTwoFormulas}
 use Rattle.type_core.proofs.Places.{typed_at}
 use Rattle.type_core.proofs.Sound.{sound}
 use Rattle.type_core.proofs.Complete.{Reads, complete, values_append}
@@ -28,7 +28,7 @@ abbrev row : (ℕ → Ty) → ℕ → List (List ℕ) → List Ty
 row v n [] = []
 row v n (x ∷ xs) = v n ∷ row v (suc n) xs
 
-numbered-typed : (v : ℕ → Ty) (xs : List (List ℕ)) (n : ℕ) (ts : List Ty) → length ts ≡ length xs → Reads v n ts → typed_at v (numbered xs n) ≡ paired xs ts
+numbered-typed : (v : ℕ → Ty) (xs : List (List ℕ)) (n : ℕ) (ts : List Ty) → length ts ≡ length xs → Reads v n ts → typed_at v (numbered_scope xs n) ≡ paired xs ts
 numbered-typed v [] n [] e h = refl
 numbered-typed v [] n (t ∷ ts) e h = cc
 numbered-typed v (x ∷ xs) n [] e h = cc
@@ -155,10 +155,10 @@ module _ (env : List (List ℕ × Ty)) (wanted : List (List ℕ)) (b : Bare) (o 
       }
 
 -- from the formula to the environment
-pub the_typing : (env : List (List ℕ × Ty)) (wanted : List (List ℕ)) (raw : Raw) (f : Formula) (new_env : List (List ℕ × Ty)) → IsTheFormula env wanted (core_form raw) (Some ty.Truth) f → new_env ≡ extended env wanted f → IsTheTyping env wanted raw f new_env
+pub the_typing : (env : List (List ℕ × Ty)) (wanted : List (List ℕ)) (raw : Raw) (f : Formula) (new_env : List (List ℕ × Ty)) → IsTheFormula env wanted (core_form raw) (Some ty.Truth) f → new_env ≡ with_names_typed env wanted f → IsTheTyping env wanted raw f new_env
 the_typing env wanted raw f new_env h e = record {
   typing = (h.typed, e);
-  only = λ other other_env o. let same = h.only other o.0 in (same, o.1 ∙ ap (extended env wanted) same ∙ sym e);
+  only = λ other other_env o. let same = h.only other o.0 in (same, o.1 ∙ ap (with_names_typed env wanted) same ∙ sym e);
 }
 
 pub no_typing : (env : List (List ℕ × Ty)) (wanted : List (List ℕ)) (raw : Raw) → HasNoFormula env wanted (core_form raw) (Some ty.Truth) → HasNoTyping env wanted raw

@@ -4,18 +4,18 @@ use Rattle.formula_core.specs.declared.ty.Ty.{Ty}
 use Rattle.formula_core.specs.declared.formula.Formula.{Formula}
 use Rattle.formula_core.specs.declared.formula.Formula.TheVariants as formula
 use Rattle.formula_core.specs.Rows.{row_of}
-use Rattle.formula_core.specs.Schemes.{Scheme, Letters, AreValues, type_at, operand_schemes, result_scheme, part_schemes, binder_scheme}
+use Rattle.formula_core.specs.Schemes.{Scheme, Letters, AreValues, type_of_scheme, operand_schemes, result_scheme, part_schemes, binder_scheme}
 use Rattle.formula_core.specs.Wellness.{is_natural}
-use Rattle.unification.specs.Terms.{Open, variable, value, instance}
+use Rattle.unification.specs.Terms.{Open, variable, value, instance_from}
 use Rattle.unification.specs.Solutions.{Solves}
 use Rattle.unification.proofs.Terms.{value_of_type, value_of_scheme, letters_at}
 use Rattle.unification.proofs.Unify.{Solves-append}
-use Rattle.type_core.specs.Bare.{Bare, Bares, Bounds, Number, Identifier, Form, Partition, Binding, Ascribed, Broken, nothing, more, unbound, plain, typed, part_count, has_names}
+use Rattle.type_core.specs.Bare.{Bare, Bares, BareBounds, Number, Identifier, Form, Partition, Binding, Ascribed, Broken, nothing, more, unbound, plain, typed, part_count, has_names}
 use Rattle.type_core.specs.Scopes.{Scope, position_of, with_names, IsName}
 use Rattle.type_core.specs.TypeExpressions.{denoted}
 use Rattle.type_core.specs.Partition.{partition_schemes, partition_of}
 use Rattle.type_core.specs.Typings.{AreBound, Types, AllTyped}
-use Rattle.type_core.specs.PrivateGenerated.{width, widths, with_variables, name_equations, condition, type_equations, bound_equations, generated, all_generated, name_core, name_count}
+use Rattle.type_core.specs.PrivateGenerated.{variable_width, widths, with_variables, name_equations, condition, type_equations, bound_equations, generated, all_generated, name_core, name_count}
 use Rattle.type_core.proofs.Built.{types_at, built, all_built}
 use Rattle.type_core.specs.Answers.{AreValueTypes}
 use Rattle.type_core.proofs.Denoted.{denoted_values}
@@ -67,12 +67,12 @@ name_complete v x None (Some p) n e f t named reads is = ((reads ∙ named.1, (r
 name_complete v x None None n e f t named reads is = absurd named
 
 -- the names of a binder have the types that their variables read
-pub record BoundChosen (env : List (List ℕ × Ty)) (B : Scope Ty) (names : Bounds) (ts : List Ty) : Type 0 where
+pub record BoundChosen (env : List (List ℕ × Ty)) (B : Scope Ty) (names : BareBounds) (ts : List Ty) : Type 0 where
   pub all_values : AreValueTypes ts
   pub long : length ts ≡ name_count names
   pub serves : (v : ℕ → Ty) (n : ℕ) (outer : Scope Open) → typed_at v outer ≡ B → Reads v n ts → Solves v (bound_equations env outer names n) × (types_at v names n ≡ ts)
 
-bound_complete : (env : List (List ℕ × Ty)) (B : Scope Ty) (names : Bounds) (ts : List Ty) → AreBound env B names ts → BoundChosen env B names ts
+bound_complete : (env : List (List ℕ × Ty)) (B : Scope Ty) (names : BareBounds) (ts : List Ty) → AreBound env B names ts → BoundChosen env B names ts
 bound_complete env B unbound ts h = record {
   all_values = subst AreValueTypes (sym h) tt;
   long = ap length h;
@@ -106,7 +106,7 @@ bound_complete env B (typed x written names) ts h =
 pub record Chosen (env : List (List ℕ × Ty)) (B F : Scope Ty) (b : Bare) (f : Formula) (t : Ty) : Type 0 where
   pub types : List Ty
   pub all_values : AreValueTypes types
-  pub long : length types ≡ width b
+  pub long : length types ≡ variable_width b
   pub serves : (v : ℕ → Ty) (n : ℕ) (bound free : Scope Open) (e : Open) → typed_at v bound ≡ B → typed_at v free ≡ F → value v e ≡ t → Reads v n types → Solves v (generated env bound free b n e) × (built v bound b n ≡ f)
 
 pub record AllChosen (env : List (List ℕ × Ty)) (B F : Scope Ty) (bs : Bares) (fs : List Formula) (ts : List Ty) : Type 0 where
@@ -119,23 +119,23 @@ none_expected : (v : ℕ → Ty) (env : List (List ℕ × Ty)) (bound free : Sco
 none_expected v env bound free [] n h = tt
 none_expected v env bound free (e ∷ es) n h = cc
 
-one_expected : (v : ℕ → Ty) (env : List (List ℕ × Ty)) (bound free : Scope Open) (b : Bare) (bs : Bares) (es : List Open) (n : ℕ) (t : Ty) (ts : List Ty) (f : Formula) (fs all : List Formula) → values v es ≡ t ∷ ts → all ≡ f ∷ fs → ((e : Open) → value v e ≡ t → Solves v (generated env bound free b n e) × (built v bound b n ≡ f)) → ((es : List Open) → values v es ≡ ts → Solves v (all_generated env bound free bs (n + width b) es) × (all_built v bound bs (n + width b) ≡ fs)) → Solves v (all_generated env bound free (more b bs) n es) × (all_built v bound (more b bs) n ≡ all)
+one_expected : (v : ℕ → Ty) (env : List (List ℕ × Ty)) (bound free : Scope Open) (b : Bare) (bs : Bares) (es : List Open) (n : ℕ) (t : Ty) (ts : List Ty) (f : Formula) (fs all : List Formula) → values v es ≡ t ∷ ts → all ≡ f ∷ fs → ((e : Open) → value v e ≡ t → Solves v (generated env bound free b n e) × (built v bound b n ≡ f)) → ((es : List Open) → values v es ≡ ts → Solves v (all_generated env bound free bs (n + variable_width b) es) × (all_built v bound bs (n + variable_width b) ≡ fs)) → Solves v (all_generated env bound free (more b bs) n es) × (all_built v bound (more b bs) n ≡ all)
 one_expected v env bound free b bs [] n t ts f fs all h is first others = cc
 one_expected v env bound free b bs (e ∷ es) n t ts f fs all h is first others =
     let a : value v e ≡ t = cc in
     let r : values v es ≡ ts = cc in
     let c = first e a in
     let d = others es r in (
-      (Solves-append v (generated env bound free b n e) (all_generated env bound free bs (n + width b) es)).1 (c.0, d.0),
+      (Solves-append v (generated env bound free b n e) (all_generated env bound free bs (n + variable_width b) es)).1 (c.0, d.0),
       (λ i. c.1 i ∷ d.1 i) ∙ sym is,
     )
 
 -- the schemes of a form under an assignment that reads its letters
-operands_read : (v : ℕ → Ty) (n : ℕ) (l : Letters) (schemes : List Scheme) (types : List Ty) → letters_at v n ≡ l → types ≡ map (type_at l) schemes → values v (map (instance n) schemes) ≡ types
-operands_read v n l schemes types e h = instances-at v n schemes ∙ ap (λ m. map (type_at m) schemes) e ∙ sym h
+operands_read : (v : ℕ → Ty) (n : ℕ) (l : Letters) (schemes : List Scheme) (types : List Ty) → letters_at v n ≡ l → types ≡ map (type_of_scheme l) schemes → values v (map (instance_from n) schemes) ≡ types
+operands_read v n l schemes types e h = instances-at v n schemes ∙ ap (λ m. map (type_of_scheme m) schemes) e ∙ sym h
 
-whole_read : (v : ℕ → Ty) (n : ℕ) (l : Letters) (s : Scheme) (t : Ty) → letters_at v n ≡ l → t ≡ type_at l s → type_at (letters_at v n) s ≡ t
-whole_read v n l s t e h = ap (λ m. type_at m s) e ∙ sym h
+whole_read : (v : ℕ → Ty) (n : ℕ) (l : Letters) (s : Scheme) (t : Ty) → letters_at v n ≡ l → t ≡ type_of_scheme l s → type_of_scheme (letters_at v n) s ≡ t
+whole_read v n l s t e h = ap (λ m. type_of_scheme m s) e ∙ sym h
 
 mutual
   pub complete : (env : List (List ℕ × Ty)) (B F : Scope Ty) (b : Bare) (f : Formula) (t : Ty) → Types env B F b f t → Chosen env B F b f t
@@ -166,7 +166,7 @@ mutual
             let four = reads_four v n l inner.types reads in
             let operands = operands_read v n l (operand_schemes (row_of op) (part_count parts)) h.1 four.0 is.operands_are in
             let whole = whole_read v n l (result_scheme (row_of op)) t four.0 is.whole_is in
-            let rest = inner.serves v (n + 4) bound free (map (instance n) (operand_schemes (row_of op) (part_count parts))) b c operands four.1 in (
+            let rest = inner.serves v (n + 4) bound free (map (instance_from n) (operand_schemes (row_of op) (part_count parts))) b c operands four.1 in (
               (value_of_scheme v n (result_scheme (row_of op)) ∙ whole ∙ sym d, rest.0),
               (λ i. formula.Node op (rest.1 i) (whole i)) ∙ sym h.4,
             );
@@ -182,7 +182,7 @@ mutual
         serves = λ v n bound free e b c d reads.
             let four = reads_four v n l inner.types reads in
             let operands = operands_read v n l (partition_schemes (part_count parts)) h.1 four.0 is.operands_are in
-            let rest = inner.serves v (n + 4) bound free (map (instance n) (partition_schemes (part_count parts))) b c operands four.1 in (
+            let rest = inner.serves v (n + 4) bound free (map (instance_from n) (partition_schemes (part_count parts))) b c operands four.1 in (
               (sym is.whole_is ∙ sym d, rest.0),
               ap partition_of rest.1 ∙ sym h.4,
             );
@@ -205,8 +205,8 @@ mutual
             sym (with_names-typed v names (n + 4) bound) ∙ ap (λ us. with_names names us (typed_at v bound)) named.1 ∙ ap (with_names names ts) b in
             let operands = operands_read v n l (part_schemes binder) h.4 four.0 is.operands_are in
             let whole = whole_read v n l (binder_scheme binder) t four.0 is.whole_is in
-            let rest = inner.serves v (n + 4 + name_count names) (with_variables names (n + 4) bound) free (map (instance n) (part_schemes binder)) scope c operands (subst (λ k. Reads v (n + 4 + k) inner.types) bound_types.long two.1) in
-            let parts_equations = all_generated env (with_variables names (n + 4) bound) free parts (n + 4 + name_count names) (map (instance n) (part_schemes binder)) in (
+            let rest = inner.serves v (n + 4 + name_count names) (with_variables names (n + 4) bound) free (map (instance_from n) (part_schemes binder)) scope c operands (subst (λ k. Reads v (n + 4 + k) inner.types) bound_types.long two.1) in
+            let parts_equations = all_generated env (with_variables names (n + 4) bound) free parts (n + 4 + name_count names) (map (instance_from n) (part_schemes binder)) in (
               (
                 value_of_scheme v n (binder_scheme binder) ∙ whole ∙ sym d,
                 (Solves-append v (condition (has_names names)) (bound_equations env bound names (n + 4) ++ parts_equations)).1
@@ -246,5 +246,5 @@ mutual
             let two = Reads-append v n first.types others.types reads in
             one_expected v env bound free b bs es n h.2 h.3 h.0 h.1 fs (d ∙ h.7) h.6
             (λ e i. first.serves v n bound free e p q i two.0)
-            (λ es i. others.serves v (n + width b) bound free es p q i (subst (λ k. Reads v (n + k) others.types) first.long two.1));
+            (λ es i. others.serves v (n + variable_width b) bound free es p q i (subst (λ k. Reads v (n + k) others.types) first.long two.1));
       }

@@ -11,7 +11,7 @@ use Rattle.formula_core.specs.declared.raw.Raw.TheViews.{out-RawBound, roll-RawB
 use Rattle.formula_core.specs.declared.raw.Raw.TheFolds.{fold-roll-Raw, para-roll-Raw, fold-RawBound, para-RawBound, fold-roll-RawBound, para-roll-RawBound, map-RawBound}
 use Rattle.formula_core.specs.declared.op.Binder.{Binder}
 use Rattle.formula_core.specs.declared.raw.RawBinder.TheVariants as rawbinder
-use Rattle.type_core.specs.Bare.{Bare, Bares, Bounds, Number, Identifier, Binding, Broken, more, has_names}
+use Rattle.type_core.specs.Bare.{Bare, Bares, BareBounds, Number, Identifier, Binding, Broken, more, has_names}
 use Rattle.type_core.specs.CoreForms.{free_step, free_names, free_in_form, free_in_binder, BareBound, bares, bounds, core_step, bound_step, core_form, core_of_form, core_of_lambda, core_of_unnamed, plain_names, once, two, turned, core_of_binder}
 use Rattle.type_core.specs.PrivateViews.{with_core, bound_part, in_a_row}
 
@@ -78,7 +78,7 @@ row_of_parts (r ∷ rs) = ap (more (core_form r)) (row_of_parts rs)
 pub read_node : (r : Raw) (op : RawOp) (parts : List Raw) (place : ℕ) (row : Bares) → r ≡ raw.Node op parts place → row ≡ in_a_row (map core_form parts) → core_of_form op row ≡ core_form r
 read_node r op parts place row is h = ap (core_of_form op) (h ∙ sym (row_of_parts parts)) ∙ sym (ap core_form is ∙ core_form-Node op parts place)
 
-module _ (r : Raw) (binder : RawBinder) (bound : List RawBound) (parts : List Raw) (place : ℕ) (is : r ≡ raw.Bind binder bound parts place) (names : Bounds) (named : names ≡ bounds (map bound_part bound)) where
+module _ (r : Raw) (binder : RawBinder) (bound : List RawBound) (parts : List Raw) (place : ℕ) (is : r ≡ raw.Bind binder bound parts place) (names : BareBounds) (named : names ≡ bounds (map bound_part bound)) where
   binder_is : (kind : RawBinder) → binder ≡ kind → core_form r ≡ core_of_binder kind names (map with_core parts)
   binder_is kind e = ap core_form is ∙ core_form-Bind binder bound parts place ∙ (λ i. core_of_binder (e i) (sym named i) (map with_core parts))
 
@@ -111,7 +111,7 @@ unnamed_broken b (p ∷ e ∷ []) h = absurd (h refl)
 unnamed_broken b (p ∷ e ∷ x ∷ xs) h = ap Broken (row_of_parts (p ∷ e ∷ x ∷ xs))
 
 -- two parts
-pub unnamed_two : (b : Binder) (parts : List Raw) (e : Raw) (names : Bounds) → length parts ≡ 2 → e ≡ get_or parts 0 e → names ≡ plain_names (once (free_names e)) → core_of_unnamed b (map with_core parts) ≡ Binding b names (turned (in_a_row (map core_form parts)))
+pub unnamed_two : (b : Binder) (parts : List Raw) (e : Raw) (names : BareBounds) → length parts ≡ 2 → e ≡ get_or parts 0 e → names ≡ plain_names (once (free_names e)) → core_of_unnamed b (map with_core parts) ≡ Binding b names (turned (in_a_row (map core_form parts)))
 unnamed_two b [] e names h is n = cc
 unnamed_two b (p ∷ []) e names h is n = cc
 unnamed_two b (p ∷ q ∷ []) e names h is n = ap (λ ns. Binding b ns (two (core_form q) (core_form p))) (ap (λ r. plain_names (once (free_names r))) (sym is) ∙ sym n)

@@ -6,15 +6,15 @@ use Rattle.formula_core.specs.declared.op.Binder.{Binder}
 use Rattle.formula_core.specs.declared.formula.Formula.{Formula}
 use Rattle.formula_core.specs.declared.formula.Formula.TheVariants as formula
 use Rattle.formula_core.specs.Rows.{row_of}
-use Rattle.formula_core.specs.Schemes.{Scheme, result_scheme, binder_scheme, type_at as type_of_scheme}
-use Rattle.unification.specs.Terms.{Open, instance}
-use Rattle.unification.specs.Known.{type_at, closed}
+use Rattle.formula_core.specs.Schemes.{Scheme, result_scheme, binder_scheme, type_of_scheme}
+use Rattle.unification.specs.Terms.{Open, instance_from}
+use Rattle.unification.specs.Known.{type_at, closed_type}
 use Rattle.unification.proofs.Terms.{value_of_scheme, letters_at}
 use Rattle.unification.proofs.KnownTypes.{HasTypes, Differ, closed_value, open_differs}
-use Rattle.type_core.specs.Bare.{Bare, Bares, Bounds, Number, Identifier, Form, Partition, Binding, Ascribed, Broken, nothing, more, unbound, plain, typed}
+use Rattle.type_core.specs.Bare.{Bare, Bares, BareBounds, Number, Identifier, Form, Partition, Binding, Ascribed, Broken, nothing, more, unbound, plain, typed}
 use Rattle.type_core.specs.Scopes.{Scope, position_of}
 use Rattle.type_core.specs.Partition.{partition_of}
-use Rattle.type_core.specs.PrivateGenerated.{width, with_variables, name_core, name_count}
+use Rattle.type_core.specs.PrivateGenerated.{variable_width, with_variables, name_core, name_count}
 use Rattle.type_core.proofs.Built.{types_at, built, all_built}
 use Rattle.type_core.specs.PrivateClosed.{before, known_names, known_name, known_form, known_partition, known_binding, known, all_known}
 use Rattle.type_core.proofs.PartitionParts.{same_parts, same_type_of, same_free, same_bound, same_binder_parts, same_binder_type, same_bound_types, same_heads, same_tails, partition_same}
@@ -60,7 +60,7 @@ none_binding b (Some t) (Some ts) None e = inr (inr refl)
 none_binding b (Some t) None q e = inr (inl refl)
 none_binding b None p q e = inl refl
 
-names_known : (v : ℕ → Ty) (ts : List (Option Ty)) → HasTypes v ts → (n : ℕ) (names : Bounds) (us : List Ty) → known_names ts n names ≡ Some us → types_at v names n ≡ us
+names_known : (v : ℕ → Ty) (ts : List (Option Ty)) → HasTypes v ts → (n : ℕ) (names : BareBounds) (us : List Ty) → known_names ts n names ≡ Some us → types_at v names n ≡ us
 names_known v ts h n unbound us e = cc
 names_known v ts h n (plain x names) us e =
     let p = some_before (type_at ts n) (known_names ts (suc n) names) us e in
@@ -77,7 +77,7 @@ abbrev tail_types : List Ty → List Ty
 tail_types [] = []
 tail_types (u ∷ us) = us
 
-names_differ : (v w : ℕ → Ty) (ts : List (Option Ty)) → Differ v w ts → (n : ℕ) (names : Bounds) → known_names ts n names ≡ None → types_at v names n ≢ types_at w names n
+names_differ : (v w : ℕ → Ty) (ts : List (Option Ty)) → Differ v w ts → (n : ℕ) (names : BareBounds) → known_names ts n names ≡ None → types_at v names n ≢ types_at w names n
 names_differ v w ts h n unbound e q = cc
 names_differ v w ts h n (plain x names) e q =
     elim (none_before (type_at ts n) (known_names ts (suc n) names) e) [
@@ -105,15 +105,15 @@ name_none : (x : List ℕ) (place : Option (ℕ × Open)) (o : Option Ty) → kn
 name_none x place None e = refl
 name_none x place (Some t) e = cc
 
-whole_known : (v : ℕ → Ty) (ts : List (Option Ty)) → HasTypes v ts → (n : ℕ) (s : Scheme) (t : Ty) → closed ts (instance n s) ≡ Some t → type_of_scheme (letters_at v n) s ≡ t
-whole_known v ts h n s t e = sym (value_of_scheme v n s) ∙ closed_value v ts h (instance n s) t e
+whole_known : (v : ℕ → Ty) (ts : List (Option Ty)) → HasTypes v ts → (n : ℕ) (s : Scheme) (t : Ty) → closed_type ts (instance_from n s) ≡ Some t → type_of_scheme (letters_at v n) s ≡ t
+whole_known v ts h n s t e = sym (value_of_scheme v n s) ∙ closed_value v ts h (instance_from n s) t e
 
-whole_differs : (v w : ℕ → Ty) (ts : List (Option Ty)) → Differ v w ts → (n : ℕ) (s : Scheme) → closed ts (instance n s) ≡ None → type_of_scheme (letters_at v n) s ≢ type_of_scheme (letters_at w n) s
-whole_differs v w ts h n s e q = open_differs v w ts h (instance n s) e (value_of_scheme v n s ∙ q ∙ sym (value_of_scheme w n s))
+whole_differs : (v w : ℕ → Ty) (ts : List (Option Ty)) → Differ v w ts → (n : ℕ) (s : Scheme) → closed_type ts (instance_from n s) ≡ None → type_of_scheme (letters_at v n) s ≢ type_of_scheme (letters_at w n) s
+whole_differs v w ts h n s e q = open_differs v w ts h (instance_from n s) e (value_of_scheme v n s ∙ q ∙ sym (value_of_scheme w n s))
 
 length-built : (v w : ℕ → Ty) (bound : Scope Open) (bs : Bares) (n : ℕ) → length (all_built v bound bs n) ≡ length (all_built w bound bs n)
 length-built v w bound nothing n = refl
-length-built v w bound (more b bs) n = ap suc (length-built v w bound bs (n + width b))
+length-built v w bound (more b bs) n = ap suc (length-built v w bound bs (n + variable_width b))
 
 -- where all is known, the formula is the one that each assignment gives
 mutual
@@ -121,14 +121,14 @@ mutual
   known_built v ts h bound (Number k) n f e = cc
   known_built v ts h bound (Identifier x place) n f e = name_known v ts h x n (position_of x bound) (type_at ts n) f refl e
   known_built v ts h bound (Form op parts) n f e =
-      let s = some_form op (closed ts (instance n (result_scheme (row_of op)))) (all_known ts bound parts (n + 4)) f e in
+      let s = some_form op (closed_type ts (instance_from n (result_scheme (row_of op)))) (all_known ts bound parts (n + 4)) f e in
       (λ i. formula.Node op (all_known_built v ts h bound parts (n + 4) s.1 s.3 i) (whole_known v ts h n (result_scheme (row_of op)) s.0 s.2 i)) ∙ s.4
   known_built v ts h bound (Partition parts) n f e =
       let s = some_partition (all_known ts bound parts (n + 4)) f e in
       ap partition_of (all_known_built v ts h bound parts (n + 4) s.0 s.1) ∙ s.2
   known_built v ts h bound (Binding binder names parts) n f e =
       let inner = with_variables names (n + 4) bound in
-      let s = some_binding binder (closed ts (instance n (binder_scheme binder))) (known_names ts (n + 4) names) (all_known ts inner parts (n + 4 + name_count names)) f e in
+      let s = some_binding binder (closed_type ts (instance_from n (binder_scheme binder))) (known_names ts (n + 4) names) (all_known ts inner parts (n + 4 + name_count names)) f e in
       (λ i. formula.Bind binder (names_known v ts h (n + 4) names s.1 s.4 i) (all_known_built v ts h inner parts (n + 4 + name_count names) s.2 s.5 i) (whole_known v ts h n (binder_scheme binder) s.0 s.3 i)) ∙ s.6
   known_built v ts h bound (Ascribed x written) n f e = known_built v ts h bound x n f e
   known_built v ts h bound (Broken parts) n f e = cc
@@ -136,8 +136,8 @@ mutual
   all_known_built : (v : ℕ → Ty) (ts : List (Option Ty)) → HasTypes v ts → (bound : Scope Open) (bs : Bares) (n : ℕ) (fs : List Formula) → all_known ts bound bs n ≡ Some fs → all_built v bound bs n ≡ fs
   all_known_built v ts h bound nothing n fs e = cc
   all_known_built v ts h bound (more b bs) n fs e =
-      let s = some_before (known ts bound b n) (all_known ts bound bs (n + width b)) fs e in
-      (λ i. known_built v ts h bound b n s.0 s.2 i ∷ all_known_built v ts h bound bs (n + width b) s.1 s.3 i) ∙ s.4
+      let s = some_before (known ts bound b n) (all_known ts bound bs (n + variable_width b)) fs e in
+      (λ i. known_built v ts h bound b n s.0 s.2 i ∷ all_known_built v ts h bound bs (n + variable_width b) s.1 s.3 i) ∙ s.4
 
 -- where not all is known, two assignments that differ give two formulas
 mutual
@@ -145,7 +145,7 @@ mutual
   built_differs v w ts h bound (Number k) n e q = cc
   built_differs v w ts h bound (Identifier x place) n e q = h n (name_none x (position_of x bound) (type_at ts n) e) (name_differs x (position_of x bound) (v n) (w n) q)
   built_differs v w ts h bound (Form op parts) n e q =
-      elim (none_form op (closed ts (instance n (result_scheme (row_of op)))) (all_known ts bound parts (n + 4)) e) [
+      elim (none_form op (closed_type ts (instance_from n (result_scheme (row_of op)))) (all_known ts bound parts (n + 4)) e) [
         | inl a ↦ whole_differs v w ts h n (result_scheme (row_of op)) a (same_type_of op _ _ _ _ q)
         | inr b ↦ all_built_differ v w ts h bound parts (n + 4) b (same_parts op _ _ _ _ q)
       ]
@@ -153,7 +153,7 @@ mutual
       all_built_differ v w ts h bound parts (n + 4) (none_partition (all_known ts bound parts (n + 4)) e) (partition_same _ _ (length-built v w bound parts (n + 4)) q)
   built_differs v w ts h bound (Binding binder names parts) n e q =
       let inner = with_variables names (n + 4) bound in
-      elim (none_binding binder (closed ts (instance n (binder_scheme binder))) (known_names ts (n + 4) names) (all_known ts inner parts (n + 4 + name_count names)) e) [
+      elim (none_binding binder (closed_type ts (instance_from n (binder_scheme binder))) (known_names ts (n + 4) names) (all_known ts inner parts (n + 4 + name_count names)) e) [
         | inl a ↦ whole_differs v w ts h n (binder_scheme binder) a (same_binder_type binder _ _ _ _ _ _ q)
         | inr b ↦ elim b [
           | inl c ↦ names_differ v w ts h (n + 4) names c (same_bound_types binder _ _ _ _ _ _ q)
@@ -166,7 +166,7 @@ mutual
   all_built_differ : (v w : ℕ → Ty) (ts : List (Option Ty)) → Differ v w ts → (bound : Scope Open) (bs : Bares) (n : ℕ) → all_known ts bound bs n ≡ None → all_built v bound bs n ≢ all_built w bound bs n
   all_built_differ v w ts h bound nothing n e q = cc
   all_built_differ v w ts h bound (more b bs) n e q =
-      elim (none_before (known ts bound b n) (all_known ts bound bs (n + width b)) e) [
+      elim (none_before (known ts bound b n) (all_known ts bound bs (n + variable_width b)) e) [
         | inl a ↦ built_differs v w ts h bound b n a (same_heads _ _ _ _ q)
-        | inr c ↦ all_built_differ v w ts h bound bs (n + width b) c (same_tails _ _ _ _ q)
+        | inr c ↦ all_built_differ v w ts h bound bs (n + variable_width b) c (same_tails _ _ _ _ q)
       ]

@@ -1,6 +1,6 @@
 -- Lists of trees in a row.
 use Rattle.std.proofs.Common.{◌≡◌, ◌∙◌, sym, ap, refl, ℕ, List, [], ◌∷◌, ◌++◌, map, Option}
-use Rattle.type_core.specs.Bare.{Bares, Bounds, nothing, more}
+use Rattle.type_core.specs.Bare.{Bares, BareBounds, nothing, more}
 use Rattle.type_core.specs.CoreForms.{bounds, bound_before}
 use Rattle.type_core.specs.Views.{bare_of}
 use Rattle.type_core.specs.PrivateViews.{bound_of, in_a_row}
@@ -23,11 +23,11 @@ pub row_step : (old rest : List Tree) (t : Tree) (row new all : Bares) → old �
 row_step old rest t row new all e n h = ap (row_before rest) n ∙ sym (ap (λ ts. row_before ts row) e ∙ row_before-append rest t row) ∙ h
 
 -- names before others
-abbrev pub names_before : List (List ℕ × Option Tree) → Bounds → Bounds
+abbrev pub names_before : List (List ℕ × Option Tree) → BareBounds → BareBounds
 names_before [] names = names
 names_before (b ∷ bs) names = bound_before (bound_of b) (names_before bs names)
 
-names_before-append : (bs : List (List ℕ × Option Tree)) (b : List ℕ × Option Tree) (names : Bounds) → names_before (bs ++ b ∷ []) names ≡ names_before bs (bound_before (bound_of b) names)
+names_before-append : (bs : List (List ℕ × Option Tree)) (b : List ℕ × Option Tree) (names : BareBounds) → names_before (bs ++ b ∷ []) names ≡ names_before bs (bound_before (bound_of b) names)
 names_before-append [] b names = refl
 names_before-append (c ∷ bs) b names = ap (bound_before (bound_of c)) (names_before-append bs b names)
 
@@ -35,5 +35,5 @@ pub names_before-nothing : (bs : List (List ℕ × Option Tree)) → names_befor
 names_before-nothing [] = refl
 names_before-nothing (b ∷ bs) = ap (bound_before (bound_of b)) (names_before-nothing bs)
 
-pub names_step : (old rest : List (List ℕ × Option Tree)) (b : List ℕ × Option Tree) (names new all : Bounds) → old ≡ rest ++ b ∷ [] → new ≡ bound_before (bound_of b) names → names_before old names ≡ all → names_before rest new ≡ all
+pub names_step : (old rest : List (List ℕ × Option Tree)) (b : List ℕ × Option Tree) (names new all : BareBounds) → old ≡ rest ++ b ∷ [] → new ≡ bound_before (bound_of b) names → names_before old names ≡ all → names_before rest new ≡ all
 names_step old rest b names new all e n h = ap (names_before rest) n ∙ sym (ap (λ bs. names_before bs names) e ∙ names_before-append rest b names) ∙ h

@@ -9,10 +9,10 @@ use Rattle.formula_core.specs.declared.formula.Formula.TheOpen.{Int as IntF, Bou
 use Rattle.formula_core.specs.declared.formula.Formula.TheVariants as formula
 use Rattle.formula_core.specs.declared.formula.Formula.TheViews.{rolls-Int, rolls-Bound}
 use Rattle.formula_core.specs.Env.{type_in}
-use Rattle.formula_core.specs.Formulas.{same_identifier, with_new, occurrences_step, occurrences, free_of}
+use Rattle.formula_core.specs.Formulas.{same_identifier, with_identifier, occurrences_step, occurrences, free_of}
 use Rattle.formula_core.specs.Types.{same_type}
 use Rattle.formula_core.proofs.Weakening.{first_true}
-use Rattle.type_core.specs.Answers.{paired, with_name, extended}
+use Rattle.type_core.specs.Answers.{paired, with_typed_name, with_names_typed}
 use Rattle.formula_core.proofs.Equations.{formula_fold}
 use Rattle.type_core.specs.Scopes.{Scope, one_further, position_of}
 
@@ -81,13 +81,13 @@ with_cond : (b : Bool) (env : Entries) (e : List ℕ × Ty) → IsWithin env (co
 with_cond true env e x t h = h
 with_cond false env e x t h = sooner env (e ∷ []) x t h
 
-pub within_name : (env : Entries) (x : List ℕ) (o : Option Ty) → IsWithin env (with_name env x o)
+pub within_name : (env : Entries) (x : List ℕ) (o : Option Ty) → IsWithin env (with_typed_name env x o)
 within_name env x None y u h = h
 within_name env x (Some t) y u h = with_cond (is_some (type_in env x)) env (x, t) y u h
 
-pub within_extended : (env : Entries) (wanted : List (List ℕ)) (f : Formula) → IsWithin env (extended env wanted f)
+pub within_extended : (env : Entries) (wanted : List (List ℕ)) (f : Formula) → IsWithin env (with_names_typed env wanted f)
 within_extended env [] f x t h = h
-within_extended env (w ∷ ws) f x t h = within_extended (with_name env w (type_in (free_of f) w)) ws f x t (within_name env w (type_in (free_of f) w) x t h)
+within_extended env (w ∷ ws) f x t h = within_extended (with_typed_name env w (type_in (free_of f) w)) ws f x t (within_name env w (type_in (free_of f) w) x t h)
 
 -- Names that a formula adds.
 
@@ -104,22 +104,22 @@ module _ (P : List ℕ × Ty → Type 0) where
   new_has true xs x all p = all
   new_has false xs x all p = all_append P xs (x ∷ []) all (p, tt)
 
-  all_new : (xs ys : Entries) → AllByRecursion P xs → AllByRecursion P ys → AllByRecursion P (fold with_new xs ys)
+  all_new : (xs ys : Entries) → AllByRecursion P xs → AllByRecursion P ys → AllByRecursion P (fold with_identifier xs ys)
   all_new xs [] all more = all
-  all_new xs (y ∷ ys) all more = all_new (with_new xs y) ys (new_has (list_any (λ z. same_identifier z y) xs) xs y all more.0) more.1
+  all_new xs (y ∷ ys) all more = all_new (with_identifier xs y) ys (new_has (list_any (λ z. same_identifier z y) xs) xs y all more.0) more.1
 
   pub free_has : (f : Formula) (x : List ℕ) (t : Ty) → AllByRecursion P (occurrences f) → type_in (free_of f) x ≡ Some t → P (x, t)
   free_has f x t all h = found_has (free_of f) x t (all_new [] (occurrences f) tt all) h
 
-  pub name_has : (env : Entries) (x : List ℕ) (o : Option Ty) → AllByRecursion P env → ((t : Ty) → o ≡ Some t → P (x, t)) → AllByRecursion P (with_name env x o)
+  pub name_has : (env : Entries) (x : List ℕ) (o : Option Ty) → AllByRecursion P env → ((t : Ty) → o ≡ Some t → P (x, t)) → AllByRecursion P (with_typed_name env x o)
   name_has env x None all new = all
   name_has env x (Some t) all new = new_has (is_some (type_in env x)) env (x, t) all (new t refl)
 
   -- what holds of each free identifier holds of each name that is added
-  pub extended_has : (env : Entries) (wanted : List (List ℕ)) (f : Formula) → AllByRecursion P (occurrences f) → AllByRecursion P env → AllByRecursion P (extended env wanted f)
+  pub extended_has : (env : Entries) (wanted : List (List ℕ)) (f : Formula) → AllByRecursion P (occurrences f) → AllByRecursion P env → AllByRecursion P (with_names_typed env wanted f)
   extended_has env [] f free all = all
   extended_has env (w ∷ ws) f free all =
-      extended_has (with_name env w (type_in (free_of f) w)) ws f free (name_has env w (type_in (free_of f) w) all (λ t h. free_has f w t free h))
+      extended_has (with_typed_name env w (type_in (free_of f) w)) ws f free (name_has env w (type_in (free_of f) w) all (λ t h. free_has f w t free h))
 
 -- Each free identifier is in the list of the free ones.
 
@@ -154,15 +154,15 @@ new_within : (b : Bool) (xs : Entries) (x : List ℕ × Ty) → IsWithin xs (con
 new_within true xs x y t h = h
 new_within false xs x y t h = sooner xs (x ∷ []) y t h
 
-all_within : (xs ys : Entries) → IsWithin xs (fold with_new xs ys)
+all_within : (xs ys : Entries) → IsWithin xs (fold with_identifier xs ys)
 all_within xs [] x t h = h
-all_within xs (y ∷ ys) x t h = all_within (with_new xs y) ys x t (new_within (list_any (λ z. same_identifier z y) xs) xs y x t h)
+all_within xs (y ∷ ys) x t h = all_within (with_identifier xs y) ys x t (new_within (list_any (λ z. same_identifier z y) xs) xs y x t h)
 
-all_found : (xs ys : Entries) → AllByRecursion (IsFound (fold with_new xs ys)) ys
+all_found : (xs ys : Entries) → AllByRecursion (IsFound (fold with_identifier xs ys)) ys
 all_found xs [] = tt
 all_found xs (y ∷ ys) =
     let here = found_new (list_any (λ z. same_identifier z y) xs) xs y refl in
-    ((here.0, all_within (with_new xs y) ys y.0 here.0 here.1), all_found (with_new xs y) ys)
+    ((here.0, all_within (with_identifier xs y) ys y.0 here.0 here.1), all_found (with_identifier xs y) ys)
 
 pub free_found : (f : Formula) → AllByRecursion (IsFound (free_of f)) (occurrences f)
 free_found f = all_found [] (occurrences f)
@@ -190,25 +190,25 @@ not_there : (o : Option Ty) → o ≡ None → is_some o ≡ false
 not_there None e = refl
 not_there (Some t) e = cc
 
-passed_name : (env : Entries) (w : List ℕ) (o : Option Ty) (x : List ℕ) → type_in env x ≡ None → bytes_eq x w ≡ false → type_in (with_name env w o) x ≡ None
+passed_name : (env : Entries) (w : List ℕ) (o : Option Ty) (x : List ℕ) → type_in env x ≡ None → bytes_eq x w ≡ false → type_in (with_typed_name env w o) x ≡ None
 passed_name env w None x e h = e
 passed_name env w (Some u) x e h = other_name (is_some (type_in env w)) env w u x e h
 
 pub wanted_added : (env : Entries) (wanted : List (List ℕ)) (f : Formula) (x : List ℕ) (t : Ty) →
-    type_in env x ≡ None → list_any (bytes_eq x) wanted ≡ true → type_in (free_of f) x ≡ Some t → type_in (extended env wanted f) x ≡ Some t
+    type_in env x ≡ None → list_any (bytes_eq x) wanted ≡ true → type_in (free_of f) x ≡ Some t → type_in (with_names_typed env wanted f) x ≡ Some t
 wanted_added env [] f x t e h k = cc
-wanted_added env (w ∷ ws) f x t e h k = go (bytes_eq x w) refl (λ next more. wanted_added (with_name env w (type_in (free_of f) w)) ws f x t next more k) h
+wanted_added env (w ∷ ws) f x t e h k = go (bytes_eq x w) refl (λ next more. wanted_added (with_typed_name env w (type_in (free_of f) w)) ws f x t next more k) h
   where
-    here : bytes_eq x w ≡ true → type_in (with_name env w (type_in (free_of f) w)) x ≡ Some t
+    here : bytes_eq x w ≡ true → type_in (with_typed_name env w (type_in (free_of f) w)) x ≡ Some t
     here is =
         let same : x ≡ w = same_text x w (sym is) in
-        ap (λ o. type_in (with_name env w o) x) (ap (type_in (free_of f)) (sym same) ∙ k)
+        ap (λ o. type_in (with_typed_name env w o) x) (ap (type_in (free_of f)) (sym same) ∙ k)
         ∙ taken_name (is_some (type_in env w)) env w t x (not_there (type_in env w) (ap (type_in env) (sym same) ∙ e)) e is
 
     go : (b : Bool) → bytes_eq x w ≡ b
-        → (type_in (with_name env w (type_in (free_of f) w)) x ≡ None → list_any (bytes_eq x) ws ≡ true → type_in (extended env (w ∷ ws) f) x ≡ Some t)
-        → (b || list_any (bytes_eq x) ws) ≡ true → type_in (extended env (w ∷ ws) f) x ≡ Some t
-    go true is more h = within_extended (with_name env w (type_in (free_of f) w)) ws f x t (here is)
+        → (type_in (with_typed_name env w (type_in (free_of f) w)) x ≡ None → list_any (bytes_eq x) ws ≡ true → type_in (with_names_typed env (w ∷ ws) f) x ≡ Some t)
+        → (b || list_any (bytes_eq x) ws) ≡ true → type_in (with_names_typed env (w ∷ ws) f) x ≡ Some t
+    go true is more h = within_extended (with_typed_name env w (type_in (free_of f) w)) ws f x t (here is)
     go false is more h = more (passed_name env w (type_in (free_of f) w) x e is) h
 
 -- The first entries stay as they are.
@@ -225,6 +225,6 @@ cond_kept : (b : Bool) (old mid : Entries) (e : List ℕ × Ty) → take (length
 cond_kept true old mid e h = h
 cond_kept false old mid e h = first_kept old mid (e ∷ []) h
 
-pub name_kept : (old mid : Entries) (x : List ℕ) (o : Option Ty) → take (length old) mid ≡ old → take (length old) (with_name mid x o) ≡ old
+pub name_kept : (old mid : Entries) (x : List ℕ) (o : Option Ty) → take (length old) mid ≡ old → take (length old) (with_typed_name mid x o) ≡ old
 name_kept old mid x None h = h
 name_kept old mid x (Some t) h = cond_kept (is_some (type_in mid x)) old mid (x, t) h

@@ -10,7 +10,7 @@ use Rattle.formula_core.specs.declared.formula.Formula.TheVariants.{Node, Bind, 
 use Rattle.formula_core.specs.declared.formula.Formula.TheOpen.{Formula-F, Node as NodeF, Bind as BindF, Free as FreeF, Bound as BoundF}
 use Rattle.formula_core.specs.declared.formula.Formula.TheViews.{outs-Node, outs-Bind, outs-Free, outs-Bound}
 use Rattle.formula_core.specs.Wellness.{type_of}
-use Rattle.type_core.specs.Partition.{chain, union_of, equal, disjoint, all_disjoint, partition_of}
+use Rattle.type_core.specs.Partition.{left_nested, union_of, set_equality, disjoint, all_disjoint, partition_of}
 
 abbrev parts_in : Formula-F Formula → List Formula
 parts_in (NodeF o parts t) = parts
@@ -74,7 +74,7 @@ first_of_two o a b c d t u e = same_heads a c (b ∷ []) (d ∷ []) (same_parts 
 second_of_two : (o : Op) (a b c d : Formula) (t u : Ty) → Node o (a ∷ b ∷ []) t ≡ Node o (c ∷ d ∷ []) u → b ≡ d
 second_of_two o a b c d t u e = same_heads b d [] [] (same_tails a c (b ∷ []) (d ∷ []) (same_parts o (a ∷ b ∷ []) (c ∷ d ∷ []) t u e))
 
-chain_same : (o : Op) (t : Ty) (f g : Formula) (fs gs : List Formula) → length fs ≡ length gs → chain o t f fs ≡ chain o t g gs → (f ≡ g) × (fs ≡ gs)
+chain_same : (o : Op) (t : Ty) (f g : Formula) (fs gs : List Formula) → length fs ≡ length gs → left_nested o t f fs ≡ left_nested o t g gs → (f ≡ g) × (fs ≡ gs)
 chain_same o t f g [] [] l e = (e, refl)
 chain_same o t f g [] (b ∷ gs) l e = cc
 chain_same o t f g (a ∷ fs) [] l e = cc
@@ -116,7 +116,7 @@ partition_same [] (b ∷ gs) l e = cc
 partition_same (a ∷ fs) [] l e = cc
 partition_same (a ∷ fs) (b ∷ gs) l e =
     let long : length fs ≡ length gs = omega arith in
-    let both = chain_same op.And ty.Truth (equal a (union_of (type_of a) fs)) (equal b (union_of (type_of b) gs)) (all_disjoint (type_of a) fs) (all_disjoint (type_of b) gs) (disjoint_long (type_of a) (type_of b) fs gs long) e in
+    let both = chain_same op.And ty.Truth (set_equality a (union_of (type_of a) fs)) (set_equality b (union_of (type_of b) gs)) (all_disjoint (type_of a) fs) (all_disjoint (type_of b) gs) (disjoint_long (type_of a) (type_of b) fs gs long) e in
     let set = first_of_two op.Equal a (union_of (type_of a) fs) b (union_of (type_of b) gs) ty.Truth ty.Truth both.0 in
     let unions = second_of_two op.Equal a (union_of (type_of a) fs) b (union_of (type_of b) gs) ty.Truth ty.Truth both.0 in
     let parts = union_same (type_of b) fs gs long (ap (λ f. union_of (type_of f) fs) (sym set) ∙ unions) in

@@ -1,10 +1,10 @@
 -- Scopes of terms, and the scopes of types that they are under an assignment.
 use Rattle.std.proofs.Common.{◌≡◌, ◌∙◌, ap, refl, ℕ, suc, Bool, true, false, cond, List, [], ◌∷◌, Option, Some, None, bytes_eq, map}
 use Rattle.formula_core.specs.declared.ty.Ty.{Ty}
-use Rattle.formula_core.specs.Schemes.{Scheme, type_at}
-use Rattle.unification.specs.Terms.{Open, variable, value, instance}
+use Rattle.formula_core.specs.Schemes.{Scheme, type_of_scheme}
+use Rattle.unification.specs.Terms.{Open, variable, value, instance_from}
 use Rattle.unification.proofs.Terms.{value_of_scheme, letters_at}
-use Rattle.type_core.specs.Bare.{Bare, Bares, Bounds, Number, Identifier, Form, Partition, Binding, Ascribed, Broken, nothing, more, unbound, plain, typed}
+use Rattle.type_core.specs.Bare.{Bare, Bares, BareBounds, Number, Identifier, Form, Partition, Binding, Ascribed, Broken, nothing, more, unbound, plain, typed}
 use Rattle.type_core.specs.Scopes.{Scope, one_further, position_of, with_names, has_name}
 use Rattle.type_core.specs.TypeExpressions.{is_carrier, denoted, denoted_form, all_denoted}
 use Rattle.type_core.specs.PrivateGenerated.{with_variables}
@@ -68,11 +68,11 @@ position-typed v x s = position-over (value v) x s
 pub denoted-typed : (v : ℕ → Ty) (env : List (List ℕ × Ty)) (s : Scope Open) (b : Bare) → denoted env (typed_at v s) b ≡ denoted env s b
 denoted-typed v env s b = denoted-over (value v) env s b
 
-pub with_names-typed : (v : ℕ → Ty) (names : Bounds) (n : ℕ) (s : Scope Open) → with_names names (types_at v names n) (typed_at v s) ≡ typed_at v (with_variables names n s)
+pub with_names-typed : (v : ℕ → Ty) (names : BareBounds) (n : ℕ) (s : Scope Open) → with_names names (types_at v names n) (typed_at v s) ≡ typed_at v (with_variables names n s)
 with_names-typed v unbound n s = refl
 with_names-typed v (plain x names) n s = with_names-typed v names (suc n) ((x, variable n) ∷ s)
 with_names-typed v (typed x t names) n s = with_names-typed v names (suc n) ((x, variable n) ∷ s)
 
-pub instances-at : (v : ℕ → Ty) (n : ℕ) (ss : List Scheme) → values v (map (instance n) ss) ≡ map (type_at (letters_at v n)) ss
+pub instances-at : (v : ℕ → Ty) (n : ℕ) (ss : List Scheme) → values v (map (instance_from n) ss) ≡ map (type_of_scheme (letters_at v n)) ss
 instances-at v n [] = refl
 instances-at v n (s ∷ ss) = λ i. value_of_scheme v n s i ∷ instances-at v n ss i

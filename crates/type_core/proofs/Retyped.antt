@@ -20,9 +20,9 @@ use Rattle.formula_core.specs.Wellness.{type_of_step, type_of}
 use Rattle.formula_core.proofs.Equations.{formula_fold, occurrences-Free, occurrences-Node, occurrences-Bind, identifiers-Free, identifiers-Bound, identifiers-Node, identifiers-Bind}
 use Rattle.formula_core.proofs.Induction.{formula_induction}
 use Rattle.type_core.specs.Answers.{paired, AreValueTypes, IsExpected, IsTypedAs}
-use Rattle.type_core.specs.Bare.{Bare, Bares, Bounds, Number, Identifier, Form, Partition, Binding, Ascribed, Broken, nothing, more, unbound, plain, typed, part_count}
+use Rattle.type_core.specs.Bare.{Bare, Bares, BareBounds, Number, Identifier, Form, Partition, Binding, Ascribed, Broken, nothing, more, unbound, plain, typed, part_count}
 use Rattle.type_core.specs.Laws.{IsExpectedOver}
-use Rattle.type_core.specs.Partition.{partition_schemes, chain, union_of, equal, disjoint, all_disjoint, partition_of}
+use Rattle.type_core.specs.Partition.{partition_schemes, left_nested, union_of, set_equality, disjoint, all_disjoint, partition_of}
 use Rattle.type_core.specs.Scopes.{Scope, position_of, with_names, IsName}
 use Rattle.type_core.specs.TypeExpressions.{denoted}
 use Rattle.type_core.specs.Typings.{AreBound, Types, AllTyped}
@@ -70,12 +70,12 @@ module _ (env : Entries) where
 
   -- The core form of a partition.
 
-  retyped-chain : (o : Op) (t : Ty) (f : Formula) (fs : List Formula) → retyped (chain o t f fs) ≡ chain o (settled env t) (retyped f) (map retyped fs)
+  retyped-chain : (o : Op) (t : Ty) (f : Formula) (fs : List Formula) → retyped (left_nested o t f fs) ≡ left_nested o (settled env t) (retyped f) (map retyped fs)
   retyped-chain o t f [] = refl
   retyped-chain o t f (a ∷ fs) =
-      retyped-chain o t (formula.Node o (f ∷ a ∷ []) t) fs ∙ ap (λ g. chain o (settled env t) g (map retyped fs)) (retyped-Node o (f ∷ a ∷ []) t)
+      retyped-chain o t (formula.Node o (f ∷ a ∷ []) t) fs ∙ ap (λ g. left_nested o (settled env t) g (map retyped fs)) (retyped-Node o (f ∷ a ∷ []) t)
 
-  retyped-equal : (a b : Formula) → retyped (equal a b) ≡ equal (retyped a) (retyped b)
+  retyped-equal : (a b : Formula) → retyped (set_equality a b) ≡ set_equality (retyped a) (retyped b)
   retyped-equal a b = retyped-Node op.Equal (a ∷ b ∷ []) ty.Truth ∙ ap (formula.Node op.Equal (retyped a ∷ retyped b ∷ [])) (settled-Truth env)
 
   retyped-union : (t : Ty) (fs : List Formula) → retyped (union_of t fs) ≡ union_of (settled env t) (map retyped fs)
@@ -85,7 +85,7 @@ module _ (env : Entries) where
   retyped-disjoint : (t : Ty) (a b : Formula) → retyped (disjoint t a b) ≡ disjoint (settled env t) (retyped a) (retyped b)
   retyped-disjoint t a b =
       retyped-equal (formula.Node op.Intersection (a ∷ b ∷ []) t) (formula.Node op.EmptySet [] t)
-      ∙ (λ i. equal (retyped-Node op.Intersection (a ∷ b ∷ []) t i) (retyped-Node op.EmptySet [] t i))
+      ∙ (λ i. set_equality (retyped-Node op.Intersection (a ∷ b ∷ []) t i) (retyped-Node op.EmptySet [] t i))
 
   retyped-from : (t : Ty) (a : Formula) (fs rest : List Formula)
       → map retyped (map (disjoint t a) fs ++ rest) ≡ map (disjoint (settled env t) (retyped a)) (map retyped fs) ++ map retyped rest
@@ -100,12 +100,12 @@ module _ (env : Entries) where
   retyped-partition : (fs : List Formula) → retyped (partition_of fs) ≡ partition_of (map retyped fs)
   retyped-partition [] = retyped-Node op.Top [] ty.Truth ∙ ap (formula.Node op.Top []) (settled-Truth env)
   retyped-partition (s ∷ parts) =
-      let first : retyped (equal s (union_of (type_of s) parts)) ≡ equal (retyped s) (union_of (settled env (type_of s)) (map retyped parts)) =
-      retyped-equal s (union_of (type_of s) parts) ∙ ap (equal (retyped s)) (retyped-union (type_of s) parts) in
+      let first : retyped (set_equality s (union_of (type_of s) parts)) ≡ set_equality (retyped s) (union_of (settled env (type_of s)) (map retyped parts)) =
+      retyped-equal s (union_of (type_of s) parts) ∙ ap (set_equality (retyped s)) (retyped-union (type_of s) parts) in
       let rest : map retyped (all_disjoint (type_of s) parts) ≡ all_disjoint (settled env (type_of s)) (map retyped parts) = retyped-all_disjoint (type_of s) parts in
-      retyped-chain op.And ty.Truth (equal s (union_of (type_of s) parts)) (all_disjoint (type_of s) parts)
-      ∙ (λ i. chain op.And (settled-Truth env i) (first i) (rest i))
-      ∙ ap (λ t. chain op.And ty.Truth (equal (retyped s) (union_of t (map retyped parts))) (all_disjoint t (map retyped parts))) (sym (retyped_type s))
+      retyped-chain op.And ty.Truth (set_equality s (union_of (type_of s) parts)) (all_disjoint (type_of s) parts)
+      ∙ (λ i. left_nested op.And (settled-Truth env i) (first i) (rest i))
+      ∙ ap (λ t. left_nested op.And ty.Truth (set_equality (retyped s) (union_of t (map retyped parts))) (all_disjoint t (map retyped parts))) (sym (retyped_type s))
 
   -- Typings.
 
@@ -114,7 +114,7 @@ module _ (env : Entries) where
   retyped_name x None (Some q) f t h = (ap retyped h.0 ∙ retyped-Free x t, ap (settled env) h.1)
   retyped_name x None None f t h = absurd h
 
-  pub with_names-over : (names : Bounds) (ts : List Ty) (s : Scope Ty) → with_names names (map (settled env) ts) (over (settled env) s) ≡ over (settled env) (with_names names ts s)
+  pub with_names-over : (names : BareBounds) (ts : List Ty) (s : Scope Ty) → with_names names (map (settled env) ts) (over (settled env) s) ≡ over (settled env) (with_names names ts s)
   with_names-over unbound ts s = refl
   with_names-over (plain x names) [] s = refl
   with_names-over (plain x names) (t ∷ ts) s = with_names-over names ts ((x, t) ∷ s)
@@ -124,7 +124,7 @@ module _ (env : Entries) where
   denoted_retyped : (bound : Scope Ty) (b : Bare) (t : Ty) → denoted env bound b ≡ Some t → denoted env (over (settled env) bound) b ≡ Some (settled env t)
   denoted_retyped bound b t e = denoted-over (settled env) env bound b ∙ e ∙ ap Some (sym (settled_kept env t (denoted_over env bound b t e)))
 
-  bound_retyped : (outer : Scope Ty) (names : Bounds) (ts : List Ty) → AreBound env outer names ts → AreBound env (over (settled env) outer) names (map (settled env) ts)
+  bound_retyped : (outer : Scope Ty) (names : BareBounds) (ts : List Ty) → AreBound env outer names ts → AreBound env (over (settled env) outer) names (map (settled env) ts)
   bound_retyped outer unbound ts h = ap (map (settled env)) h
   bound_retyped outer (plain x names) ts h =
       (settled env h.0, map (settled env) h.1, settled_value env h.0 ∙ h.2, bound_retyped outer names h.1 h.3, ap (map (settled env)) h.4)

@@ -11,7 +11,7 @@ use Rattle.formula_core.specs.Env.{type_in}
 use Rattle.formula_core.specs.Identifiers.{carriers_step, carriers}
 use Rattle.formula_core.specs.Typed.{Stands}
 use Rattle.formula_core.specs.Types.{same_type, is_value_type}
-use Rattle.formula_core.specs.Schemes.{Scheme, alpha, beta, gamma, delta, integer, boolean, truth, power, pair, Letters, type_at, IsInstance}
+use Rattle.formula_core.specs.Schemes.{Scheme, alpha, beta, gamma, delta, integer, boolean, truth, power, pair, Letters, type_of_scheme, IsSchemeInstance}
 use Rattle.formula_core.proofs.Equations.{type_fold, carriers-Given, carriers-Pow, carriers-Pair}
 use Rattle.formula_core.proofs.Types.{type_induction, same_type_exact}
 use Rattle.formula_core.proofs.WholeSets.{same_type_refl}
@@ -141,7 +141,7 @@ module _ (env : Entries) where
   abbrev settled_letters : Letters → Letters
   settled_letters l = record { alpha = settled l.alpha; beta = settled l.beta; gamma = settled l.gamma; delta = settled l.delta }
 
-  settled_scheme : (l : Letters) (s : Scheme) → settled (type_at l s) ≡ type_at (settled_letters l) s
+  settled_scheme : (l : Letters) (s : Scheme) → settled (type_of_scheme l s) ≡ type_of_scheme (settled_letters l) s
   settled_scheme l alpha = refl
   settled_scheme l beta = refl
   settled_scheme l gamma = refl
@@ -149,10 +149,10 @@ module _ (env : Entries) where
   settled_scheme l integer = settled-Int
   settled_scheme l boolean = settled-Bool
   settled_scheme l truth = settled-Truth
-  settled_scheme l (power s) = settled-Pow (type_at l s) ∙ ap ty.Pow (settled_scheme l s)
-  settled_scheme l (pair s r) = settled-Pair (type_at l s) (type_at l r) ∙ (λ i. ty.Pair (settled_scheme l s i) (settled_scheme l r i))
+  settled_scheme l (power s) = settled-Pow (type_of_scheme l s) ∙ ap ty.Pow (settled_scheme l s)
+  settled_scheme l (pair s r) = settled-Pair (type_of_scheme l s) (type_of_scheme l r) ∙ (λ i. ty.Pair (settled_scheme l s i) (settled_scheme l r i))
 
-  settled_schemes : (l : Letters) (ss : List Scheme) → map settled (map (type_at l) ss) ≡ map (type_at (settled_letters l)) ss
+  settled_schemes : (l : Letters) (ss : List Scheme) → map settled (map (type_of_scheme l) ss) ≡ map (type_of_scheme (settled_letters l)) ss
   settled_schemes l [] = refl
   settled_schemes l (s ∷ ss) = λ i. settled_scheme l s i ∷ settled_schemes l ss i
 
@@ -160,7 +160,7 @@ module _ (env : Entries) where
   settled_is t h = settled_value t ∙ h
 
   -- an instance of a row stays one
-  pub settled_instance : (operands : List Scheme) (whole : Scheme) (ts : List Ty) (t : Ty) → IsInstance operands whole ts t → IsInstance operands whole (map settled ts) (settled t)
+  pub settled_instance : (operands : List Scheme) (whole : Scheme) (ts : List Ty) (t : Ty) → IsSchemeInstance operands whole ts t → IsSchemeInstance operands whole (map settled ts) (settled t)
   settled_instance operands whole ts t h = record {
     letters = settled_letters h.letters;
     values = record {

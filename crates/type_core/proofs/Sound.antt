@@ -5,18 +5,18 @@ use Rattle.formula_core.specs.declared.ty.Ty.TheVariants as ty
 use Rattle.formula_core.specs.declared.formula.Formula.TheVariants as formula
 use Rattle.formula_core.specs.Types.{is_value_type}
 use Rattle.formula_core.specs.Rows.{row_of}
-use Rattle.formula_core.specs.Schemes.{Scheme, truth, type_at, operand_schemes, result_scheme, part_schemes, binder_scheme, IsInstance}
+use Rattle.formula_core.specs.Schemes.{Scheme, truth, type_of_scheme, operand_schemes, result_scheme, part_schemes, binder_scheme, IsSchemeInstance}
 use Rattle.formula_core.specs.Wellness.{is_natural}
-use Rattle.unification.specs.Terms.{Open, integers, booleans, variable, value, instance}
+use Rattle.unification.specs.Terms.{Open, integers, booleans, variable, value, instance_from}
 use Rattle.unification.specs.Solutions.{IsAssignment, Solves}
 use Rattle.unification.proofs.Terms.{value_of_type, value_of_scheme, same_variants, letters_at}
 use Rattle.unification.proofs.Unify.{Solves-append}
-use Rattle.type_core.specs.Bare.{Bare, Bares, Bounds, Number, Identifier, Form, Partition, Binding, Ascribed, Broken, nothing, more, unbound, plain, typed, part_count, has_names}
+use Rattle.type_core.specs.Bare.{Bare, Bares, BareBounds, Number, Identifier, Form, Partition, Binding, Ascribed, Broken, nothing, more, unbound, plain, typed, part_count, has_names}
 use Rattle.type_core.specs.Scopes.{Scope, position_of, IsName}
 use Rattle.type_core.specs.TypeExpressions.{denoted}
 use Rattle.type_core.specs.Partition.{partition_schemes}
 use Rattle.type_core.specs.Typings.{AreBound, Types, AllTyped}
-use Rattle.type_core.specs.PrivateGenerated.{width, with_variables, name_equations, condition, type_equations, bound_equations, generated, all_generated, name_core, name_count}
+use Rattle.type_core.specs.PrivateGenerated.{variable_width, with_variables, name_equations, condition, type_equations, bound_equations, generated, all_generated, name_core, name_count}
 use Rattle.type_core.proofs.Built.{types_at, built, all_built}
 use Rattle.type_core.proofs.Places.{typed_at, typed_place, values, position-typed, with_names-typed, instances-at, denoted-typed}
 
@@ -41,7 +41,7 @@ name_sound v x (Some p) pf n e s = (ap (formula.Bound p.0) s.1.0, sym s.1.0 ∙ 
 name_sound v x None (Some p) n e s = (ap (formula.Free x) s.1.0, sym s.1.0 ∙ s.0)
 name_sound v x None None n e s = absurd (impossible_unsolved v s.0)
 
-bound_sound : (v : ℕ → Ty) → IsAssignment v → (env : List (List ℕ × Ty)) (outer : Scope Open) (names : Bounds) (n : ℕ) → Solves v (bound_equations env outer names n) → AreBound env (typed_at v outer) names (types_at v names n)
+bound_sound : (v : ℕ → Ty) → IsAssignment v → (env : List (List ℕ × Ty)) (outer : Scope Open) (names : BareBounds) (n : ℕ) → Solves v (bound_equations env outer names n) → AreBound env (typed_at v outer) names (types_at v names n)
 bound_sound v h env outer unbound n s = refl
 bound_sound v h env outer (plain x names) n s = (v n, types_at v names (suc n), h n, bound_sound v h env outer names (suc n) s, refl)
 bound_sound v h env outer (typed x written names) n s =
@@ -49,7 +49,7 @@ bound_sound v h env outer (typed x written names) n s =
     (v n, types_at v names (suc n), denoted-typed v env outer written ∙ type_denoted v (denoted env outer written) (variable n) both.0, bound_sound v h env outer names (suc n) both.1, refl)
 
 -- the schemes of a form, with the types of its variables
-instance_here : (v : ℕ → Ty) → IsAssignment v → (n : ℕ) (operands : List Scheme) (whole : Scheme) → IsInstance operands whole (values v (map (instance n) operands)) (type_at (letters_at v n) whole)
+instance_here : (v : ℕ → Ty) → IsAssignment v → (n : ℕ) (operands : List Scheme) (whole : Scheme) → IsSchemeInstance operands whole (values v (map (instance_from n) operands)) (type_of_scheme (letters_at v n) whole)
 instance_here v h n operands whole = record {
   letters = letters_at v n;
   values = record { alpha = h n; beta = h (n + 1); gamma = h (n + 2); delta = h (n + 3) };
@@ -57,7 +57,7 @@ instance_here v h n operands whole = record {
   whole_is = refl;
 }
 
-whole_type : (v : ℕ → Ty) (n : ℕ) (s : Scheme) (e : Open) → value v (instance n s) ≡ value v e → type_at (letters_at v n) s ≡ value v e
+whole_type : (v : ℕ → Ty) (n : ℕ) (s : Scheme) (e : Open) → value v (instance_from n s) ≡ value v e → type_of_scheme (letters_at v n) s ≡ value v e
 whole_type v n s e h = sym (value_of_scheme v n s) ∙ h
 
 mutual
@@ -74,17 +74,17 @@ mutual
       let whole = result_scheme (row_of op) in
       let is = whole_type v n whole e s.0 in (
         all_built v bound parts (n + 4),
-        values v (map (instance n) schemes),
-        all_sound v h env bound free parts (n + 4) (map (instance n) schemes) s.1,
-        subst (IsInstance schemes whole (values v (map (instance n) schemes))) is (instance_here v h n schemes whole),
+        values v (map (instance_from n) schemes),
+        all_sound v h env bound free parts (n + 4) (map (instance_from n) schemes) s.1,
+        subst (IsSchemeInstance schemes whole (values v (map (instance_from n) schemes))) is (instance_here v h n schemes whole),
         ap (formula.Node op (all_built v bound parts (n + 4))) is,
       )
   sound v h env bound free (Partition parts) n e s =
       let schemes = partition_schemes (part_count parts) in (
         all_built v bound parts (n + 4),
-        values v (map (instance n) schemes),
-        all_sound v h env bound free parts (n + 4) (map (instance n) schemes) s.1,
-        subst (IsInstance schemes truth (values v (map (instance n) schemes))) s.0 (instance_here v h n schemes truth),
+        values v (map (instance_from n) schemes),
+        all_sound v h env bound free parts (n + 4) (map (instance_from n) schemes) s.1,
+        subst (IsSchemeInstance schemes truth (values v (map (instance_from n) schemes))) s.0 (instance_here v h n schemes truth),
         refl,
       )
   sound v h env bound free (Binding binder names parts) n e s =
@@ -92,17 +92,17 @@ mutual
       let whole = binder_scheme binder in
       let is = whole_type v n whole e s.0 in
       let inner = with_variables names (n + 4) bound in
-      let parts_equations = all_generated env inner free parts (n + 4 + name_count names) (map (instance n) schemes) in
+      let parts_equations = all_generated env inner free parts (n + 4 + name_count names) (map (instance_from n) schemes) in
       let first = (Solves-append v (condition (has_names names)) (bound_equations env bound names (n + 4) ++ parts_equations)).0 s.1 in
       let second = (Solves-append v (bound_equations env bound names (n + 4)) parts_equations).0 first.1 in
-      let scoped = all_sound v h env inner free parts (n + 4 + name_count names) (map (instance n) schemes) second.1 in (
+      let scoped = all_sound v h env inner free parts (n + 4 + name_count names) (map (instance_from n) schemes) second.1 in (
         types_at v names (n + 4),
         bound_sound v h env bound names (n + 4) second.0,
         condition_holds v (has_names names) first.0,
         all_built v inner parts (n + 4 + name_count names),
-        values v (map (instance n) schemes),
-        subst (λ sc. AllTyped env sc (typed_at v free) parts (all_built v inner parts (n + 4 + name_count names)) (values v (map (instance n) schemes))) (sym (with_names-typed v names (n + 4) bound)) scoped,
-        subst (IsInstance schemes whole (values v (map (instance n) schemes))) is (instance_here v h n schemes whole),
+        values v (map (instance_from n) schemes),
+        subst (λ sc. AllTyped env sc (typed_at v free) parts (all_built v inner parts (n + 4 + name_count names)) (values v (map (instance_from n) schemes))) (sym (with_names-typed v names (n + 4) bound)) scoped,
+        subst (IsSchemeInstance schemes whole (values v (map (instance_from n) schemes))) is (instance_here v h n schemes whole),
         ap (formula.Bind binder (types_at v names (n + 4)) (all_built v inner parts (n + 4 + name_count names))) is,
       )
   sound v h env bound free (Ascribed e written) n x s =
@@ -115,13 +115,13 @@ mutual
   all_sound v h env bound free nothing n (e ∷ es) s = absurd (impossible_unsolved v s.0)
   all_sound v h env bound free (more b bs) n [] s = absurd (impossible_unsolved v s.0)
   all_sound v h env bound free (more b bs) n (e ∷ es) s =
-      let both = (Solves-append v (generated env bound free b n e) (all_generated env bound free bs (n + width b) es)).0 s in (
+      let both = (Solves-append v (generated env bound free b n e) (all_generated env bound free bs (n + variable_width b) es)).0 s in (
         built v bound b n,
-        all_built v bound bs (n + width b),
+        all_built v bound bs (n + variable_width b),
         value v e,
         values v es,
         sound v h env bound free b n e both.0,
-        all_sound v h env bound free bs (n + width b) es both.1,
+        all_sound v h env bound free bs (n + variable_width b) es both.1,
         refl,
         refl,
       )

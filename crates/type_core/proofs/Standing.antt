@@ -9,7 +9,7 @@ use Rattle.formula_core.specs.Formulas.{occurrences, free_of}
 use Rattle.formula_core.specs.Identifiers.{carriers, identifiers}
 use Rattle.formula_core.specs.Typed.{Stands, HasCarriers, IsTypedIn}
 use Rattle.formula_core.specs.Types.{is_value_type}
-use Rattle.type_core.specs.Answers.{paired, extended, IsTypedAs, IsTheFormula}
+use Rattle.type_core.specs.Answers.{paired, with_names_typed, IsTypedAs, IsTheFormula}
 use Rattle.type_core.specs.Bare.{Bare}
 use Rattle.type_core.specs.CoreForms.{core_form}
 use Rattle.type_core.specs.Laws.{HasValues, StandsAfter, TypedFormulasStand, TypedPredicatesStand}
@@ -23,7 +23,7 @@ some_same t u h = cc
 
 module _ (env : Entries) (wanted : List (List ℕ)) (b : Bare) (o : Option Ty) (f : Formula) (typing : IsTypedAs env wanted b o f) (same : retyped env f ≡ f) (has : HasCarriers env) where
   abbrev after : Entries
-  after = extended env wanted f
+  after = with_names_typed env wanted f
 
   abbrev scope : Entries
   scope = env ++ paired wanted typing.0
@@ -76,7 +76,7 @@ formulas_stand env wanted b o f h has k = stands_after env wanted b o f h.typed 
 
 pub predicates_stand : TypedPredicatesStand
 predicates_stand env wanted raw f next h has =
-    let the : IsTheFormula env wanted (core_form raw) (Some ty.Truth) f = record { typed = h.typing.0; only = λ other o. (h.only other (extended env wanted other) (o, refl)).0 } in
+    let the : IsTheFormula env wanted (core_form raw) (Some ty.Truth) f = record { typed = h.typing.0; only = λ other o. (h.only other (with_names_typed env wanted other) (o, refl)).0 } in
     let s = formulas_stand env wanted (core_form raw) (Some ty.Truth) f the has (over-Truth env) in
     let is = sym h.typing.1 in
     record {

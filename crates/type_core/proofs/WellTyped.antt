@@ -12,8 +12,8 @@ use Rattle.formula_core.specs.declared.formula.Formula.TheVariants as formula
 use Rattle.formula_core.specs.declared.formula.Formula.TheViews.{outs-Int, outs-Free, outs-Bound, outs-Node, outs-Bind}
 use Rattle.formula_core.specs.Types.{same_type, is_value_type}
 use Rattle.formula_core.specs.Rows.{row_of}
-use Rattle.formula_core.specs.TypeTable.{fits, binder_fits}
-use Rattle.formula_core.specs.Schemes.{alpha, power, Letters, AreValues, type_at, operand_schemes, result_scheme, IsInstance}
+use Rattle.formula_core.specs.TypeTable.{row_fits, binder_fits}
+use Rattle.formula_core.specs.Schemes.{alpha, power, Letters, AreValues, type_of_scheme, operand_schemes, result_scheme, IsSchemeInstance}
 use Rattle.formula_core.specs.Wellness.{type_of_step, type_of, may_be_bound, is_well_in, is_well}
 use Rattle.formula_core.specs.Env.{type_in}
 use Rattle.formula_core.specs.Formulas.{joined, occurrences}
@@ -22,9 +22,9 @@ use Rattle.formula_core.proofs.Schemes.{fits_exactly, binder_fits_exactly}
 use Rattle.formula_core.proofs.Weakening.{both_true}
 use Rattle.formula_core.proofs.Wellness.{well-Int, well-Free, well-Bound, well-Node, well-Bind}
 use Rattle.formula_core.proofs.WholeSets.{same_type_refl, value-Pow}
-use Rattle.type_core.specs.Bare.{Bare, Bares, Bounds, Number, Identifier, Form, Partition, Binding, Ascribed, Broken, nothing, more, unbound, plain, typed, part_count, has_names}
+use Rattle.type_core.specs.Bare.{Bare, Bares, BareBounds, Number, Identifier, Form, Partition, Binding, Ascribed, Broken, nothing, more, unbound, plain, typed, part_count, has_names}
 use Rattle.type_core.specs.Scopes.{Scope, one_further, position_of, with_names, IsName}
-use Rattle.type_core.specs.Partition.{partition_schemes, chain, union_of, equal, disjoint, all_disjoint, partition_of}
+use Rattle.type_core.specs.Partition.{partition_schemes, left_nested, union_of, set_equality, disjoint, all_disjoint, partition_of}
 use Rattle.type_core.specs.Typings.{AreBound, Types, AllTyped}
 use Rattle.type_core.specs.Answers.{paired, IsExpected, IsTypedAs}
 use Rattle.type_core.proofs.Denoted.{denoted_values}
@@ -70,9 +70,9 @@ all_names free scope (f ∷ fs) [] h = absurd h
 all_names free scope (f ∷ fs) (t ∷ ts) h = all_append (IsNamed free) (occurrences f) (joined (map occurrences fs)) h.0.names (all_names free scope fs ts h.1)
 
 -- an operator whose operands have the types of an instance of its row
-node_well : (free : Scope Ty) (scope : List Ty) (o : Op) (fs : List Formula) (ts : List Ty) (t : Ty) → AreWellOf free scope fs ts → IsInstance (operand_schemes (row_of o) (length ts)) (result_scheme (row_of o)) ts t → IsWellOf free scope (formula.Node o fs t) t
+node_well : (free : Scope Ty) (scope : List Ty) (o : Op) (fs : List Formula) (ts : List Ty) (t : Ty) → AreWellOf free scope fs ts → IsSchemeInstance (operand_schemes (row_of o) (length ts)) (result_scheme (row_of o)) ts t → IsWellOf free scope (formula.Node o fs t) t
 node_well free scope o fs ts t h i = record {
-  well = well-Node o fs t scope ∙ both_true _ _ (all_well free scope fs ts h) (ap (λ us. fits (row_of o) us t) (all_types free scope fs ts h) ∙ (fits_exactly (row_of o) ts t).1 i);
+  well = well-Node o fs t scope ∙ both_true _ _ (all_well free scope fs ts h) (ap (λ us. row_fits (row_of o) us t) (all_types free scope fs ts h) ∙ (fits_exactly (row_of o) ts t).1 i);
   is = ap type_of_step (outs-Node o fs t);
   names = subst (AllByRecursion (IsNamed free)) (sym (occurrences-Node o fs t)) (all_names free scope fs ts h);
 }
@@ -111,7 +111,7 @@ name_well x free scope None None f t e o v h = absurd h
 reversed_onto : (t : Ty) (ts us : List Ty) → reverse (t ∷ ts) ++ us ≡ reverse ts ++ (t ∷ us)
 reversed_onto t ts us = ap (λ l. l ++ us) (reverse_onto ts t []) ∙ append_assoc (reverse ts) (t ∷ []) us
 
-bound_types : (env : List (List ℕ × Ty)) (outer : Scope Ty) (names : Bounds) (ts : List Ty) (scope : Scope Ty) → AreBound env outer names ts → types_of (with_names names ts scope) ≡ reverse ts ++ types_of scope
+bound_types : (env : List (List ℕ × Ty)) (outer : Scope Ty) (names : BareBounds) (ts : List Ty) (scope : Scope Ty) → AreBound env outer names ts → types_of (with_names names ts scope) ≡ reverse ts ++ types_of scope
 bound_types env outer unbound ts scope h = ap (λ l. reverse l ++ types_of scope) (sym h)
 bound_types env outer (plain x names) ts scope h =
     let t = h.0 in
@@ -124,13 +124,13 @@ bound_types env outer (typed x written names) ts scope h =
     let inner = bound_types env outer names rest ((x, t) ∷ scope) h.3 in
     subst (λ l. types_of (with_names (typed x written names) l scope) ≡ reverse l ++ types_of scope) (sym h.4) (inner ∙ sym (reversed_onto t rest (types_of scope)))
 
-bound_values : (env : List (List ℕ × Ty)) (outer : Scope Ty) (names : Bounds) (ts : List Ty) → AreBound env outer names ts → list_all is_value_type ts ≡ true
+bound_values : (env : List (List ℕ × Ty)) (outer : Scope Ty) (names : BareBounds) (ts : List Ty) → AreBound env outer names ts → list_all is_value_type ts ≡ true
 bound_values env outer unbound ts h = ap (list_all is_value_type) h
 bound_values env outer (plain x names) ts h = ap (list_all is_value_type) h.4 ∙ both_true (is_value_type h.0) _ h.2 (bound_values env outer names h.1 h.3)
 bound_values env outer (typed x written names) ts h =
     ap (list_all is_value_type) h.4 ∙ both_true (is_value_type h.0) _ (denoted_values env outer written h.0 h.2) (bound_values env outer names h.1 h.3)
 
-bindable : (env : List (List ℕ × Ty)) (outer : Scope Ty) (names : Bounds) (ts : List Ty) → AreBound env outer names ts → has_names names ≡ true → may_be_bound ts ≡ true
+bindable : (env : List (List ℕ × Ty)) (outer : Scope Ty) (names : BareBounds) (ts : List Ty) → AreBound env outer names ts → has_names names ≡ true → may_be_bound ts ≡ true
 bindable env outer unbound ts h e = cc
 bindable env outer (plain x names) ts h e = ap may_be_bound h.4 ∙ ap (list_all is_value_type) (sym h.4) ∙ bound_values env outer (plain x names) ts h
 bindable env outer (typed x written names) ts h e = ap may_be_bound h.4 ∙ ap (list_all is_value_type) (sym h.4) ∙ bound_values env outer (typed x written names) ts h
@@ -163,13 +163,13 @@ module _ (free : Scope Ty) (scope : List Ty) (l : Letters) (values : AreValues l
   empty_well : IsSet (formula.Node op.EmptySet [] set)
   empty_well = node_well free scope op.EmptySet [] [] set tt (record { letters = l; values = values; operands_are = refl; whole_is = refl })
 
-  equal_well : (a b : Formula) → IsSet a → IsSet b → IsPredicate (equal a b)
+  equal_well : (a b : Formula) → IsSet a → IsSet b → IsPredicate (set_equality a b)
   equal_well a b h k =
       let all : AreValues of_sets = record { alpha = value-Pow l.alpha ∙ values.alpha; beta = values.beta; gamma = values.gamma; delta = values.delta } in
       node_well free scope op.Equal (a ∷ b ∷ []) (set ∷ set ∷ []) ty.Truth (h, (k, tt)) (record { letters = of_sets; values = all; operands_are = refl; whole_is = refl })
 
   chain_well : (o : Op) (t : Ty) → ((a b : Formula) → IsWellOf free scope a t → IsWellOf free scope b t → IsWellOf free scope (formula.Node o (a ∷ b ∷ []) t) t)
-      → (f : Formula) (fs : List Formula) → IsWellOf free scope f t → AllByRecursion (λ g. IsWellOf free scope g t) fs → IsWellOf free scope (chain o t f fs) t
+      → (f : Formula) (fs : List Formula) → IsWellOf free scope f t → AllByRecursion (λ g. IsWellOf free scope g t) fs → IsWellOf free scope (left_nested o t f fs) t
   chain_well o t both f [] h k = h
   chain_well o t both f (a ∷ fs) h k = chain_well o t both (formula.Node o (f ∷ a ∷ []) t) fs (both f a h k.0) k.1
 
@@ -187,15 +187,15 @@ module _ (free : Scope Ty) (scope : List Ty) (l : Letters) (values : AreValues l
 
   partition_into_well : (s : Formula) (parts : List Formula) → IsSet s → AllByRecursion IsSet parts → IsPredicate (partition_of (s ∷ parts))
   partition_into_well s parts h k =
-      let whole = chain_well op.And ty.Truth conjunction_well (equal s (union_of set parts)) (all_disjoint set parts) (equal_well s (union_of set parts) h (all_union_well parts k)) (all_disjoint_well parts k) in
-      subst (λ u. IsPredicate (chain op.And ty.Truth (equal s (union_of u parts)) (all_disjoint u parts))) (sym h.is) whole
+      let whole = chain_well op.And ty.Truth conjunction_well (set_equality s (union_of set parts)) (all_disjoint set parts) (equal_well s (union_of set parts) h (all_union_well parts k)) (all_disjoint_well parts k) in
+      subst (λ u. IsPredicate (left_nested op.And ty.Truth (set_equality s (union_of u parts)) (all_disjoint u parts))) (sym h.is) whole
 
-  are_sets : (n : ℕ) (fs : List Formula) → AreWellOf free scope fs (map (type_at l) (replicate n (power alpha))) → AllByRecursion IsSet fs
+  are_sets : (n : ℕ) (fs : List Formula) → AreWellOf free scope fs (map (type_of_scheme l) (replicate n (power alpha))) → AllByRecursion IsSet fs
   are_sets n [] h = tt
   are_sets zero (f ∷ fs) h = absurd h
   are_sets (suc n) (f ∷ fs) h = (h.0, are_sets n fs h.1)
 
-  partition_well : (k : ℕ) (fs : List Formula) → AreWellOf free scope fs (map (type_at l) (partition_schemes k)) → IsPredicate (partition_of fs)
+  partition_well : (k : ℕ) (fs : List Formula) → AreWellOf free scope fs (map (type_of_scheme l) (partition_schemes k)) → IsPredicate (partition_of fs)
   partition_well k [] h = absurd h
   partition_well k (s ∷ parts) h = partition_into_well s parts h.0 (are_sets (k - 1) parts h.1)
 
@@ -211,7 +211,7 @@ mutual
   typed_well env bound free (Form o parts) f t h =
       let fs = h.0 in
       let ts = h.1 in
-      let inst = subst (λ k. IsInstance (operand_schemes (row_of o) k) (result_scheme (row_of o)) ts t) (sym (as_many env bound free parts fs ts h.2)) h.3 in
+      let inst = subst (λ k. IsSchemeInstance (operand_schemes (row_of o) k) (result_scheme (row_of o)) ts t) (sym (as_many env bound free parts fs ts h.2)) h.3 in
       subst (λ g. IsWellOf free (types_of bound) g t) (sym h.4) (node_well free (types_of bound) o fs ts t (all_typed_well env bound free parts fs ts h.2) inst)
   typed_well env bound free (Partition parts) f t h =
       let fs = h.0 in

@@ -33,17 +33,17 @@ IsTypedAs env wanted b expected f =
     × (t : Ty) × IsExpected expected t × Types env [] (env ++ paired wanted ts) b f t
 
 -- an environment with one more name, if it occurs and was not there yet
-abbrev pub with_name : List (List ℕ × Ty) → List ℕ → Option Ty → List (List ℕ × Ty)
-with_name env x None = env
-with_name env x (Some t) = if is_some (type_in env x) then env else (env ++ (x, t) ∷ [])
+abbrev pub with_typed_name : List (List ℕ × Ty) → List ℕ → Option Ty → List (List ℕ × Ty)
+with_typed_name env x None = env
+with_typed_name env x (Some t) = if is_some (type_in env x) then env else (env ++ (x, t) ∷ [])
 
 -- the environment with those of the names that occur in the formula, in their order
-abbrev pub extended : List (List ℕ × Ty) → List (List ℕ) → Formula → List (List ℕ × Ty)
-extended env [] f = env
-extended env (x ∷ xs) f = extended (with_name env x (type_in (free_of f) x)) xs f
+abbrev pub with_names_typed : List (List ℕ × Ty) → List (List ℕ) → Formula → List (List ℕ × Ty)
+with_names_typed env [] f = env
+with_names_typed env (x ∷ xs) f = with_names_typed (with_typed_name env x (type_in (free_of f) x)) xs f
 
 abbrev pub IsTyping : List (List ℕ × Ty) → List (List ℕ) → Raw → Formula → List (List ℕ × Ty) → Type 0
-IsTyping env wanted raw f new_env = IsTypedAs env wanted (core_form raw) (Some ty.Truth) f × (new_env ≡ extended env wanted f)
+IsTyping env wanted raw f new_env = IsTypedAs env wanted (core_form raw) (Some ty.Truth) f × (new_env ≡ with_names_typed env wanted f)
 
 -- there is this typing and no other
 pub record IsTheTyping (env : List (List ℕ × Ty)) (wanted : List (List ℕ)) (raw : Raw) (f : Formula) (new_env : List (List ℕ × Ty)) : Type 0 where
@@ -56,8 +56,8 @@ HasNoTyping env wanted raw = (f : Formula) (new_env : List (List ℕ × Ty)) →
 pub record HasTwoTypings (env : List (List ℕ × Ty)) (wanted : List (List ℕ)) (raw : Raw) : Type 0 where
   pub one : Formula
   pub two : Formula
-  pub first : IsTyping env wanted raw one (extended env wanted one)
-  pub second : IsTyping env wanted raw two (extended env wanted two)
+  pub first : IsTyping env wanted raw one (with_names_typed env wanted one)
+  pub second : IsTyping env wanted raw two (with_names_typed env wanted two)
   pub apart : one ≢ two
 
 -- the bare formula may be typed so, and not otherwise

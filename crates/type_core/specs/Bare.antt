@@ -11,7 +11,7 @@ mutual
     Form : Op → Bares → Bare
     -- a set and its parts
     Partition : Bares → Bare
-    Binding : Binder → Bounds → Bares → Bare
+    Binding : Binder → BareBounds → Bares → Bare
     -- a formula and its type, which is a type expression
     Ascribed : Bare → Bare → Bare
     -- a form with a wrong number of parts
@@ -22,16 +22,16 @@ mutual
     more : Bare → Bares → Bares
 
   -- the names of a binder, some of them with their types
-  pub data Bounds : Type 0 where
-    unbound : Bounds
-    plain : List ℕ → Bounds → Bounds
-    typed : List ℕ → Bare → Bounds → Bounds
+  pub data BareBounds : Type 0 where
+    unbound : BareBounds
+    plain : List ℕ → BareBounds → BareBounds
+    typed : List ℕ → Bare → BareBounds → BareBounds
 
 abbrev pub part_count : Bares → ℕ
 part_count nothing = 0
 part_count (more b bs) = suc (part_count bs)
 
-abbrev pub has_names : Bounds → Bool
+abbrev pub has_names : BareBounds → Bool
 has_names unbound = false
 has_names (plain x names) = true
 has_names (typed x t names) = true

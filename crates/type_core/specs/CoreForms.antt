@@ -14,7 +14,7 @@ use Rattle.formula_core.specs.declared.raw.RawBinder.TheVariants as rawbinder
 use Rattle.formula_core.specs.declared.raw.Raw.{Raw}
 use Rattle.formula_core.specs.declared.raw.Raw.TheOpen.{Raw-F, RawBound-F, Int, Name, Node, Bind}
 use Rattle.formula_core.specs.declared.raw.Raw.TheFolds.{fold-Raw, para-Raw}
-use Rattle.type_core.specs.Bare.{Bare, Bares, Bounds, Number, Identifier, Form, Partition, Binding, Ascribed, Broken, nothing, more, unbound, plain, typed, has_names}
+use Rattle.type_core.specs.Bare.{Bare, Bares, BareBounds, Number, Identifier, Form, Partition, Binding, Ascribed, Broken, nothing, more, unbound, plain, typed, has_names}
 
 -- the names that are none of these
 abbrev pub without : List (List ℕ) → List (List ℕ) → List (List ℕ)
@@ -53,27 +53,27 @@ abbrev pub BareBound : Type 0
 BareBound = List ℕ × Option Bare
 
 -- a part beside its core form
-abbrev pub Part : Type 0
-Part = Raw × Bare
+abbrev pub PartWithForm : Type 0
+PartWithForm = Raw × Bare
 
-abbrev pub bares : List Part → Bares
+abbrev pub bares : List PartWithForm → Bares
 bares [] = nothing
 bares (p ∷ ps) = more p.1 (bares ps)
 
-abbrev pub bound_before : BareBound → Bounds → Bounds
+abbrev pub bound_before : BareBound → BareBounds → BareBounds
 bound_before (x, None) names = plain x names
 bound_before (x, Some t) names = typed x t names
 
-abbrev pub bounds : List BareBound → Bounds
+abbrev pub bounds : List BareBound → BareBounds
 bounds [] = unbound
 bounds (b ∷ bs) = bound_before b (bounds bs)
 
-abbrev pub plain_names : List (List ℕ) → Bounds
+abbrev pub plain_names : List (List ℕ) → BareBounds
 plain_names [] = unbound
 plain_names (x ∷ xs) = plain x (plain_names xs)
 
-abbrev pub one : Bare → Bares
-one a = more a nothing
+abbrev pub single_part : Bare → Bares
+single_part a = more a nothing
 
 abbrev pub two : Bare → Bare → Bares
 two a b = more a (more b nothing)
@@ -83,8 +83,8 @@ abbrev pub turned : Bares → Bares
 turned (more a (more b nothing)) = two b a
 turned parts = parts
 
-abbrev pub negated : Op → Bares → Bare
-negated o parts = Form op.Not (one (Form o parts))
+abbrev pub negated_operation : Op → Bares → Bare
+negated_operation o parts = Form op.Not (single_part (Form o parts))
 
 -- `E ⦂ T`
 abbrev pub ascribed : Bares → Bare
@@ -93,10 +93,10 @@ ascribed parts = Broken parts
 
 abbrev pub core_of_form : RawOp → Bares → Bare
 core_of_form (rawop.Plain o) parts = Form o parts
-core_of_form rawop.NotEqual parts = negated op.Equal parts
-core_of_form rawop.NotMember parts = negated op.Member parts
-core_of_form rawop.NotProperSubset parts = negated op.ProperSubset parts
-core_of_form rawop.NotSubset parts = negated op.Subset parts
+core_of_form rawop.NotEqual parts = negated_operation op.Equal parts
+core_of_form rawop.NotMember parts = negated_operation op.Member parts
+core_of_form rawop.NotProperSubset parts = negated_operation op.ProperSubset parts
+core_of_form rawop.NotSubset parts = negated_operation op.Subset parts
 core_of_form rawop.Greater parts = Form op.Less (turned parts)
 core_of_form rawop.GreaterOrEqual parts = Form op.LessOrEqual (turned parts)
 core_of_form rawop.BackwardComposition parts = Form op.Composition (turned parts)
@@ -104,30 +104,30 @@ core_of_form rawop.Partition parts = Partition parts
 core_of_form rawop.OfType parts = ascribed parts
 
 -- `λp·P∣E` is `{names·P∣p ↦ E}`
-abbrev pub core_of_lambda : Bounds → Bares → Bare
+abbrev pub core_of_lambda : BareBounds → Bares → Bare
 core_of_lambda names (more pattern (more p (more e nothing))) = Binding binder.Comprehension names (two p (Form op.Maplet (two pattern e)))
 core_of_lambda names parts = Broken parts
 
 -- the binder of the free names of E, which is written before P
-abbrev pub core_of_unnamed : Binder → List Part → Bare
+abbrev pub core_of_unnamed : Binder → List PartWithForm → Bare
 core_of_unnamed b (e ∷ p ∷ []) = Binding b (plain_names (once (free_names e.0))) (two p.1 e.1)
 core_of_unnamed b parts = Broken (bares parts)
 
-abbrev pub core_of_implicit : Binder → Bounds → List Part → Bare
+abbrev pub core_of_implicit : Binder → BareBounds → List PartWithForm → Bare
 core_of_implicit b names parts = if has_names names then Broken (bares parts) else core_of_unnamed b parts
 
-abbrev pub core_of_binder : RawBinder → Bounds → List Part → Bare
+abbrev pub core_of_binder : RawBinder → BareBounds → List PartWithForm → Bare
 core_of_binder (rawbinder.Plain b) names parts = Binding b names (bares parts)
 core_of_binder rawbinder.Lambda names parts = core_of_lambda names (bares parts)
 core_of_binder (rawbinder.Implicit b) names parts = core_of_implicit b names parts
 
-abbrev pub core_step : Raw-F Part (RawBound-F Raw (Unit {0}) × BareBound) → Bare
+abbrev pub core_step : Raw-F PartWithForm (RawBound-F Raw (Unit {0}) × BareBound) → Bare
 core_step (Int n place) = Number n
 core_step (Name x place) = Identifier x place
 core_step (Node op parts place) = core_of_form op (bares parts)
 core_step (Bind binder bound parts place) = core_of_binder binder (bounds (map (λ b. b.1) bound)) parts
 
-abbrev pub bound_step : RawBound-F Part (RawBound-F Raw (Unit {0}) × BareBound) → BareBound
+abbrev pub bound_step : RawBound-F PartWithForm (RawBound-F Raw (Unit {0}) × BareBound) → BareBound
 bound_step b = (b.name, option_map (λ p. p.1) b.ty)
 
 -- the core form of a written formula

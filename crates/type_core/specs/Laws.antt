@@ -7,7 +7,7 @@ use Rattle.formula_core.specs.declared.raw.Raw.{Raw}
 use Rattle.formula_core.specs.Identifiers.{carriers}
 use Rattle.formula_core.specs.Typed.{Stands, HasCarriers, IsTypedIn, IsPredicateIn}
 use Rattle.formula_core.specs.Types.{is_value_type}
-use Rattle.type_core.specs.Answers.{extended, IsTheFormula, IsTheTyping}
+use Rattle.type_core.specs.Answers.{with_names_typed, IsTheFormula, IsTheTyping}
 use Rattle.type_core.specs.Bare.{Bare}
 
 -- the carrier sets of the expected type stand in the environment
@@ -21,9 +21,9 @@ HasValues env = AllByRecursion (λ x. IsTrue (is_value_type x.1)) env
 
 -- The formula is typed in the environment with the names that it adds, which again has the carrier sets of its types, and types of values.
 pub record StandsAfter (env : List (List ℕ × Ty)) (wanted : List (List ℕ)) (f : Formula) : Type 0 where
-  pub typed : IsTypedIn (extended env wanted f) f
-  pub carriers : HasCarriers (extended env wanted f)
-  pub values : HasValues env → HasValues (extended env wanted f)
+  pub typed : IsTypedIn (with_names_typed env wanted f) f
+  pub carriers : HasCarriers (with_names_typed env wanted f)
+  pub values : HasValues env → HasValues (with_names_typed env wanted f)
 
 abbrev pub TypedFormulasStand : Type 0
 TypedFormulasStand =

@@ -14,20 +14,20 @@ abbrev pub partition_schemes : ℕ → List Scheme
 partition_schemes k = power alpha ∷ replicate (k - 1) (power alpha)
 
 -- `f op a1 op .. op an`, from the left
-abbrev pub chain : Op → Ty → Formula → List Formula → Formula
-chain o t f [] = f
-chain o t f (a ∷ bs) = chain o t (Node o (f ∷ a ∷ []) t) bs
+abbrev pub left_nested : Op → Ty → Formula → List Formula → Formula
+left_nested o t f [] = f
+left_nested o t f (a ∷ bs) = left_nested o t (Node o (f ∷ a ∷ []) t) bs
 
 -- the union of sets of type `t`
 abbrev pub union_of : Ty → List Formula → Formula
 union_of t [] = Node op.EmptySet [] t
-union_of t (a ∷ bs) = chain op.Union t a bs
+union_of t (a ∷ bs) = left_nested op.Union t a bs
 
-abbrev pub equal : Formula → Formula → Formula
-equal a b = Node op.Equal (a ∷ b ∷ []) ty.Truth
+abbrev pub set_equality : Formula → Formula → Formula
+set_equality a b = Node op.Equal (a ∷ b ∷ []) ty.Truth
 
 abbrev pub disjoint : Ty → Formula → Formula → Formula
-disjoint t a b = equal (Node op.Intersection (a ∷ b ∷ []) t) (Node op.EmptySet [] t)
+disjoint t a b = set_equality (Node op.Intersection (a ∷ b ∷ []) t) (Node op.EmptySet [] t)
 
 -- `Ai ∩ Aj = ∅` for i < j, in order
 abbrev pub all_disjoint : Ty → List Formula → List Formula
@@ -37,4 +37,5 @@ all_disjoint t (a ∷ bs) = map (disjoint t a) bs ++ all_disjoint t bs
 -- `S = A1 ∪ .. ∪ An`, and the parts have no member in common
 abbrev pub partition_of : List Formula → Formula
 partition_of [] = Node op.Top [] ty.Truth
-partition_of (s ∷ parts) = chain op.And ty.Truth (equal s (union_of (type_of s) parts)) (all_disjoint (type_of s) parts)
+partition_of (s ∷ parts) =
+    left_nested op.And ty.Truth (set_equality s (union_of (type_of s) parts)) (all_disjoint (type_of s) parts)

@@ -6,7 +6,7 @@ use Rattle.formula_core.specs.declared.raw.RawBound.{RawBound}
 use Rattle.formula_core.specs.declared.ty.Ty.{Ty}
 use Rattle.unification.specs.Terms.{Open, variable, open_of, term_of}
 use Rattle.unification.specs.declared.term.Term.{Term}
-use Rattle.type_core.specs.CoreForms.{BareBound, Part, core_form}
+use Rattle.type_core.specs.CoreForms.{BareBound, PartWithForm, core_form}
 use Rattle.type_core.specs.Bare.{Bare, Bares, nothing, more}
 use Rattle.type_core.specs.Scopes.{Scope}
 use Rattle.type_core.specs.declared.scope.Entry.{Entry}
@@ -14,7 +14,7 @@ use Rattle.type_core.specs.declared.tree.Tree.{Tree}
 use Rattle.type_core.specs.Views.{bare_of}
 
 -- a written formula beside its core form
-abbrev pub with_core : Raw → Part
+abbrev pub with_core : Raw → PartWithForm
 with_core r = (r, core_form r)
 
 -- a name that is bound, with the core form of its type
@@ -34,13 +34,13 @@ abbrev pub scope_of : List Entry → Scope Open
 scope_of es = stacked [] es
 
 -- names with variables in a row
-abbrev pub numbered : List (List ℕ) → ℕ → Scope Open
-numbered [] n = []
-numbered (x ∷ xs) n = (x, variable n) ∷ numbered xs (suc n)
+abbrev pub numbered_scope : List (List ℕ) → ℕ → Scope Open
+numbered_scope [] n = []
+numbered_scope (x ∷ xs) n = (x, variable n) ∷ numbered_scope xs (suc n)
 
 -- the names that are free: those of the environment, and then the wanted ones
 abbrev pub free_scope : List (List ℕ × Ty) → List (List ℕ) → Scope Open
-free_scope [] wanted = numbered wanted 0
+free_scope [] wanted = numbered_scope wanted 0
 free_scope (e ∷ es) wanted = (e.0, open_of e.1) ∷ free_scope es wanted
 
 -- the expected type, or a variable where none is expected
@@ -48,9 +48,9 @@ abbrev pub expected_term : Option Ty → ℕ → Open
 expected_term (Some t) n = open_of t
 expected_term None n = variable n
 
-abbrev pub place_of : Option (ℕ × ℕ) → Option (ℕ × Open)
-place_of None = None
-place_of (Some p) = Some (p.0, variable p.1)
+abbrev pub variable_at : Option (ℕ × ℕ) → Option (ℕ × Open)
+variable_at None = None
+variable_at (Some p) = Some (p.0, variable p.1)
 
 -- what a name has at its place
 abbrev pub found_of : Option (ℕ × Open) → Option Open
@@ -65,9 +65,9 @@ abbrev pub term_in : Option Term → Option Open
 term_in None = None
 term_in (Some t) = Some (term_of t)
 
-abbrev pub terms_of : List Term → List Open
-terms_of [] = []
-terms_of (t ∷ ts) = term_of t ∷ terms_of ts
+abbrev pub open_terms : List Term → List Open
+open_terms [] = []
+open_terms (t ∷ ts) = term_of t ∷ open_terms ts
 
 abbrev pub in_a_row : List Bare → Bares
 in_a_row [] = nothing

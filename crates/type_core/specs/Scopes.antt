@@ -3,7 +3,7 @@ use Rattle.std.specs.Prelude.{◌≡◌, ℕ, suc, Bool, true, false, if◌then�
 use Rattle.formula_core.specs.declared.ty.Ty.{Ty}
 use Rattle.formula_core.specs.declared.formula.Formula.{Formula}
 use Rattle.formula_core.specs.declared.formula.Formula.TheVariants as formula
-use Rattle.type_core.specs.Bare.{Bounds, unbound, plain, typed}
+use Rattle.type_core.specs.Bare.{BareBounds, unbound, plain, typed}
 
 abbrev pub Scope : Type 0 → Type 0
 Scope A = List (List ℕ × A)
@@ -18,7 +18,7 @@ position_of x [] = None
 position_of x (e ∷ es) = if bytes_eq e.0 x then Some (0, e.1) else one_further (position_of x es)
 
 -- the names of a binder, in order, before the names around it
-abbrev pub with_names : {A : Type 0} → Bounds → List A → Scope A → Scope A
+abbrev pub with_names : {A : Type 0} → BareBounds → List A → Scope A → Scope A
 with_names (plain x names) (t ∷ ts) scope = with_names names ts ((x, t) ∷ scope)
 with_names (typed x written names) (t ∷ ts) scope = with_names names ts ((x, t) ∷ scope)
 with_names unbound ts scope = scope

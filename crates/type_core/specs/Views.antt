@@ -1,5 +1,5 @@
 -- What the values of the code are as plain data.
-use Rattle.type_core.specs.Bare.{Bare, Bares, Bounds, Number, Identifier, Form, Partition, Binding, Ascribed, Broken, nothing, more, unbound, plain, typed}
+use Rattle.type_core.specs.Bare.{Bare, Bares, BareBounds, Number, Identifier, Form, Partition, Binding, Ascribed, Broken, nothing, more, unbound, plain, typed}
 use Rattle.type_core.specs.declared.tree.Tree.{Tree}
 use Rattle.type_core.specs.declared.tree.Tree.TheVariants as tree
 use Rattle.type_core.specs.declared.tree.Trees.{Trees}
@@ -22,7 +22,7 @@ abbrev mutual
   bares_of trees.End = nothing
   bares_of (trees.More' p b q bs) = more (bare_of b) (bares_of bs)
 
-  pub bounds_of : BoundNames → Bounds
+  pub bounds_of : BoundNames → BareBounds
   bounds_of names.End = unbound
   bounds_of (names.Plain' x p bs) = plain x (bounds_of bs)
   bounds_of (names.Typed' x p t q bs) = typed x (bare_of t) (bounds_of bs)

@@ -2,12 +2,12 @@
 ghost use Rattle.std.specs.Prelude.{◌≡◌, ◌+◌, ◌<◌, ◌^◌, ◌++◌, ◌∷◌, [], IfOk, OnOk, IsErrOf, Some, None};
 ghost use Rattle.formula_core.specs.Rows.{row_of};
 ghost use Rattle.formula_core.specs.Schemes.{result_scheme, binder_scheme};
-ghost use Rattle.unification.specs.Terms.{instance, term_of};
-ghost use Rattle.unification.specs.Known.{type_at, closed};
+ghost use Rattle.unification.specs.Terms.{instance_from, term_of};
+ghost use Rattle.unification.specs.Known.{type_at, closed_type};
 ghost use Rattle.type_core.specs.Bare.{Form, Partition, Binding};
 ghost use Rattle.type_core.specs.Scopes.{position_of};
-ghost use Rattle.type_core.specs.PrivateGenerated.{width, widths, with_variables, name_count};
-ghost use Rattle.type_core.specs.PrivateClosed.{behind, known_names, known_name, known, all_known, known_form, known_partition, known_binding};
+ghost use Rattle.type_core.specs.PrivateGenerated.{variable_width, widths, with_variables, name_count};
+ghost use Rattle.type_core.specs.PrivateClosed.{appended_to, known_names, known_name, known, all_known, known_form, known_partition, known_binding};
 ghost use Rattle.type_core.specs.Views.{bare_of, bares_of, bounds_of};
 ghost use Rattle.type_core.specs.PrivateViews.{scope_of};
 
@@ -59,7 +59,7 @@ pub(crate) fn build(
     tree: &Tree,
 ) -> Result<Formula, BuildFault>
     ensures scope { OnOk result (scope.new.items ≡ scope.old.items) }
-    ensures next { OnOk result (next.new ≡ next.old + width (bare_of tree.now)) }
+    ensures next { OnOk result (next.new ≡ next.old + variable_width (bare_of tree.now)) }
     ensures ok { IfOk result (λ f. known types.now (scope_of scope.old.items) (bare_of tree.now) next.old ≡ Some f) }
     ensures untyped { IsErrOf result BuildFault.Untyped → known types.now (scope_of scope.old.items) (bare_of tree.now) next.old ≡ None }
 {
@@ -121,8 +121,8 @@ fn copy_type(alloc: Global, types: &[Option<Ty>], i: u32) -> Result<Ty, BuildFau
 }
 
 fn close_type(alloc: Global, types: &[Option<Ty>], term: &Term) -> Result<Ty, BuildFault>
-    ensures ok { IfOk result (λ t. closed types.now (term_of term.now) ≡ Some t) }
-    ensures untyped { IsErrOf result BuildFault.Untyped → closed types.now (term_of term.now) ≡ None }
+    ensures ok { IfOk result (λ t. closed_type types.now (term_of term.now) ≡ Some t) }
+    ensures untyped { IsErrOf result BuildFault.Untyped → closed_type types.now (term_of term.now) ≡ None }
 {
     match close(alloc, types, term)? {
         Some(ty) => Ok(ty),
@@ -193,7 +193,7 @@ fn add_name_types(
     found: &mut Vec<Ty>,
 ) -> Result<(), BuildFault>
     requires { first + name_count (bounds_of names.now) < 2 ^ 32 }
-    ensures ok { OnOk result (behind found.old.items (known_names types.now first (bounds_of names.now)) ≡ Some found.new.items) }
+    ensures ok { OnOk result (appended_to found.old.items (known_names types.now first (bounds_of names.now)) ≡ Some found.new.items) }
     ensures untyped { IsErrOf result BuildFault.Untyped → known_names types.now first (bounds_of names.now) ≡ None }
 {
     match names {
@@ -238,7 +238,7 @@ fn build_onto(
 ) -> Result<(), BuildFault>
     ensures scope { OnOk result (scope.new.items ≡ scope.old.items) }
     ensures next { OnOk result (next.new ≡ next.old + widths (bares_of parts.now)) }
-    ensures ok { OnOk result (behind built.old.items (all_known types.now (scope_of scope.old.items) (bares_of parts.now) next.old) ≡ Some built.new.items) }
+    ensures ok { OnOk result (appended_to built.old.items (all_known types.now (scope_of scope.old.items) (bares_of parts.now) next.old) ≡ Some built.new.items) }
     ensures untyped { IsErrOf result BuildFault.Untyped → all_known types.now (scope_of scope.old.items) (bares_of parts.now) next.old ≡ None }
 {
     match parts {

@@ -2,15 +2,15 @@
 ghost use Rattle.std.specs.Prelude.{◌≡◌, ◌+◌, ◌<◌, ◌^◌, ◌++◌, ◌∷◌, [], map, suc, IfOk, OnOk, length, take};
 ghost use Rattle.formula_core.specs.Rows.{row_of};
 ghost use Rattle.formula_core.specs.Schemes.{operand_schemes, result_scheme, part_schemes, binder_scheme};
-ghost use Rattle.unification.specs.Terms.{term_of, variable, integers, predicates, open_of, instance};
+ghost use Rattle.unification.specs.Terms.{term_of, variable, integers, predicates, open_of, instance_from};
 ghost use Rattle.unification.specs.Solutions.{equations_of};
 ghost use Rattle.type_core.specs.Bare.{part_count, has_names};
 ghost use Rattle.type_core.specs.Scopes.{position_of};
 ghost use Rattle.type_core.specs.TypeExpressions.{denoted};
 ghost use Rattle.type_core.specs.Partition.{partition_schemes};
-ghost use Rattle.type_core.specs.PrivateGenerated.{width, widths, impossible, condition, type_equations, bound_equations, generated, all_generated, binder_equations, with_variables, name_equations, name_count};
+ghost use Rattle.type_core.specs.PrivateGenerated.{variable_width, widths, impossible, condition, type_equations, bound_equations, generated, all_generated, binder_equations, with_variables, name_equations, name_count};
 ghost use Rattle.type_core.specs.Views.{bare_of, bares_of, bounds_of};
-ghost use Rattle.type_core.specs.PrivateViews.{scope_of, entry, free_scope, terms_of};
+ghost use Rattle.type_core.specs.PrivateViews.{scope_of, entry, free_scope, open_terms};
 
 use crate::denote::denote;
 use crate::scope::{Entry, name_term};
@@ -198,7 +198,7 @@ pub(crate) fn collect(
 ) -> Result<(), OutOfMemory>
     requires { length wanted.now < 2 ^ 32 }
     ensures scope { OnOk result (scope.new.items ≡ scope.old.items) }
-    ensures next { OnOk result (next.new ≡ next.old + width (bare_of tree.now)) }
+    ensures next { OnOk result (next.new ≡ next.old + variable_width (bare_of tree.now)) }
     ensures equations { OnOk result (equations_of equations.new.items ≡ equations_of equations.old.items ++ generated env.now (scope_of scope.old.items) (free_scope env.now wanted.now) (bare_of tree.now) next.old (term_of expected)) }
 {
     match tree {
@@ -249,7 +249,7 @@ fn collect_form(
     requires { length wanted.now < 2 ^ 32 }
     ensures scope { OnOk result (scope.new.items ≡ scope.old.items) }
     ensures next { OnOk result (next.new ≡ next.old + (4 + widths (bares_of parts.now))) }
-    ensures equations { OnOk result (equations_of equations.new.items ≡ equations_of equations.old.items ++ (instance next.old (result_scheme (row_of op)), term_of expected) ∷ all_generated env.now (scope_of scope.old.items) (free_scope env.now wanted.now) (bares_of parts.now) (next.old + 4) (map (instance next.old) (operand_schemes (row_of op) (part_count (bares_of parts.now))))) }
+    ensures equations { OnOk result (equations_of equations.new.items ≡ equations_of equations.old.items ++ (instance_from next.old (result_scheme (row_of op)), term_of expected) ∷ all_generated env.now (scope_of scope.old.items) (free_scope env.now wanted.now) (bares_of parts.now) (next.old + 4) (map (instance_from next.old) (operand_schemes (row_of op) (part_count (bares_of parts.now))))) }
 {
     let first = take_variables(next, 4)?;
     add(equations, result_term(alloc, op, first)?, expected)?;
@@ -271,7 +271,7 @@ fn collect_partition(
     requires { length wanted.now < 2 ^ 32 }
     ensures scope { OnOk result (scope.new.items ≡ scope.old.items) }
     ensures next { OnOk result (next.new ≡ next.old + (4 + widths (bares_of parts.now))) }
-    ensures equations { OnOk result (equations_of equations.new.items ≡ equations_of equations.old.items ++ (predicates, term_of expected) ∷ all_generated env.now (scope_of scope.old.items) (free_scope env.now wanted.now) (bares_of parts.now) (next.old + 4) (map (instance next.old) (partition_schemes (part_count (bares_of parts.now))))) }
+    ensures equations { OnOk result (equations_of equations.new.items ≡ equations_of equations.old.items ++ (predicates, term_of expected) ∷ all_generated env.now (scope_of scope.old.items) (free_scope env.now wanted.now) (bares_of parts.now) (next.old + 4) (map (instance_from next.old) (partition_schemes (part_count (bares_of parts.now))))) }
 {
     let first = take_variables(next, 4)?;
     add(equations, Term::Truth, expected)?;
@@ -293,7 +293,7 @@ fn open_binding(
     ensures scope { OnOk result (scope_of scope.new.items ≡ with_variables (bounds_of names.now) (next.old + 4) (scope_of scope.old.items)) }
     ensures kept { OnOk result (take (length scope.old.items) scope.new.items ≡ scope.old.items) }
     ensures next { OnOk result (next.new ≡ next.old + 4 + name_count (bounds_of names.now)) }
-    ensures operands { IfOk result (λ v. terms_of v.items ≡ map (instance next.old) (part_schemes binder)) }
+    ensures operands { IfOk result (λ v. open_terms v.items ≡ map (instance_from next.old) (part_schemes binder)) }
     ensures equations { OnOk result (equations_of equations.new.items ≡ equations_of equations.old.items ++ binder_equations env.now (scope_of scope.old.items) binder (bounds_of names.now) next.old (term_of expected)) }
 {
     let first = take_variables(next, 4)?;
@@ -335,7 +335,7 @@ fn collect_all(
     requires { length wanted.now < 2 ^ 32 }
     ensures scope { OnOk result (scope.new.items ≡ scope.old.items) }
     ensures next { OnOk result (next.new ≡ next.old + widths (bares_of parts.now)) }
-    ensures equations { OnOk result (equations_of equations.new.items ≡ equations_of equations.old.items ++ all_generated env.now (scope_of scope.old.items) (free_scope env.now wanted.now) (bares_of parts.now) next.old (terms_of expected.now)) }
+    ensures equations { OnOk result (equations_of equations.new.items ≡ equations_of equations.old.items ++ all_generated env.now (scope_of scope.old.items) (free_scope env.now wanted.now) (bares_of parts.now) next.old (open_terms expected.now)) }
 {
     match parts {
         Trees::End => add_condition(equations, expected.is_empty()),

@@ -1,7 +1,7 @@
 //! The core form of `partition(S, A1, .., An)`.
 ghost use Rattle.std.specs.Prelude.{◌≡◌, ◌++◌, ◌∷◌, [], map, IfOk, OnOk};
 ghost use Rattle.formula_core.specs.Wellness.{type_of};
-ghost use Rattle.type_core.specs.Partition.{chain, union_of, equal, disjoint, all_disjoint, partition_of};
+ghost use Rattle.type_core.specs.Partition.{left_nested, union_of, set_equality, disjoint, all_disjoint, partition_of};
 
 use formula_core::{Formula, List, Op, OutOfMemory, Ty, copy_formulas};
 use std::alloc::Global;
@@ -62,7 +62,7 @@ fn make_two(
 }
 
 fn make_equal(alloc: Global, left: Formula, right: Formula) -> Result<Formula, OutOfMemory>
-    ensures { IfOk result (λ f. f ≡ equal left right) }
+    ensures { IfOk result (λ f. f ≡ set_equality left right) }
 {
     make_two(alloc, Op::Equal, left, right, &Ty::Truth)
 }
@@ -75,7 +75,7 @@ fn make_chain(
     first: Formula,
     rest: Vec<Formula>,
 ) -> Result<Formula, OutOfMemory>
-    ensures { IfOk result (λ f. f ≡ chain op ty.now first rest.items) }
+    ensures { IfOk result (λ f. f ≡ left_nested op ty.now first rest.items) }
 {
     let mut joined = first;
     for part in rest {

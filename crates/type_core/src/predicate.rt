@@ -4,10 +4,10 @@ ghost use Rattle.formula_core.specs.Env.{type_in};
 ghost use Rattle.formula_core.specs.Formulas.{free_of};
 ghost use Rattle.formula_core.specs.Typed.{HasCarriers, IsTypedIn};
 ghost use Rattle.formula_core.specs.Wellness.{is_well, type_of};
-ghost use Rattle.type_core.specs.Answers.{with_name, extended, IsExpected, IsTheTyping, HasNoTyping, HasTwoTypings, IsTheFormula, HasNoFormula, HasTwoFormulas};
+ghost use Rattle.type_core.specs.Answers.{with_typed_name, with_names_typed, IsExpected, IsTheTyping, HasNoTyping, HasTwoTypings, IsTheFormula, HasNoFormula, HasTwoFormulas};
 ghost use Rattle.type_core.specs.CoreForms.{core_form};
 ghost use Rattle.type_core.specs.Laws.{IsExpectedOver, IsStanding, StandsAfter};
-ghost use Rattle.type_core.specs.Unknowns.{unknowns, first_by_place, unknown_in};
+ghost use Rattle.type_core.specs.Unknowns.{unknowns, first_name_by_place, unknown_in};
 ghost use Rattle.type_core.specs.Views.{bare_of};
 ghost use Rattle.type_core.specs.PrivateViews.{free_scope, expected_term};
 ghost use Rattle.type_core.specs.PrivateGenerated.{generated};
@@ -142,7 +142,7 @@ fn find_unknown(
     wanted: &[Name],
     tree: &Tree,
 ) -> Result<Option<(Name, u32)>, OutOfMemory>
-    ensures { IfOk result (λ found. found ≡ first_by_place (unknowns env.now wanted.now [] (bare_of tree.now))) }
+    ensures { IfOk result (λ found. found ≡ first_name_by_place (unknowns env.now wanted.now [] (bare_of tree.now))) }
 {
     let mut bound = Vec::new(alloc);
     let mut found = None;
@@ -234,7 +234,7 @@ fn extend(
     wanted: &[Name],
     formula: &Formula,
 ) -> Result<(), OutOfMemory>
-    ensures extended { OnOk result (env.new ≡ extended env.old wanted.now formula.now) }
+    ensures extended { OnOk result (env.new ≡ with_names_typed env.old wanted.now formula.now) }
     ensures unchanged { OnErr result (env.new ≡ env.old) }
 {
     let len = env.entries().len();
@@ -254,7 +254,7 @@ fn add_names(
     wanted: &[Name],
     formula: &Formula,
 ) -> Result<(), OutOfMemory>
-    ensures added { OnOk result (env.new ≡ extended env.old wanted.now formula.now) }
+    ensures added { OnOk result (env.new ≡ with_names_typed env.old wanted.now formula.now) }
     ensures kept { take (length env.old) env.new ≡ env.old }
 {
     let free = formula.free(alloc)?;
@@ -270,7 +270,7 @@ fn add_name(
     name: &Name,
     free: &[(Name, Ty)],
 ) -> Result<(), OutOfMemory>
-    ensures added { OnOk result (env.new ≡ with_name env.old name.now (type_in free.now name.now)) }
+    ensures added { OnOk result (env.new ≡ with_typed_name env.old name.now (type_in free.now name.now)) }
     ensures unchanged { OnErr result (env.new ≡ env.old) }
 {
     match type_among(free, name) {
@@ -280,7 +280,7 @@ fn add_name(
 }
 
 fn add_typed(alloc: Global, env: &mut Env, name: &Name, ty: &Ty) -> Result<(), OutOfMemory>
-    ensures added { OnOk result (env.new ≡ with_name env.old name.now (Some ty.now)) }
+    ensures added { OnOk result (env.new ≡ with_typed_name env.old name.now (Some ty.now)) }
     ensures unchanged { OnErr result (env.new ≡ env.old) }
 {
     let name = name.copy(alloc)?;

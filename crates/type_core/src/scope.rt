@@ -2,7 +2,7 @@
 ghost use Rattle.std.specs.Prelude.{◌≡◌, ◌+◌, ◌<◌, ◌^◌, length, IfOk, IfSome, IfNone};
 ghost use Rattle.type_core.specs.Scopes.{position_of, has_name};
 ghost use Rattle.type_core.specs.PrivateGenerated.{nearest};
-ghost use Rattle.type_core.specs.PrivateViews.{scope_of, free_scope, numbered, place_of, found_of, variable_of, term_in};
+ghost use Rattle.type_core.specs.PrivateViews.{scope_of, free_scope, numbered_scope, variable_at, found_of, variable_of, term_in};
 
 use formula_core::{Env, Name, OutOfMemory};
 use std::alloc::Global;
@@ -17,7 +17,7 @@ pub(crate) struct Entry {
 
 /// How many bound names are nearer, and the name's variable. The nearest stands last.
 pub(crate) fn find_bound(scope: &[Entry], name: &Name) -> Option<(usize, u32)>
-    ensures place { place_of result ≡ position_of name.now (scope_of scope.now) }
+    ensures place { variable_at result ≡ position_of name.now (scope_of scope.now) }
     ensures within { IfSome result (λ p. p.0 < length scope.now) }
 {
     match scope.split_last() {
@@ -45,7 +45,7 @@ pub(crate) fn is_bound(scope: &[Entry], name: &Name) -> bool
 /// The variable of a wanted name, which is its place among them.
 fn find_wanted(wanted: &[Name], name: &Name) -> Option<u32>
     requires { length wanted.now < 2 ^ 32 }
-    ensures { variable_of result ≡ found_of (position_of name.now (numbered wanted.now 0)) }
+    ensures { variable_of result ≡ found_of (position_of name.now (numbered_scope wanted.now 0)) }
 {
     for i in 0..wanted.len() {
         if wanted[i].same(name) {

@@ -3,9 +3,9 @@ ghost use Rattle.std.specs.Prelude.{◌≡◌, ◌+◌, ◌<◌, ◌^◌, ◌∷
 ghost use Rattle.formula_core.specs.Rows.{row_of};
 ghost use Rattle.formula_core.specs.Schemes.{operand_schemes, result_scheme, part_schemes, binder_scheme};
 ghost use Rattle.formula_core.specs.SchemeView.{scheme_of};
-ghost use Rattle.unification.specs.Terms.{term_of, instance, predicates};
+ghost use Rattle.unification.specs.Terms.{term_of, instance_from, predicates};
 ghost use Rattle.type_core.specs.Partition.{partition_schemes};
-ghost use Rattle.type_core.specs.PrivateViews.{terms_of};
+ghost use Rattle.type_core.specs.PrivateViews.{open_terms};
 
 use formula_core::{BinaryRow, Binder, Op, OutOfMemory, Row, Scheme};
 use std::alloc::Global;
@@ -14,7 +14,7 @@ use unification::Term;
 /// The type of an operator, its letters being the variables from `first` on.
 pub(crate) fn result_term(alloc: Global, op: Op, first: u32) -> Result<Term, OutOfMemory>
     requires { first + 3 < 2 ^ 32 }
-    ensures { IfOk result (λ t. term_of t ≡ instance first (result_scheme (row_of op))) }
+    ensures { IfOk result (λ t. term_of t ≡ instance_from first (result_scheme (row_of op))) }
 {
     match op.row() {
         Row::Nullary(row) => Term::of_scheme(alloc, &row.scheme(), first),
@@ -32,7 +32,7 @@ pub(crate) fn operand_terms(
     first: u32,
 ) -> Result<Vec<Term>, OutOfMemory>
     requires { first + 3 < 2 ^ 32 }
-    ensures { IfOk result (λ v. terms_of v.items ≡ map (instance first) (operand_schemes (row_of op) count)) }
+    ensures { IfOk result (λ v. open_terms v.items ≡ map (instance_from first) (operand_schemes (row_of op) count)) }
 {
     match op.row() {
         Row::Nullary(_) => Ok(Vec::new(alloc)),
@@ -57,7 +57,7 @@ pub(crate) fn partition_terms(
     first: u32,
 ) -> Result<Vec<Term>, OutOfMemory>
     requires { first + 3 < 2 ^ 32 }
-    ensures { IfOk result (λ v. terms_of v.items ≡ map (instance first) (partition_schemes count)) }
+    ensures { IfOk result (λ v. open_terms v.items ≡ map (instance_from first) (partition_schemes count)) }
 {
     let (set, _, _) = BinaryRow::SetOperation.scheme();
     let set = Term::of_scheme(alloc, &set, first)?;
@@ -67,7 +67,7 @@ pub(crate) fn partition_terms(
 /// The type of a binder.
 pub(crate) fn binder_term(alloc: Global, binder: Binder, first: u32) -> Result<Term, OutOfMemory>
     requires { first + 3 < 2 ^ 32 }
-    ensures { IfOk result (λ t. term_of t ≡ instance first (binder_scheme binder)) }
+    ensures { IfOk result (λ t. term_of t ≡ instance_from first (binder_scheme binder)) }
 {
     Term::of_scheme(alloc, &binder.scheme().1, first)
 }
@@ -79,7 +79,7 @@ pub(crate) fn binder_terms(
     first: u32,
 ) -> Result<Vec<Term>, OutOfMemory>
     requires { first + 3 < 2 ^ 32 }
-    ensures { IfOk result (λ v. terms_of v.items ≡ map (instance first) (part_schemes binder)) }
+    ensures { IfOk result (λ v. open_terms v.items ≡ map (instance_from first) (part_schemes binder)) }
 {
     match binder.scheme().0 {
         Some(scheme) => {
@@ -91,7 +91,7 @@ pub(crate) fn binder_terms(
 }
 
 fn one(alloc: Global, a: Term) -> Result<Vec<Term>, OutOfMemory>
-    ensures { IfOk result (λ v. terms_of v.items ≡ term_of a ∷ []) }
+    ensures { IfOk result (λ v. open_terms v.items ≡ term_of a ∷ []) }
 {
     let mut terms = Vec::new(alloc);
     terms.push(a)?;
@@ -99,7 +99,7 @@ fn one(alloc: Global, a: Term) -> Result<Vec<Term>, OutOfMemory>
 }
 
 fn two(alloc: Global, a: Term, b: Term) -> Result<Vec<Term>, OutOfMemory>
-    ensures { IfOk result (λ v. terms_of v.items ≡ term_of a ∷ term_of b ∷ []) }
+    ensures { IfOk result (λ v. open_terms v.items ≡ term_of a ∷ term_of b ∷ []) }
 {
     let mut terms = Vec::new(alloc);
     terms.push(a)?;
@@ -109,7 +109,7 @@ fn two(alloc: Global, a: Term, b: Term) -> Result<Vec<Term>, OutOfMemory>
 
 /// A term and so many others that are the same.
 fn copies(alloc: Global, term: &Term, others: usize) -> Result<Vec<Term>, OutOfMemory>
-    ensures { IfOk result (λ v. terms_of v.items ≡ term_of term.now ∷ replicate others (term_of term.now)) }
+    ensures { IfOk result (λ v. open_terms v.items ≡ term_of term.now ∷ replicate others (term_of term.now)) }
 {
     let mut terms = one(alloc, term.copy(alloc)?)?;
     for _k in 0..others {

@@ -1,7 +1,7 @@
 //! Written formulas in core form.
 ghost use Rattle.std.specs.Prelude.{◌≡◌, IfOk};
 ghost use Rattle.type_core.specs.Bare.{Form, Partition, Binding, Broken, more, plain, typed, has_names};
-ghost use Rattle.type_core.specs.CoreForms.{negated, two};
+ghost use Rattle.type_core.specs.CoreForms.{negated_operation, two};
 ghost use Rattle.type_core.specs.Views.{bare_of, bares_of, bounds_of};
 
 use formula_core::{Binder, Name, Op, OutOfMemory};
@@ -57,7 +57,7 @@ pub(crate) fn broken(alloc: Global, parts: Trees) -> Result<Tree, OutOfMemory>
 }
 
 pub(crate) fn negation(alloc: Global, op: Op, parts: Trees) -> Result<Tree, OutOfMemory>
-    ensures { IfOk result (λ t. bare_of t ≡ negated op (bares_of parts)) }
+    ensures { IfOk result (λ t. bare_of t ≡ negated_operation op (bares_of parts)) }
 {
     let inner = form(alloc, op, parts)?;
     form(alloc, Op::Not, before(alloc, inner, Trees::End)?)

@@ -1,6 +1,6 @@
 //! The first name that is unknown.
 ghost use Rattle.std.specs.Prelude.{◌≡◌, ◌++◌, [], fold, OnOk, ℕ};
-ghost use Rattle.type_core.specs.Unknowns.{is_known, unknowns, all_unknowns, type_unknowns, names_in, earlier, unknown_in};
+ghost use Rattle.type_core.specs.Unknowns.{is_known, unknowns, all_unknowns, type_unknowns, bound_names_in, earlier_name, unknown_in};
 ghost use Rattle.type_core.specs.CoreForms.{core_form};
 ghost use Rattle.type_core.specs.Views.{bare_of, bares_of, bounds_of};
 
@@ -22,7 +22,7 @@ pub fn keep_earlier(
     name: &Name,
     place: u32,
 ) -> Result<(), OutOfMemory>
-    ensures { OnOk result (found.new ≡ earlier found.old (name.now, place)) }
+    ensures { OnOk result (found.new ≡ earlier_name found.old (name.now, place)) }
 {
     let comes_first = match found {
         Some((_, first)) => place < *first,
@@ -41,7 +41,7 @@ pub fn keep_unknown(
     tree: &Tree,
     found: &mut Option<(Name, u32)>,
 ) -> Result<(), OutOfMemory>
-    ensures { OnOk result (found.new ≡ fold earlier found.old (unknowns env.now [] [] (bare_of tree.now))) }
+    ensures { OnOk result (found.new ≡ fold earlier_name found.old (unknowns env.now [] [] (bare_of tree.now))) }
 {
     let mut bound = Vec::new(alloc);
     search(alloc, env, &[], &mut bound, tree, found)
@@ -58,7 +58,7 @@ pub(crate) fn search(
     found: &mut Option<(Name, u32)>,
 ) -> Result<(), OutOfMemory>
     ensures bound { OnOk result (bound.new.items ≡ bound.old.items) }
-    ensures found { OnOk result (found.new ≡ fold earlier found.old (unknowns env.now wanted.now bound.old.items (bare_of tree.now))) }
+    ensures found { OnOk result (found.new ≡ fold earlier_name found.old (unknowns env.now wanted.now bound.old.items (bare_of tree.now))) }
 {
     match tree {
         Tree::Number(_) => Ok(()),
@@ -96,7 +96,7 @@ fn search_all(
     found: &mut Option<(Name, u32)>,
 ) -> Result<(), OutOfMemory>
     ensures bound { OnOk result (bound.new.items ≡ bound.old.items) }
-    ensures found { OnOk result (found.new ≡ fold earlier found.old (all_unknowns env.now wanted.now bound.old.items (bares_of parts.now))) }
+    ensures found { OnOk result (found.new ≡ fold earlier_name found.old (all_unknowns env.now wanted.now bound.old.items (bares_of parts.now))) }
 {
     match parts {
         Trees::End => Ok(()),
@@ -118,7 +118,7 @@ fn search_types(
     found: &mut Option<(Name, u32)>,
 ) -> Result<(), OutOfMemory>
     ensures bound { OnOk result (bound.new.items ≡ bound.old.items) }
-    ensures found { OnOk result (found.new ≡ fold earlier found.old (type_unknowns env.now wanted.now bound.old.items (bounds_of names.now))) }
+    ensures found { OnOk result (found.new ≡ fold earlier_name found.old (type_unknowns env.now wanted.now bound.old.items (bounds_of names.now))) }
 {
     match names {
         BoundNames::End => Ok(()),
@@ -131,7 +131,7 @@ fn search_types(
 }
 
 fn add_names(alloc: Global, bound: &mut Vec<Name>, names: &BoundNames) -> Result<(), OutOfMemory>
-    ensures { OnOk result (bound.new.items ≡ bound.old.items ++ names_in (bounds_of names.now)) }
+    ensures { OnOk result (bound.new.items ≡ bound.old.items ++ bound_names_in (bounds_of names.now)) }
 {
     match names {
         BoundNames::End => Ok(()),

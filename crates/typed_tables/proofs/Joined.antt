@@ -26,7 +26,7 @@ use Rattle.check_rules.specs.Assignments.{assigned, all_assigned as all_assigned
 use Rattle.check_rules.specs.Refinements.{chosen, all_chosen}
 use Rattle.check_rules.specs.Typed.{Entries, LabelledAction}
 use Rattle.check_rules.specs.Visible.{names}
-use Rattle.checked_laws.specs.Sound.{HasTargets, AreActionsIn, IsSoundEvent, AssignsVariables, IsSoundMachine, IsSound}
+use Rattle.checked_laws.specs.Sound.{HasTargets, AreActionsIn, IsSoundEvent, AssignsVariables, IsSoundMachine, IsSoundComponent}
 use Rattle.checked_laws.specs.Refining.{IsEventIn, IsSoundRefinement, chosen_by_first, params_left_out, witness_names, IsSoundBeside}
 use Rattle.checked_laws.proofs.Actions.{with_all_new}
 use Rattle.checked_laws.proofs.Growing.{within_with}
@@ -34,7 +34,7 @@ use Rattle.checked_laws.proofs.Names.{some_or, or_cases, or_left, or_right, same
 use Rattle.checked_laws.proofs.Parts.{any_append}
 use Rattle.po_rules.specs.Parts.{actions_of, actions_of_first, open_targets, with_prime, as_term, new_values, refined_by}
 use Rattle.po_rules.specs.Sequents.{IsNewValueIn}
-use Rattle.sequent_laws.specs.Sound.{IsActionIn, lost_chosen, wants_witness, all_assigned, AreAmong, params_env, IsTypedEvent, IsTypedComponent}
+use Rattle.sequent_laws.specs.Sound.{IsTypedActionIn, lost_chosen, wants_witness, targets_of_all, AreAmong, params_env, IsWellTypedEvent, IsWellTypedComponent}
 
 -- Actions.
 
@@ -45,14 +45,14 @@ with_all_within env xs x e = elim (some_or (type_in env x.0)) [
   | inr h ↦ later env xs x.0 h ∙ sym (with_all_new env xs x.0 h) ∙ e
 ]
 
-action_typed : (env : Entries) (a : Action) → IsActionOver env a × HasTargets a → IsActionIn env a
+action_typed : (env : Entries) (a : Action) → IsActionOver env a × HasTargets a → IsTypedActionIn env a
 action_typed env (Assign pairs) h =
     all_each (λ p. Stands env (p.0, type_of p.1) × IsTypedIn env p.1) (IsNewValueIn env) pairs (λ p k. (k.1, k.0)) h.0
 action_typed env (ChooseIn x s) h = (h.0.3, (h.0.0, h.0.2, h.0.1))
 action_typed env (ChooseSuch targets q) h =
     (h.1, h.0.0, predicate_more (with_all env (map with_prime targets)) (env ++ map with_prime targets) (with_all_within env (map with_prime targets)) q h.0.1)
 
-actions_typed : (env : Entries) (actions : List LabelledAction) → AreActionsIn env actions → AllByRecursion (IsActionIn env) (map (λ a. a.1) actions)
+actions_typed : (env : Entries) (actions : List LabelledAction) → AreActionsIn env actions → AllByRecursion (IsTypedActionIn env) (map (λ a. a.1) actions)
 actions_typed env [] h = tt
 actions_typed env (a ∷ actions) h = (action_typed env a.1 h.0, actions_typed env actions h.1)
 
@@ -80,7 +80,7 @@ open_keys env (Assign pairs) h = refl
 open_keys env (ChooseIn x s) h = ap (λ o. keys_of (map (λ t. (x, t)) (option_to_list o))) (member_of s h.0 h.2)
 open_keys env (ChooseSuch targets q) h = refl
 
-assigned_same : (env : Entries) (actions : List LabelledAction) → AreActionsIn env actions → all_assigned_by actions ≡ all_assigned (map (λ a. a.1) actions)
+assigned_same : (env : Entries) (actions : List LabelledAction) → AreActionsIn env actions → all_assigned_by actions ≡ targets_of_all (map (λ a. a.1) actions)
 assigned_same env [] h = refl
 assigned_same env (a ∷ actions) h =
     ap₂ (λ ns ms. ns ++ ms) (sym (new_keys env a.1 h.0.0)) (assigned_same env actions h.1) ∙ sym (keys_append (new_values a.1) (for_each new_values (map (λ b. b.1) actions)))
@@ -136,7 +136,7 @@ primed_kept p (x ∷ xs) n k e = elim (or_cases (bytes_eq n x.0) (is_among (keys
 -- Events.
 
 -- of the events that an event refines, the first
-first_actions : (env : Entries) (refined : List CheckedEvent) → AllByRecursion (IsEventIn env) refined → AllByRecursion (IsActionIn env) (actions_of_first refined)
+first_actions : (env : Entries) (refined : List CheckedEvent) → AllByRecursion (IsEventIn env) refined → AllByRecursion (IsTypedActionIn env) (actions_of_first refined)
 first_actions env [] h = tt
 first_actions env (r ∷ refined) h = actions_typed env r.actions h.0.actions
 
@@ -145,7 +145,7 @@ chosen_first env [] h = refl
 chosen_first env (r ∷ refined) h = chosen_same env r.actions h.0.actions
 
 first_assigned : (P : List (List ℕ) → Type 0) (variables : List (List ℕ)) (env : Entries) (refined : List CheckedEvent) → AllByRecursion (IsEventIn env) refined
-    → AllByRecursion (AssignsVariables variables) refined → P [] → ((e : CheckedEvent) → AssignsVariables variables e → P (all_assigned_by e.actions)) → P (all_assigned (actions_of_first refined))
+    → AllByRecursion (AssignsVariables variables) refined → P [] → ((e : CheckedEvent) → AssignsVariables variables e → P (all_assigned_by e.actions)) → P (targets_of_all (actions_of_first refined))
 first_assigned P variables env [] h k none some = none
 first_assigned P variables env (r ∷ refined) h k none some = subst P (assigned_same env r.actions h.0.actions) (some r k.0)
 
@@ -181,7 +181,7 @@ module _ (m : CheckedMachine) (above : List (List ℕ)) (kept : AllByRecursion (
   abbrev params : Entries
   params = params_env m e refined
 
-  own_same : all_assigned_by e.actions ≡ all_assigned (actions_of e)
+  own_same : all_assigned_by e.actions ≡ targets_of_all (actions_of e)
   own_same = assigned_same (m.env ++ e.params) e.actions sound.actions
 
   still_variable : (n : List ℕ) → is_among above n ≡ true → is_among (m.variables ++ m.lost) n ≡ true
@@ -215,7 +215,7 @@ module _ (m : CheckedMachine) (above : List (List ℕ)) (kept : AllByRecursion (
   witnesses_wanted [] h = tt
   witnesses_wanted (w ∷ ws) h = (wanted w.0 h.0, witnesses_wanted ws h.1)
 
-  event_typed : IsTypedEvent m refined e
+  event_typed : IsWellTypedEvent m refined e
   event_typed = record {
     primed = beside.good;
     guards = sound.guards;
@@ -247,7 +247,7 @@ assigns_above (Some a) h = h.assigns
 
 module _ (m : CheckedMachine) (abstraction : Option CheckedMachine) (over : IfSome abstraction IsSoundMachine) (constants : Entries) (beside : IsSoundBeside abstraction (Machine m)) where
   events_typed : (events : List CheckedEvent) → AllByRecursion (IsSoundEvent constants m.env) events → AllByRecursion (AssignsVariables m.variables) events
-      → AllByRecursion (λ e. IsSoundRefinement m.env (m.variables ++ m.lost) m.lost (refined_by abstraction e) e) events → AllByRecursion (λ e. IsTypedEvent m (refined_by abstraction e) e) events
+      → AllByRecursion (λ e. IsSoundRefinement m.env (m.variables ++ m.lost) m.lost (refined_by abstraction e) e) events → AllByRecursion (λ e. IsWellTypedEvent m (refined_by abstraction e) e) events
   events_typed [] h k l = tt
   events_typed (e ∷ events) h k l = (
     event_typed m (above_of abstraction) (kept_above m abstraction beside) e (refined_by abstraction e) constants h.0 k.0 l.0
@@ -255,7 +255,7 @@ module _ (m : CheckedMachine) (abstraction : Option CheckedMachine) (over : IfSo
     events_typed events h.1 k.1 l.1,
   )
 
-pub sound_is_typed : (checked : Checked) (abstraction : Option CheckedMachine) → IsSound checked → IfSome abstraction IsSoundMachine → IsSoundBeside abstraction checked → IsTypedComponent checked abstraction
+pub sound_is_typed : (checked : Checked) (abstraction : Option CheckedMachine) → IsSoundComponent checked → IfSome abstraction IsSoundMachine → IsSoundBeside abstraction checked → IsWellTypedComponent checked abstraction
 sound_is_typed (Context c) abstraction h over beside = record { env = h.env; axioms = h.axioms }
 sound_is_typed (Machine m) abstraction h over beside = record {
   env = h.env;

@@ -14,10 +14,10 @@ use Rattle.model_core.specs.declared.component.Convergence.TheVariants.{Ordinary
 use Rattle.model_core.specs.declared.component.RawEvent.{RawEvent}
 use Rattle.model_core.specs.declared.component.RawStep.{RawStep}
 use Rattle.model_core.specs.declared.component.RawComponent.{RawComponent}
-use Rattle.component_text.specs.Marks.{Mark, word, label, plain, marks_of, is_word as marked}
+use Rattle.component_text.specs.Marks.{Mark, word, label, plain, marks_of, is_word_mark as marked}
 use Rattle.component_text.specs.Forms.{Bounds, limits, parts, none, One, Nothing, Choice, taken, other, Many, no_more, one_more}
 use Rattle.component_text.specs.Grammar.{reference, is_reference, is_a_label, context_of, Names, NamesBehind, ContextBody}
-use Rattle.component_text.specs.Machines.{IsAct, either, begins_event, event_of, machine_of, Step, Steps, Actions, EventBody, Event, EventList, Events, MachineBody, IsComponent, a_context, a_machine}
+use Rattle.component_text.specs.Machines.{IsActionWithin, either, begins_event, event_of, machine_of, Step, ManySteps, Actions, EventBody, Event, EventList, Events, MachineBody, IsComponent, a_context, a_machine}
 use Rattle.component_text.specs.Spelled.{IsRead}
 use Rattle.check_rules.specs.Assignments.{written_targets}
 use Rattle.checked_laws.specs.Laws.{DeclareIdentifiers, DeclaresIdentifiers, AssignsSomething}
@@ -75,7 +75,7 @@ spelled_assigns limit s a (applies {n = n} {o = o} {p = p} is r fit more) e = ne
 spelled_assigns limit s a (chooses_in {n = n} {p = p} is more) e = never_one (ref n p) e
 spelled_assigns limit s a (chooses_such {targets = targets} t more) e = some_targets [] _ targets _ t e
 
-act_assigns : (b : Bounds) (s : List Item) (a : RawAction) → IsAct b s a → written_targets a ≡ [] → ⊥
+act_assigns : (b : Bounds) (s : List Item) (a : RawAction) → IsActionWithin b s a → written_targets a ≡ [] → ⊥
 act_assigns limits s a h = spelled_assigns most_parts s a h.0
 act_assigns parts s a h = spelled_assigns most_parts s a h
 act_assigns none s a h = spelled_assigns None s a h
@@ -87,7 +87,7 @@ step_assigns : Gives Step HasWrittenTargets
 step_assigns b s x rest o = subst HasWrittenTargets o.is (act_assigns b _ o.from.1 o.part.second.spelled)
 
 actions_assign : Gives Actions (AllByRecursion HasWrittenTargets)
-actions_assign = list_gives (either (codes "then") (codes "begin")) Steps HasWrittenTargets (many_gives is_a_label Step HasWrittenTargets step_assigns)
+actions_assign = list_gives (either (codes "then") (codes "begin")) ManySteps HasWrittenTargets (many_gives is_a_label Step HasWrittenTargets step_assigns)
 
 -- Events.
 

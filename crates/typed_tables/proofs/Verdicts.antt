@@ -21,9 +21,9 @@ use Rattle.check_rules.specs.Components.{contexts_in, first_machine_in, ChecksBe
 use Rattle.check_rules.specs.Contexts.{Outcome}
 use Rattle.check_rules.specs.Visible.{entries, of_context, of_machine}
 use Rattle.checked_laws.specs.Laws.{references_to_contexts}
-use Rattle.checked_laws.specs.Projects.{ProjectNames, Has, IsOf}
+use Rattle.checked_laws.specs.Projects.{ProjectNames, Has, BelongsTo}
 use Rattle.checked_laws.specs.Refining.{IsSoundBeside}
-use Rattle.checked_laws.specs.Sound.{IsSoundMachine, IsSound}
+use Rattle.checked_laws.specs.Sound.{IsSoundMachine, IsSoundComponent}
 use Rattle.checked_laws.proofs.Checked.{checked_is_sound}
 use Rattle.checked_laws.proofs.Names.{same_name}
 use Rattle.name_laws.specs.Laws.{component_name}
@@ -32,10 +32,10 @@ use Rattle.name_laws.proofs.Declared.{ok, passes}
 use Rattle.sequent_core.specs.declared.sequent.Obligation.{Obligation}
 use Rattle.sequent_core.specs.Sequents.{IsSequent}
 use Rattle.po_rules.specs.Sequents.{AreSequents}
-use Rattle.sequent_laws.specs.Sound.{IsTypedComponent}
+use Rattle.sequent_laws.specs.Sound.{IsWellTypedComponent}
 use Rattle.sequent_laws.proofs.Components.{typed_table_is}
 use Rattle.build_core.specs.Projects.{Project, Reading, has_text, wanting, wanted_references, reference_faults, checked_in, IsPart, ConcludesFrom, ChecksBy, Checks, settled, cyclic}
-use Rattle.build_core.specs.Tables.{refined_in, IsAbstraction, Gives, AreObligations, IsTable}
+use Rattle.build_core.specs.Tables.{refined_in, IsAbstraction, Gives, AreObligations, IsTableOf}
 use Rattle.build_core.proofs.Rounds.{read_one, verdict_one, is_there, same_component}
 use Rattle.typed_tables.proofs.Joined.{sound_is_typed}
 use Rattle.typed_tables.proofs.Reading.{read_is_written}
@@ -67,7 +67,7 @@ some_fault x xs e = absurd (never e)
     never h = cc
 
 -- The first machine of sound components.
-first_sound : (parts : List Checked) → AllByRecursion IsSound parts → IfSome (first_machine_in parts) IsSoundMachine
+first_sound : (parts : List Checked) → AllByRecursion IsSoundComponent parts → IfSome (first_machine_in parts) IsSoundMachine
 first_sound [] h = tt
 first_sound (Context c ∷ parts) h = first_sound parts h.1
 first_sound (Machine m ∷ parts) h = h.0
@@ -157,7 +157,7 @@ module _ (project : Project) (distinct : IsDistinct bytes_eq (keys_of project)) 
 
   module _ (found : List ℕ → Option Checked) (found_all : (name : List ℕ) (checked : Checked) → Checks project name (Ok checked) → found name ≡ Some checked) where
     abbrev IsGood : Checked → Type 0
-    IsGood checked = IsSound checked × IsOf (names_by found) checked
+    IsGood checked = IsSoundComponent checked × BelongsTo (names_by found) checked
 
     parts_good : (k : ℕ) → ((name : List ℕ) (checked : Checked) → ChecksBy project k name (Ok checked) → IsGood checked) → (refs : List (Ref × Bool)) (parts : List (Option Outcome)) →
         AllZip (IsPart project (ChecksBy project k)) refs parts → AllByRecursion IsGood (filter_map checked_in parts)
@@ -194,7 +194,7 @@ module _ (project : Project) (distinct : IsDistinct bytes_eq (keys_of project)) 
             good = (sound.0, sound.2);
             abstraction = first_machine_in seen;
             is = those.1;
-            over = first_sound seen (all_each IsGood IsSound seen (λ x g. g.0) parts);
+            over = first_sound seen (all_each IsGood IsSoundComponent seen (λ x g. g.0) parts);
             beside = sound.1;
           },
         )
@@ -210,7 +210,7 @@ module _ (project : Project) (distinct : IsDistinct bytes_eq (keys_of project)) 
 
     -- a checked component beside its abstraction
     component_typed : (name text : List ℕ) (component : RawComponent) (checked : Checked) (abstraction : Option CheckedMachine) → Contains project (name, text) → IsRead name text (Ok component)
-        → Checks project name (Ok checked) → IsAbstraction project (refined_in component) abstraction → IsTypedComponent checked abstraction
+        → Checks project name (Ok checked) → IsAbstraction project (refined_in component) abstraction → IsWellTypedComponent checked abstraction
     component_typed name text component checked abstraction there is (settled zero h) refines = absurd h
     component_typed name text component checked abstraction there is (cyclic fault h e) refines = ok_err checked fault e
     component_typed name text component checked abstraction there is (settled (suc k) h) refines =
@@ -218,7 +218,7 @@ module _ (project : Project) (distinct : IsDistinct bytes_eq (keys_of project)) 
         let same : f.0 ≡ component = same_component f.0 component (sym f.1 ∙ read_one project distinct name h.0 text h.1 (Ok component) h.2 there h.3 is) in
         let one : f.2.abstraction ≡ abstraction = abstraction_one (refined_in component) f.2.abstraction abstraction
         (subst (λ c. IsAbstraction project (refined_in c) f.2.abstraction) same f.2.is) refines in
-        subst (IsTypedComponent checked) one (sound_is_typed checked f.2.abstraction f.2.good.0 f.2.over f.2.beside)
+        subst (IsWellTypedComponent checked) one (sound_is_typed checked f.2.abstraction f.2.good.0 f.2.over f.2.beside)
 
     given_sequents : (name : List ℕ) (own : List Obligation) → Gives project name own → AreSequents own
     given_sequents name own (inl h) = subst AreSequents (sym h.2) tt
@@ -229,6 +229,6 @@ module _ (project : Project) (distinct : IsDistinct bytes_eq (keys_of project)) 
     all_sequents (entry ∷ components) table h =
         subst AreSequents (sym h.4) (all_append (λ o. IsSequent o.sequent) h.0 h.1 (given_sequents entry.0 h.0 h.2) (all_sequents components h.1 h.3))
 
-  pub table_sequents : (table : List Obligation) → IsTable project table → AreSequents table
+  pub table_sequents : (table : List Obligation) → IsTableOf project table → AreSequents table
   table_sequents table h =
       all_sequents (found_in project project table h) (λ name checked c. found_is project table h name checked c (has_verdict name (Ok checked) c)) project table h

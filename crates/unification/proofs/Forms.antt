@@ -6,7 +6,7 @@ use Rattle.formula_core.specs.declared.ty.Ty.{Ty}
 use Rattle.unification.specs.declared.graph.Node.{Node}
 use Rattle.unification.specs.declared.graph.Node.TheVariants.{Free, Int, Bool as BoolN, Truth, Given, Pow, Pair, Same}
 use Rattle.unification.specs.Terms.{value}
-use Rattle.unification.specs.PrivateGraph.{node_at, form_of, link_of, Holds, Fits, IsGraph, weight, unlinked, Alike}
+use Rattle.unification.specs.PrivateGraph.{node_at, form_of, link_of, Holds, FitsInGraph, IsGraph, node_weight, unlinked, Alike}
 
 -- what a form says of its place
 abbrev pub Says : (ℕ → Ty) → ℕ → Node → Type 0
@@ -37,12 +37,12 @@ linked (Pow b) a e = cc
 linked (Pair b c) a e = cc
 linked (Same b) a e = cc
 
-pub graph_set : (ns : List Node) (i : ℕ) (n : Node) → i < length ns → IsGraph ns → Fits (length ns) i n → IsGraph (set ns i n)
+pub graph_set : (ns : List Node) (i : ℕ) (n : Node) → i < length ns → IsGraph ns → FitsInGraph (length ns) i n → IsGraph (set ns i n)
 graph_set ns i n h graph here =
-    subst (λ m. (k : ℕ) → Fits m k (node_at (set ns i n) k)) (sym (length-set ns i n))
-    (set_all (Fits (length ns)) ns i n h (λ k _. graph k) here)
+    subst (λ m. (k : ℕ) → FitsInGraph m k (node_at (set ns i n) k)) (sym (length-set ns i n))
+    (set_all (FitsInGraph (length ns)) ns i n h (λ k _. graph k) here)
 
-pub unlinked-set : (ns : List Node) (i : ℕ) (n : Node) → i < length ns → unlinked (set ns i n) + weight (node_at ns i) ≡ unlinked ns + weight n
+pub unlinked-set : (ns : List Node) (i : ℕ) (n : Node) → i < length ns → unlinked (set ns i n) + node_weight (node_at ns i) ≡ unlinked ns + node_weight n
 unlinked-set [] i n h = absurd (omega arith)
 unlinked-set (m ∷ ns) zero n h = omega arith
 unlinked-set (m ∷ ns) (suc i) n h = let rest = unlinked-set ns i n (omega arith) in omega arith
@@ -63,7 +63,7 @@ Alike-trans a b c p q = record {
 
 -- what a link says
 pub link_below : (ns : List Node) (at next : ℕ) → IsGraph ns → link_of (node_at ns at) ≡ Some next → next < at
-link_below ns at next g e = subst (Fits (length ns) at) (linked (node_at ns at) next e) (g at)
+link_below ns at next g e = subst (FitsInGraph (length ns) at) (linked (node_at ns at) next e) (g at)
 
 pub link_same : (u : ℕ → Ty) (ns : List Node) (at next : ℕ) → Holds u ns → link_of (node_at ns at) ≡ Some next → u at ≡ u next
 link_same u ns at next h e = subst (Says u at) (linked (node_at ns at) next e) (h at)
@@ -86,7 +86,7 @@ shortened ns new at next further g inside e f is =
             | inl q ↦ subst (λ j. Says u j (node_at ns j)) (sym q) (subst (Says u at) (sym at_is) (own ∙ sym next_same))
             | inr ne ↦ of_other (Says u) ns at (Same further) h k ne
           ];
-      links = let s = unlinked-set ns at (Same further) inside in let w : weight (node_at ns at) ≡ 0 = ap weight at_is in omega arith;
+      links = let s = unlinked-set ns at (Same further) inside in let w : node_weight (node_at ns at) ≡ 0 = ap node_weight at_is in omega arith;
       lasts = λ k last. get_or-set_other ns at k (Same further) Free (λ q. let here : link_of (node_at ns at) ≡ None = subst (λ j. link_of (node_at ns j) ≡ None) q last in cc);
       free = set_all (λ k n. n ≡ Free → node_at ns k ≡ Free) ns at (Same further) inside (λ k _ q. q) (λ q. cc);
     })

@@ -5,7 +5,7 @@ use Rattle.std.proofs.lemmas.Bool.{eq-eqb, ne_eqb}
 use Rattle.formula_core.specs.declared.ty.Ty.{Ty}
 use Rattle.formula_core.specs.declared.ty.Ty.TheVariants as ty
 use Rattle.unification.specs.Terms.{Open, integers, booleans, predicates, carrier, variable, powerset, product, value}
-use Rattle.unification.specs.Known.{type_at, powerset_of, product_of, closed}
+use Rattle.unification.specs.Known.{type_at, powerset_of, product_of, closed_type}
 use Rattle.unification.proofs.Terms.{same_pow, same_left, same_right}
 
 -- all that is known of a type holds under the assignment
@@ -26,19 +26,19 @@ some_product None (Some b) t e = cc
 some_product (Some a) None t e = cc
 some_product (Some a) (Some b) t e = (a, b, refl, refl, cc)
 
-pub closed_value : (v : ℕ → Ty) (ts : List (Option Ty)) → HasTypes v ts → (s : Open) (t : Ty) → closed ts s ≡ Some t → value v s ≡ t
+pub closed_value : (v : ℕ → Ty) (ts : List (Option Ty)) → HasTypes v ts → (s : Open) (t : Ty) → closed_type ts s ≡ Some t → value v s ≡ t
 closed_value v ts h integers t e = cc
 closed_value v ts h booleans t e = cc
 closed_value v ts h predicates t e = cc
 closed_value v ts h (carrier n) t e = cc
 closed_value v ts h (variable i) t e = h i t e
 closed_value v ts h (powerset a) t e =
-    let p = some_powerset (closed ts a) t e in
+    let p = some_powerset (closed_type ts a) t e in
     let l = closed_value v ts h a p.0 p.1 in
     let q = p.2 in
     cc
 closed_value v ts h (product a b) t e =
-    let p = some_product (closed ts a) (closed ts b) t e in
+    let p = some_product (closed_type ts a) (closed_type ts b) t e in
     let l = closed_value v ts h a p.0 p.2 in
     let r = closed_value v ts h b p.1 p.3 in
     let q = p.4 in
@@ -53,18 +53,18 @@ none_product None p e = inl refl
 none_product (Some a) None e = inr refl
 none_product (Some a) (Some b) e = cc
 
-pub open_differs : (v w : ℕ → Ty) (ts : List (Option Ty)) → Differ v w ts → (s : Open) → closed ts s ≡ None → value v s ≢ value w s
+pub open_differs : (v w : ℕ → Ty) (ts : List (Option Ty)) → Differ v w ts → (s : Open) → closed_type ts s ≡ None → value v s ≢ value w s
 open_differs v w ts h integers e q = cc
 open_differs v w ts h booleans e q = cc
 open_differs v w ts h predicates e q = cc
 open_differs v w ts h (carrier n) e q = cc
 open_differs v w ts h (variable i) e q = h i e q
 open_differs v w ts h (powerset a) e q =
-    open_differs v w ts h a (none_powerset (closed ts a) e) (same_pow (value v a) (value w a) q)
+    open_differs v w ts h a (none_powerset (closed_type ts a) e) (same_pow (value v a) (value w a) q)
 open_differs v w ts h (product a b) e q =
     let left : value v a ≡ value w a = same_left _ (value v b) _ (value w b) q in
     let right : value v b ≡ value w b = same_right (value v a) _ (value w a) _ q in
-    elim (none_product (closed ts a) (closed ts b) e) [
+    elim (none_product (closed_type ts a) (closed_type ts b) e) [
       | inl l ↦ open_differs v w ts h a l left
       | inr r ↦ open_differs v w ts h b r right
     ]

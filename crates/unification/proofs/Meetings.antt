@@ -11,7 +11,7 @@ use Rattle.unification.specs.declared.graph.Node.TheVariants.{Free, Int, Bool as
 use Rattle.unification.specs.declared.merging.Meeting.{Meeting}
 use Rattle.unification.specs.declared.merging.Meeting.TheVariants as meeting
 use Rattle.unification.specs.Terms.{integers, booleans, predicates, carrier, variable, powerset, product}
-use Rattle.unification.specs.PrivateGraph.{node_at, form_of, link_of, is_free, Holds, Fits, IsGraph, weight, unlinked, meeting_of, AllSame, AreInside, Adds, Joins}
+use Rattle.unification.specs.PrivateGraph.{node_at, form_of, link_of, is_free, Holds, FitsInGraph, IsGraph, node_weight, unlinked, meeting_of, AllSame, AreInside, AddsPairs, Joins}
 use Rattle.unification.proofs.Terms.{same_pow, same_left, same_right, same_name, open_variant, same_variants}
 use Rattle.unification.proofs.Forms.{Says, set_all, of_other, of_own, graph_set, unlinked-set, read}
 
@@ -68,7 +68,7 @@ AreInside-append n (p ∷ a) b =
     let rest = AreInside-append n a b in
     (λ h. ((h.0, h.1, (rest.0 h.2).0), (rest.0 h.2).1), λ h. (h.0.0, h.0.1, rest.1 (h.0.2, h.1)))
 
-adds_same : (u : ℕ → Ty) (m : Meeting) (old new : List (ℕ × ℕ)) → Adds m old new → AllSame u new ↔ (AllSame u old × MeetingHolds u m)
+adds_same : (u : ℕ → Ty) (m : Meeting) (old new : List (ℕ × ℕ)) → AddsPairs m old new → AllSame u new ↔ (AllSame u old × MeetingHolds u m)
 adds_same u meeting.Agree old new h = (λ a. (subst (AllSame u) h a, tt), λ p. subst (AllSame u) (sym h) p.0)
 adds_same u meeting.Never old new h = absurd h
 adds_same u (meeting.One a b) old new h =
@@ -88,7 +88,7 @@ carriers_inside : (n : ℕ) (same : Bool) → MeetingInside n (cond same meeting
 carriers_inside n true = tt
 carriers_inside n false = tt
 
-meeting_inside : (n i j : ℕ) (x y : Node) → Fits n i x → Fits n j y → MeetingInside n (meeting_of x y)
+meeting_inside : (n i j : ℕ) (x y : Node) → FitsInGraph n i x → FitsInGraph n j y → MeetingInside n (meeting_of x y)
 meeting_inside n i j x Free f g = tt
 meeting_inside n i j Int Int f g = tt
 meeting_inside n i j BoolN BoolN f g = tt
@@ -98,14 +98,14 @@ meeting_inside n i j (Pow a) (Pow b) f g = (f, g)
 meeting_inside n i j (Pair a b) (Pair c d) f g = (f.0, g.0, f.1, g.1)
 meeting_inside n i j x y f g = tt
 
-adds_inside : (n : ℕ) (m : Meeting) (old new : List (ℕ × ℕ)) → Adds m old new → AreInside n old → MeetingInside n m → AreInside n new
+adds_inside : (n : ℕ) (m : Meeting) (old new : List (ℕ × ℕ)) → AddsPairs m old new → AreInside n old → MeetingInside n m → AreInside n new
 adds_inside n meeting.Agree old new h o i = subst (AreInside n) (sym h) o
 adds_inside n meeting.Never old new h o i = absurd h
 adds_inside n (meeting.One a b) old new h o i = subst (AreInside n) (sym h) ((AreInside-append n old ((a, b) ∷ [])).1 (o, (i.0, i.1, tt)))
 adds_inside n (meeting.Two a b c d) old new h o i =
     subst (AreInside n) (sym h) ((AreInside-append n (old ++ (a, b) ∷ []) ((c, d) ∷ [])).1 ((AreInside-append n old ((a, b) ∷ [])).1 (o, (i.0, i.1, tt)), (i.2, i.3, tt)))
 
-adds_length : (m : Meeting) (old new : List (ℕ × ℕ)) → Adds m old new → length new ≤ length old + 2
+adds_length : (m : Meeting) (old new : List (ℕ × ℕ)) → AddsPairs m old new → length new ≤ length old + 2
 adds_length meeting.Agree old new h = let l = ap length h in omega arith
 adds_length meeting.Never old new h = absurd h
 adds_length (meeting.One a b) old new h = let l = ap length h in let k = length-append old ((a, b) ∷ []) in omega arith
@@ -129,11 +129,11 @@ says_moved : (u : ℕ → Ty) (i j : ℕ) (n : Node) → u j ≡ u i → Says u 
 says_moved u i j Free e s = refl
 says_moved u i j n e s = e ∙ s
 
-fits_moved : (m i j : ℕ) (n : Node) → link_of n ≡ None → Fits m i n → Fits m j n
+fits_moved : (m i j : ℕ) (n : Node) → link_of n ≡ None → FitsInGraph m i n → FitsInGraph m j n
 fits_moved m i j (Same a) l f = cc
 fits_moved m i j n l f = f
 
-weight_last : (n : Node) → link_of n ≡ None → weight n ≡ 1
+weight_last : (n : Node) → link_of n ≡ None → node_weight n ≡ 1
 weight_last (Same a) l = cc
 weight_last n l = refl
 
@@ -192,7 +192,7 @@ module _ (ns : List Node) (low high : ℕ) (graph : IsGraph ns) (below : low < h
 
     pub joins_free : Joins low high ns rest two rest
     joins_free = record {
-      graph = graph_set one low (node_at ns high) low_inside graph_one (subst (λ m. Fits m low (node_at ns high)) (sym long_one) (fits_moved (length ns) high low (node_at ns high) high_last (graph high)));
+      graph = graph_set one low (node_at ns high) low_inside graph_one (subst (λ m. FitsInGraph m low (node_at ns high)) (sym long_one) (fits_moved (length ns) high low (node_at ns high) high_last (graph high)));
       long = length-set one low (node_at ns high) ∙ long_one;
       inside = subst (λ m. AreInside m rest) (sym (length-set one low (node_at ns high) ∙ long_one)) pairs_inside;
       kept = λ u h e a. (set_all (Says u) one low (node_at ns high) low_inside (λ k _. kept_one u h e k) (says_moved u high low (node_at ns high) e (h high)), a);
@@ -204,7 +204,7 @@ module _ (ns : List Node) (low high : ℕ) (graph : IsGraph ns) (below : low < h
       smaller =
           let s = unlinked-set one low (node_at ns high) low_inside in
           let w = weight_last (node_at ns high) high_last in
-          let v : weight (node_at one low) ≡ 1 = ap weight free_low in
+          let v : node_weight (node_at one low) ≡ 1 = ap node_weight free_low in
           let l = links_one in
           omega arith;
       free = set_all (λ k n. n ≡ Free → node_at ns k ≡ Free) one low (node_at ns high) low_inside (λ k _. free_one k) (λ q. sym low_one ∙ free_low);
@@ -215,14 +215,14 @@ module _ (ns : List Node) (low high : ℕ) (graph : IsGraph ns) (below : low < h
     met : (u : ℕ → Ty) → u low ≡ u high → Says u low (node_at one low) → Says u high (node_at ns high) ↔ MeetingHolds u (meeting_of (node_at one low) (node_at ns high))
     met u e s = meets u low high (node_at one low) (node_at ns high) (ap link_of low_one ∙ low_last) high_last formed e s
 
-    pub joins_met : (rest pairs : List (ℕ × ℕ)) → AreInside (length ns) rest → Adds (meeting_of (node_at one low) (node_at ns high)) rest pairs → Joins low high ns rest one pairs
+    pub joins_met : (rest pairs : List (ℕ × ℕ)) → AreInside (length ns) rest → AddsPairs (meeting_of (node_at one low) (node_at ns high)) rest pairs → Joins low high ns rest one pairs
     joins_met rest pairs pairs_inside adds =
         let m = meeting_of (node_at one low) (node_at ns high) in
         record {
           graph = graph_one;
           long = long_one;
           inside = adds_inside (length one) m rest pairs adds (subst (λ k. AreInside k rest) (sym long_one) pairs_inside)
-              (meeting_inside (length one) low high (node_at one low) (node_at ns high) (graph_one low) (subst (λ k. Fits k high (node_at ns high)) (sym long_one) (graph high)));
+              (meeting_inside (length one) low high (node_at one low) (node_at ns high) (graph_one low) (subst (λ k. FitsInGraph k high (node_at ns high)) (sym long_one) (graph high)));
           kept = λ u h e a.
               let held = kept_one u h e in
               (held, (adds_same u m rest pairs adds).1 (a, (met u e (held low)).0 (h high)));
@@ -257,10 +257,10 @@ module _ (ns mid : List Node) (low high : ℕ) (form x : Node) (graph : IsGraph 
       let is : y ≡ node_at (set ns high (Same low)) low = read mid low y (omega arith) e ∙ ap (λ m. node_at m low) rest_is in
       λ i. meeting_of (is i) (taken i)
 
-  pub join_met : (y : Node) (m : Meeting) (rest pairs : List (ℕ × ℕ)) → AreInside (length ns) rest → is_free x ≡ false → y ≡ get_or mid low y → m ≡ meeting_of y form → Adds m rest pairs → Joins low high ns rest mid pairs
+  pub join_met : (y : Node) (m : Meeting) (rest pairs : List (ℕ × ℕ)) → AreInside (length ns) rest → is_free x ≡ false → y ≡ get_or mid low y → m ≡ meeting_of y form → AddsPairs m rest pairs → Joins low high ns rest mid pairs
   join_met y m rest pairs pairs_inside formed e is adds =
       subst (λ k. Joins low high ns rest k pairs) (sym rest_is)
-      (joins_met ns low high graph below inside low_last high_last (sym (ap is_free known_is) ∙ formed) rest pairs pairs_inside (subst (λ k. Adds k rest pairs) (is ∙ same_meeting y e) adds))
+      (joins_met ns low high graph below inside low_last high_last (sym (ap is_free known_is) ∙ formed) rest pairs pairs_inside (subst (λ k. AddsPairs k rest pairs) (is ∙ same_meeting y e) adds))
 
   pub join_never : (y : Node) (m : Meeting) → is_free x ≡ false → y ≡ get_or mid low y → m ≡ meeting_of y form → m ≡ meeting.Never → (u : ℕ → Ty) → Holds u ns → u low ≢ u high
   join_never y m formed e is never = never_met ns low high graph below inside low_last high_last (sym (ap is_free known_is) ∙ formed) (sym (same_meeting y e) ∙ sym is ∙ never)

@@ -10,13 +10,13 @@ use Rattle.unification.specs.declared.graph.Node.TheVariants.{Free}
 use Rattle.unification.specs.Terms.{Open, integers, booleans, predicates, carrier, variable, powerset, product, value}
 use Rattle.unification.specs.Solutions.{Equality, IsAssignment, Solves, HasNoSolution}
 use Rattle.unification.specs.Known.{type_at, AreKnown}
-use Rattle.unification.specs.PrivateGraph.{node_at, form_of, Holds, Fits, IsGraph, AllSame, variables_of, variables_in, Extension, Builds, Merges}
+use Rattle.unification.specs.PrivateGraph.{node_at, form_of, Holds, FitsInGraph, IsGraph, AllSame, variable_count, variables_in, Extension, BuildsGraph, Merges}
 use Rattle.unification.specs.PrivateOrder.{HasNoModel, HasModels, HasSorts, HasWrongSort, TypeFits}
 use Rattle.unification.proofs.Terms.{value-Int, value-Bool}
 use Rattle.unification.proofs.KnownTypes.{type_at-past}
 use Rattle.unification.proofs.Places.{past}
 
-value_agrees : (u v : ℕ → Ty) (n : ℕ) → ((k : ℕ) → k < n → u k ≡ v k) → (t : Open) → variables_of t ≤ n → value u t ≡ value v t
+value_agrees : (u v : ℕ → Ty) (n : ℕ) → ((k : ℕ) → k < n → u k ≡ v k) → (t : Open) → variable_count t ≤ n → value u t ≡ value v t
 value_agrees u v n a integers h = refl
 value_agrees u v n a booleans h = refl
 value_agrees u v n a predicates h = refl
@@ -41,7 +41,7 @@ all_free n k =
     ]
 
 pub free_graph : (n : ℕ) → IsGraph (replicate n Free)
-free_graph n k = subst (Fits (length (replicate n Free)) k) (sym (all_free n k)) tt
+free_graph n k = subst (FitsInGraph (length (replicate n Free)) k) (sym (all_free n k)) tt
 
 free_extension : (v : ℕ → Ty) (n : ℕ) → Extension v (replicate n Free)
 free_extension v n = record {
@@ -72,7 +72,7 @@ choose_above : (i n : ℕ) (c : (i < n) ⊎ (n ≤ i)) (s t : Ty) → n ≤ i �
 choose_above i n (inl p) s t h = absurd (omega arith)
 choose_above i n (inr q) s t h = refl
 
-module _ (es : List Equality) (n : ℕ) (room : variables_in es ≤ n) (start placed : List Node) (pairs : List (ℕ × ℕ)) (start_is : start ≡ replicate n Free) (built : Builds es start placed pairs) where
+module _ (es : List Equality) (n : ℕ) (room : variables_in es ≤ n) (start placed : List Node) (pairs : List (ℕ × ℕ)) (start_is : start ≡ replicate n Free) (built : BuildsGraph es start placed pairs) where
   frees : (k : ℕ) → k < n → node_at placed k ≡ Free
   frees k h =
       let l = ap length start_is in

@@ -7,11 +7,11 @@ use Rattle.formula_core.specs.declared.ty.Ty.TheVariants as ty
 use Rattle.formula_core.specs.declared.ty.Ty.TheViews.{rolls-Int, rolls-Bool, rolls-Given, rolls-Pow, rolls-Pair, rolls-Truth, outs-Int, outs-Bool, outs-Given, outs-Pow, outs-Pair, outs-Truth}
 use Rattle.formula_core.specs.Types.{is_value_step, is_value_type}
 use Rattle.formula_core.specs.Schemes as scheme
-use Rattle.formula_core.specs.Schemes.{Scheme, type_at, Letters}
+use Rattle.formula_core.specs.Schemes.{Scheme, type_of_scheme, Letters}
 use Rattle.formula_core.proofs.Equations.{type_fold}
 use Rattle.formula_core.proofs.Types.{type_induction}
 use Rattle.unification.specs.PrivateOrder.{depth_step, depth}
-use Rattle.unification.specs.Terms.{Open, integers, booleans, predicates, carrier, variable, powerset, product, value, open_of_step, open_of, instance}
+use Rattle.unification.specs.Terms.{Open, integers, booleans, predicates, carrier, variable, powerset, product, value, open_of_step, open_of, instance_from}
 
 -- the types of four variables, as those of the letters
 abbrev pub letters_at : (ℕ → Ty) → ℕ → Letters
@@ -139,7 +139,7 @@ value_of_type v = type_induction (λ t. value v (open_of t) ≡ t)
     (ap (value v) open_of-Truth)
 
 -- a scheme as a term stands for the scheme with the types of the variables
-pub value_of_scheme : (v : ℕ → Ty) (n : ℕ) (s : Scheme) → value v (instance n s) ≡ type_at (letters_at v n) s
+pub value_of_scheme : (v : ℕ → Ty) (n : ℕ) (s : Scheme) → value v (instance_from n s) ≡ type_of_scheme (letters_at v n) s
 value_of_scheme v n scheme.alpha = refl
 value_of_scheme v n scheme.beta = refl
 value_of_scheme v n scheme.gamma = refl

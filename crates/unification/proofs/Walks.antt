@@ -9,14 +9,14 @@ use Rattle.unification.specs.declared.graph.Parts.{Parts}
 use Rattle.unification.specs.declared.ordering.Mark.{Mark}
 use Rattle.unification.specs.declared.ordering.Mark.TheVariants.{New, Open, Done}
 use Rattle.unification.specs.Terms.{value}
-use Rattle.unification.specs.PrivateGraph.{node_at, form_of, parts_of, AllParts, Holds, Fits, IsGraph}
-use Rattle.unification.specs.PrivateOrder.{depth, mark_at, place_at, IsListed, IsUnder, AreAbove, HasNoModel, Model, IsInOrder, IsWalk, Advances, IsOrder, HasModels}
+use Rattle.unification.specs.PrivateGraph.{node_at, form_of, node_parts, AllParts, Holds, FitsInGraph, IsGraph}
+use Rattle.unification.specs.PrivateOrder.{depth, mark_at, ordered_at, IsAmongFirst, IsUnder, AreAbove, HasNoModel, Model, IsInOrder, IsWalk, Advances, IsOrder, HasModels}
 use Rattle.unification.proofs.Terms.{depth-Pow, depth-Pair}
 use Rattle.unification.proofs.Forms.{Says, read}
 use Rattle.unification.proofs.Places.{put_type, put_same, put_other, says_put, all_parts, past, parts_fit}
 
 -- parts are less deep, and what is linked to comes earlier
-parts_under : (u : ℕ → Ty) (n k : ℕ) (x : Node) → Fits n k x → Says u k x → AllParts (λ a. IsUnder u a k) (parts_of x)
+parts_under : (u : ℕ → Ty) (n k : ℕ) (x : Node) → FitsInGraph n k x → Says u k x → AllParts (λ a. IsUnder u a k) (node_parts x)
 parts_under u n k (Pow a) f s = let d = ap depth s ∙ depth-Pow (u a) in (omega arith, λ e. absurd (omega arith))
 parts_under u n k (Pair a b) f s =
     let d = ap depth s ∙ depth-Pair (u a) (u b) in
@@ -69,12 +69,12 @@ module _ (ns : List Node) (ms : List Mark) (at : ℕ) (inside : at < length ms) 
   walk_opened order w = record {
     ordered = w.ordered;
     listed = λ k e. w.listed k (done_before k e);
-    parts = λ k e. all_parts (λ a. mark_at ms a ≡ Done) (λ a. mark_at opened a ≡ Done) (parts_of (node_at ns k)) done_after (w.parts k (done_before k e));
+    parts = λ k e. all_parts (λ a. mark_at ms a ≡ Done) (λ a. mark_at opened a ≡ Done) (node_parts (node_at ns k)) done_after (w.parts k (done_before k e));
     model = λ d. let m = w.model d in record { types = m.types; holds = λ k e. m.holds k (done_before k e); free = m.free };
   }
 
   -- what is above a place is above its parts, and so is the place
-  pub above_parts : IsGraph ns → AreAbove ns ms at → AllParts (AreAbove ns opened) (parts_of (node_at ns at))
+  pub above_parts : IsGraph ns → AreAbove ns ms at → AllParts (AreAbove ns opened) (node_parts (node_at ns at))
   above_parts graph above = go (node_at ns at) (graph at) (λ u h. h at)
     where
       below : (a : ℕ) → ((u : ℕ → Ty) → Holds u ns → IsUnder u a at) → AreAbove ns opened a
@@ -84,7 +84,7 @@ module _ (ns : List Node) (ms : List Mark) (at : ℕ) (inside : at < length ms) 
             | inr ne ↦ under_trans u a at g (under u h) (above u h g (sym (mark_other ms at Open g ne) ∙ e))
           ]
 
-      go : (x : Node) → Fits (length ns) at x → ((u : ℕ → Ty) → Holds u ns → Says u at x) → AllParts (AreAbove ns opened) (parts_of x)
+      go : (x : Node) → FitsInGraph (length ns) at x → ((u : ℕ → Ty) → Holds u ns → Says u at x) → AllParts (AreAbove ns opened) (node_parts x)
       go (Pow a) f s = below a (λ u h. parts_under u (length ns) at (Pow a) f (s u h))
       go (Same a) f s = below a (λ u h. parts_under u (length ns) at (Same a) f (s u h))
       go (Pair a b) f s = (below a (λ u h. (parts_under u (length ns) at (Pair a b) f (s u h)).0), below b (λ u h. (parts_under u (length ns) at (Pair a b) f (s u h)).1))
@@ -126,14 +126,14 @@ open_advanced old new k adv e = go (adv.marks k)
     go (inl q) = q ∙ e
     go (inr q) = let d = q.0 in cc
 
-listed_more : (order : List ℕ) (at m k : ℕ) → m ≤ length order → IsListed order m k → IsListed (order ++ at ∷ []) m k
+listed_more : (order : List ℕ) (at m k : ℕ) → m ≤ length order → IsAmongFirst order m k → IsAmongFirst (order ++ at ∷ []) m k
 listed_more order at m k h l = let less = l.1 in (l.0, l.1, get_or_append_left order (at ∷ []) 0 l.0 (omega arith) ∙ l.2)
 
-listed_longer : (order : List ℕ) (m n k : ℕ) → m ≤ n → IsListed order m k → IsListed order n k
+listed_longer : (order : List ℕ) (m n k : ℕ) → m ≤ n → IsAmongFirst order m k → IsAmongFirst order n k
 listed_longer order m n k h l = let less = l.1 in (l.0, omega arith, l.2)
 
 -- a place is done after its parts
-module _ (ns : List Node) (ms : List Mark) (order : List ℕ) (at : ℕ) (graph_inside : at < length ns) (inside : at < length ms) (w : IsWalk ns ms order) (begun : mark_at ms at ≡ Open) (done : AllParts (λ a. mark_at ms a ≡ Done) (parts_of (node_at ns at))) where
+module _ (ns : List Node) (ms : List Mark) (order : List ℕ) (at : ℕ) (graph_inside : at < length ns) (inside : at < length ms) (w : IsWalk ns ms order) (begun : mark_at ms at ≡ Open) (done : AllParts (λ a. mark_at ms a ≡ Done) (node_parts (node_at ns at))) where
   abbrev finished : List Mark
   finished = set ms at Done
 
@@ -158,12 +158,12 @@ module _ (ns : List Node) (ms : List Mark) (order : List ℕ) (at : ℕ) (graph_
           | inr le ↦ subst (λ k. k < length ns) (sym (get_or_push order at 0 m (omega arith))) graph_inside
         ];
         parts = λ m h. elim (cases_lt m (length order)) [
-          | inl lt ↦ subst (λ k. AllParts (IsListed longer m) (parts_of (node_at ns k))) (sym (get_or_append_left order (at ∷ []) 0 m lt))
-              (all_parts (IsListed order m) (IsListed longer m) (parts_of (node_at ns (place_at order m))) (λ a. listed_more order at m a (omega arith)) (w.ordered.parts m lt))
+          | inl lt ↦ subst (λ k. AllParts (IsAmongFirst longer m) (node_parts (node_at ns k))) (sym (get_or_append_left order (at ∷ []) 0 m lt))
+              (all_parts (IsAmongFirst order m) (IsAmongFirst longer m) (node_parts (node_at ns (ordered_at order m))) (λ a. listed_more order at m a (omega arith)) (w.ordered.parts m lt))
           | inr le ↦
               let same : length order ≡ m = omega arith in
-              subst (λ k. AllParts (IsListed longer m) (parts_of (node_at ns k))) (sym (get_or_push order at 0 m same))
-              (all_parts (λ a. mark_at ms a ≡ Done) (IsListed longer m) (parts_of (node_at ns at)) (λ a d. subst (λ n. IsListed longer n a) same (listed_more order at (length order) a (omega arith) (w.listed a d))) done)
+              subst (λ k. AllParts (IsAmongFirst longer m) (node_parts (node_at ns k))) (sym (get_or_push order at 0 m same))
+              (all_parts (λ a. mark_at ms a ≡ Done) (IsAmongFirst longer m) (node_parts (node_at ns at)) (λ a d. subst (λ n. IsAmongFirst longer n a) same (listed_more order at (length order) a (omega arith) (w.listed a d))) done)
         ];
       }
 
@@ -176,10 +176,10 @@ module _ (ns : List Node) (ms : List Mark) (order : List ℕ) (at : ℕ) (graph_
       record {
         types = v;
         holds = λ k e. elim (cases_eq k at) [
-          | inl q ↦ subst (λ j. Says v j (node_at ns j)) (sym q) (says_put m.types v at (node_at ns at) (all_parts (λ a. mark_at ms a ≡ Done) (λ a. v a ≡ m.types a) (parts_of (node_at ns at)) agrees done) (put_same m.types at t))
+          | inl q ↦ subst (λ j. Says v j (node_at ns j)) (sym q) (says_put m.types v at (node_at ns at) (all_parts (λ a. mark_at ms a ≡ Done) (λ a. v a ≡ m.types a) (node_parts (node_at ns at)) agrees done) (put_same m.types at t))
           | inr ne ↦
               let was = was_done k ne e in
-              says_put m.types v k (node_at ns k) (all_parts (λ a. mark_at ms a ≡ Done) (λ a. v a ≡ m.types a) (parts_of (node_at ns k)) agrees (w.parts k was)) (agrees k was ∙ m.holds k was)
+              says_put m.types v k (node_at ns k) (all_parts (λ a. mark_at ms a ≡ Done) (λ a. v a ≡ m.types a) (node_parts (node_at ns k)) agrees (w.parts k was)) (agrees k was ∙ m.holds k was)
         ];
         free = λ k e. elim (cases_eq k at) [
           | inl q ↦ subst (λ j. v j ≡ d) (sym q)
@@ -199,8 +199,8 @@ module _ (ns : List Node) (ms : List Mark) (order : List ℕ) (at : ℕ) (graph_
           | inr ne ↦ listed_longer longer (length order) (length longer) k (omega arith) (listed_more order at (length order) k (omega arith) (w.listed k (was_done k ne e)))
         ];
         parts = λ k e. elim (cases_eq k at) [
-          | inl q ↦ subst (λ j. AllParts (λ a. mark_at finished a ≡ Done) (parts_of (node_at ns j))) (sym q) (all_parts (λ a. mark_at ms a ≡ Done) (λ a. mark_at finished a ≡ Done) (parts_of (node_at ns at)) stays_done done)
-          | inr ne ↦ all_parts (λ a. mark_at ms a ≡ Done) (λ a. mark_at finished a ≡ Done) (parts_of (node_at ns k)) stays_done (w.parts k (was_done k ne e))
+          | inl q ↦ subst (λ j. AllParts (λ a. mark_at finished a ≡ Done) (node_parts (node_at ns j))) (sym q) (all_parts (λ a. mark_at ms a ≡ Done) (λ a. mark_at finished a ≡ Done) (node_parts (node_at ns at)) stays_done done)
+          | inr ne ↦ all_parts (λ a. mark_at ms a ≡ Done) (λ a. mark_at finished a ≡ Done) (node_parts (node_at ns k)) stays_done (w.parts k (was_done k ne e))
         ];
         model = finished_model;
       }
@@ -211,7 +211,7 @@ pub record Visited (ns : List Node) (old new : List Mark) (order : List ℕ) (at
   pub done : mark_at new at ≡ Done
   pub advanced : Advances old new
 
-pub visited : (ns : List Node) (old mid new : List Mark) (order longer : List ℕ) (at : ℕ) → at < length ns → length old ≡ length ns → mark_at old at ≡ New → Advances (set old at Open) mid → IsWalk ns mid order → AllParts (λ a. mark_at mid a ≡ Done) (parts_of (node_at ns at)) → new ≡ set mid at Done → longer ≡ order ++ at ∷ [] → Visited ns old new longer at
+pub visited : (ns : List Node) (old mid new : List Mark) (order longer : List ℕ) (at : ℕ) → at < length ns → length old ≡ length ns → mark_at old at ≡ New → Advances (set old at Open) mid → IsWalk ns mid order → AllParts (λ a. mark_at mid a ≡ Done) (node_parts (node_at ns at)) → new ≡ set mid at Done → longer ≡ order ++ at ∷ [] → Visited ns old new longer at
 visited ns old mid new order longer at here long fresh adv w done is longer_is =
     let inside : at < length old = omega arith in
     let l = adv.long in
@@ -325,7 +325,7 @@ all_models ns ms order at s h d =
     }
 
 -- the same, if there was room to finish
-pub visited_ok : {E : Type 0} (r : Result (Unit {0}) E) (ns : List Node) (old mid new : List Mark) (order longer : List ℕ) (at : ℕ) → at < length ns → length old ≡ length ns → mark_at old at ≡ New → Advances (set old at Open) mid → IsWalk ns mid order → AllParts (λ a. mark_at mid a ≡ Done) (parts_of (node_at ns at)) → OnOk r (new ≡ set mid at Done) → OnOk r (longer ≡ order ++ at ∷ []) → OnOk r (Visited ns old new longer at)
+pub visited_ok : {E : Type 0} (r : Result (Unit {0}) E) (ns : List Node) (old mid new : List Mark) (order longer : List ℕ) (at : ℕ) → at < length ns → length old ≡ length ns → mark_at old at ≡ New → Advances (set old at Open) mid → IsWalk ns mid order → AllParts (λ a. mark_at mid a ≡ Done) (node_parts (node_at ns at)) → OnOk r (new ≡ set mid at Done) → OnOk r (longer ≡ order ++ at ∷ []) → OnOk r (Visited ns old new longer at)
 visited_ok (Ok x) ns old mid new order longer at here long fresh adv w done is longer_is = visited ns old mid new order longer at here long fresh adv w done is longer_is
 visited_ok (Err e) ns old mid new order longer at here long fresh adv w done is longer_is = tt
 
@@ -336,14 +336,14 @@ pub record Begins (ns : List Node) (old : List Mark) (order : List ℕ) (at : �
   pub count : count_new (set old at Open) < count_new old
   pub longer : length (set old at Open) ≡ length ns
   pub walk : IsWalk ns (set old at Open) order
-  pub above : AllParts (AreAbove ns (set old at Open)) (parts_of (node_at ns at))
-  pub inside : AllParts (λ a. a < length ns) (parts_of (node_at ns at))
+  pub above : AllParts (AreAbove ns (set old at Open)) (node_parts (node_at ns at))
+  pub inside : AllParts (λ a. a < length ns) (node_parts (node_at ns at))
 
 pub read_mark : (ms : List Mark) (i n : ℕ) (m x : Mark) → i < n → n ≡ length ms → m ≡ get_or ms i m → m ≡ x → mark_at ms i ≡ x
 read_mark ms i n m x h long e is = sym (get_or_read ms i m (omega arith) e New) ∙ is
 
-pub read_parts : (ns : List Node) (i : ℕ) (x : Node) (p : Parts) → i < length ns → x ≡ get_or ns i x → p ≡ parts_of x → parts_of (node_at ns i) ≡ p
-read_parts ns i x p h e is = sym (is ∙ ap parts_of (read ns i x h e))
+pub read_parts : (ns : List Node) (i : ℕ) (x : Node) (p : Parts) → i < length ns → x ≡ get_or ns i x → p ≡ node_parts x → node_parts (node_at ns i) ≡ p
+read_parts ns i x p h e is = sym (is ∙ ap node_parts (read ns i x h e))
 
 pub begins : (ns : List Node) (old : List Mark) (order : List ℕ) (at n : ℕ) → IsGraph ns → at < length ns → n ≡ length ns → n ≡ length old → IsWalk ns old order → AreAbove ns old at → mark_at old at ≡ New → Begins ns old order at
 begins ns old order at n graph here marked long w above fresh =

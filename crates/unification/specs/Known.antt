@@ -35,11 +35,11 @@ product_of (Some a) (Some b) = Some (ty.Pair a b)
 product_of _ _ = None
 
 -- the type of a term, where all its variables have one
-abbrev pub closed : List (Option Ty) → Open → Option Ty
-closed ts integers = Some ty.Int
-closed ts booleans = Some ty.Bool
-closed ts predicates = Some ty.Truth
-closed ts (carrier name) = Some (ty.Given name)
-closed ts (variable i) = type_at ts i
-closed ts (powerset a) = powerset_of (closed ts a)
-closed ts (product a b) = product_of (closed ts a) (closed ts b)
+abbrev pub closed_type : List (Option Ty) → Open → Option Ty
+closed_type ts integers = Some ty.Int
+closed_type ts booleans = Some ty.Bool
+closed_type ts predicates = Some ty.Truth
+closed_type ts (carrier name) = Some (ty.Given name)
+closed_type ts (variable i) = type_at ts i
+closed_type ts (powerset a) = powerset_of (closed_type ts a)
+closed_type ts (product a b) = product_of (closed_type ts a) (closed_type ts b)

@@ -25,11 +25,11 @@ form_of k (Pow a) = powerset (variable a)
 form_of k (Pair a b) = product (variable a) (variable b)
 form_of k (Same a) = variable a
 
-abbrev pub parts_of : Node → Parts
-parts_of (Pow a) = One a
-parts_of (Pair a b) = Two a b
-parts_of (Same a) = One a
-parts_of _ = Zero
+abbrev pub node_parts : Node → Parts
+node_parts (Pow a) = One a
+node_parts (Pair a b) = Two a b
+node_parts (Same a) = One a
+node_parts _ = Zero
 
 abbrev pub AllParts : (ℕ → Type 0) → Parts → Type 0
 AllParts P Zero = Unit {0}
@@ -49,23 +49,23 @@ abbrev pub Holds : (ℕ → Ty) → List Node → Type 0
 Holds u ns = (k : ℕ) → u k ≡ value u (form_of k (node_at ns k))
 
 -- the parts of a form lie in the list, and a link leads to a place before it
-abbrev pub Fits : ℕ → ℕ → Node → Type 0
-Fits n k (Pow a) = a < n
-Fits n k (Pair a b) = (a < n) × (b < n)
-Fits n k (Same a) = a < k
-Fits n k _ = Unit {0}
+abbrev pub FitsInGraph : ℕ → ℕ → Node → Type 0
+FitsInGraph n k (Pow a) = a < n
+FitsInGraph n k (Pair a b) = (a < n) × (b < n)
+FitsInGraph n k (Same a) = a < k
+FitsInGraph n k _ = Unit {0}
 
 abbrev pub IsGraph : List Node → Type 0
-IsGraph ns = (k : ℕ) → Fits (length ns) k (node_at ns k)
+IsGraph ns = (k : ℕ) → FitsInGraph (length ns) k (node_at ns k)
 
 -- how many places are no links
-abbrev pub weight : Node → ℕ
-weight (Same a) = 0
-weight _ = 1
+abbrev pub node_weight : Node → ℕ
+node_weight (Same a) = 0
+node_weight _ = 1
 
 abbrev pub unlinked : List Node → ℕ
 unlinked [] = 0
-unlinked (n ∷ ns) = weight n + unlinked ns
+unlinked (n ∷ ns) = node_weight n + unlinked ns
 
 -- the same types at the same places, by other links
 pub record Alike (old new : List Node) : Type 0 where
@@ -97,11 +97,11 @@ abbrev pub AreInside : ℕ → List (ℕ × ℕ) → Type 0
 AreInside n [] = Unit {0}
 AreInside n (p ∷ ps) = (p.0 < n) × (p.1 < n) × AreInside n ps
 
-abbrev pub Adds : Meeting → List (ℕ × ℕ) → List (ℕ × ℕ) → Type 0
-Adds meeting.Agree old new = new ≡ old
-Adds meeting.Never old new = ⊥
-Adds (meeting.One a b) old new = new ≡ old ++ (a, b) ∷ []
-Adds (meeting.Two a b c d) old new = new ≡ (old ++ (a, b) ∷ []) ++ (c, d) ∷ []
+abbrev pub AddsPairs : Meeting → List (ℕ × ℕ) → List (ℕ × ℕ) → Type 0
+AddsPairs meeting.Agree old new = new ≡ old
+AddsPairs meeting.Never old new = ⊥
+AddsPairs (meeting.One a b) old new = new ≡ old ++ (a, b) ∷ []
+AddsPairs (meeting.Two a b c d) old new = new ≡ (old ++ (a, b) ∷ []) ++ (c, d) ∷ []
 
 -- two places became one, and their parts are pairs that are left
 pub record Joins (low high : ℕ) (old : List Node) (rest : List (ℕ × ℕ)) (new : List Node) (pairs : List (ℕ × ℕ)) : Type 0 where
@@ -122,15 +122,15 @@ pub record Merges (old : List Node) (pairs : List (ℕ × ℕ)) (new : List Node
   pub free : (k : ℕ) → node_at new k ≡ Free → node_at old k ≡ Free
 
 -- how many variables there are up to the greatest one
-abbrev pub variables_of : Open → ℕ
-variables_of (variable i) = i + 1
-variables_of (powerset a) = variables_of a
-variables_of (product a b) = max (variables_of a) (variables_of b)
-variables_of _ = 0
+abbrev pub variable_count : Open → ℕ
+variable_count (variable i) = i + 1
+variable_count (powerset a) = variable_count a
+variable_count (product a b) = max (variable_count a) (variable_count b)
+variable_count _ = 0
 
 abbrev pub variables_in : List Equality → ℕ
 variables_in [] = 0
-variables_in (e ∷ es) = max (max (variables_of e.0) (variables_of e.1)) (variables_in es)
+variables_in (e ∷ es) = max (max (variable_count e.0) (variable_count e.1)) (variables_in es)
 
 -- types of all places that have these types at the free ones
 pub record Extension (v : ℕ → Ty) (ns : List Node) : Type 0 where
@@ -139,19 +139,19 @@ pub record Extension (v : ℕ → Ty) (ns : List Node) : Type 0 where
   pub same : (k : ℕ) → node_at ns k ≡ Free → types k ≡ v k
 
 -- more places, whose types follow from those that were there
-pub record Grows (old new : List Node) : Type 0 where
+pub record ExtendsGraph (old new : List Node) : Type 0 where
   pub graph : IsGraph new
   pub long : length old ≤ length new
   pub before : (k : ℕ) → k < length old → node_at new k ≡ node_at old k
   pub extends : (v : ℕ → Ty) → Extension v old → Extension v new
 
 -- a place that has the type of a term
-pub record StandsFor (ns : List Node) (place : ℕ) (t : Open) : Type 0 where
+pub record StandsForTerm (ns : List Node) (place : ℕ) (t : Open) : Type 0 where
   pub inside : place < length ns
   pub same : (u : ℕ → Ty) → Holds u ns → u place ≡ value u t
 
 -- pairs of places that say what the equations say
-pub record Builds (es : List Equality) (old new : List Node) (pairs : List (ℕ × ℕ)) : Type 0 where
-  pub grown : Grows old new
+pub record BuildsGraph (es : List Equality) (old new : List Node) (pairs : List (ℕ × ℕ)) : Type 0 where
+  pub grown : ExtendsGraph old new
   pub inside : AreInside (length new) pairs
   pub same : (u : ℕ → Ty) → Holds u new → AllSame u pairs ↔ Solves u es

@@ -9,7 +9,7 @@ use Rattle.unification.specs.declared.graph.Node.{Node}
 use Rattle.unification.specs.declared.graph.Node.TheVariants.{Free, Int, Bool as BoolN, Truth, Given, Pow, Pair, Same}
 use Rattle.unification.specs.declared.ordering.Mark.{Mark}
 use Rattle.unification.specs.declared.ordering.Mark.TheVariants.{New, Open, Done}
-use Rattle.unification.specs.PrivateGraph.{node_at, form_of, parts_of, AllParts, Holds}
+use Rattle.unification.specs.PrivateGraph.{node_at, form_of, node_parts, AllParts, Holds}
 use Rattle.unification.specs.Terms.{value}
 use Rattle.unification.specs.Known.{type_at, powerset_of, product_of}
 
@@ -25,12 +25,12 @@ depth = fold-Ty ℕ depth_step
 abbrev pub mark_at : List Mark → ℕ → Mark
 mark_at ms k = slice_index_or ms k New
 
-abbrev pub place_at : List ℕ → ℕ → ℕ
-place_at order m = slice_index_or order m 0
+abbrev pub ordered_at : List ℕ → ℕ → ℕ
+ordered_at order m = slice_index_or order m 0
 
 -- a place among the first `m`
-abbrev pub IsListed : List ℕ → ℕ → ℕ → Type 0
-IsListed order m k = (j : ℕ) × (j < m) × (place_at order j ≡ k)
+abbrev pub IsAmongFirst : List ℕ → ℕ → ℕ → Type 0
+IsAmongFirst order m k = (j : ℕ) × (j < m) × (ordered_at order j ≡ k)
 
 -- one that follows after another on every way through forms to their parts
 abbrev pub IsUnder : (ℕ → Ty) → ℕ → ℕ → Type 0
@@ -50,14 +50,14 @@ pub record Model (ns : List Node) (ms : List Mark) (d : Ty) : Type 0 where
 
 -- Each place of the order comes after those of its parts.
 pub record IsInOrder (ns : List Node) (order : List ℕ) : Type 0 where
-  pub inside : (m : ℕ) → m < length order → place_at order m < length ns
-  pub parts : (m : ℕ) → m < length order → AllParts (IsListed order m) (parts_of (node_at ns (place_at order m)))
+  pub inside : (m : ℕ) → m < length order → ordered_at order m < length ns
+  pub parts : (m : ℕ) → m < length order → AllParts (IsAmongFirst order m) (node_parts (node_at ns (ordered_at order m)))
 
 -- how far the walk has come
 pub record IsWalk (ns : List Node) (ms : List Mark) (order : List ℕ) : Type 0 where
   pub ordered : IsInOrder ns order
-  pub listed : (k : ℕ) → mark_at ms k ≡ Done → IsListed order (length order) k
-  pub parts : (k : ℕ) → mark_at ms k ≡ Done → AllParts (λ a. mark_at ms a ≡ Done) (parts_of (node_at ns k))
+  pub listed : (k : ℕ) → mark_at ms k ≡ Done → IsAmongFirst order (length order) k
+  pub parts : (k : ℕ) → mark_at ms k ≡ Done → AllParts (λ a. mark_at ms a ≡ Done) (node_parts (node_at ns k))
   pub model : (d : Ty) → Model ns ms d
 
 -- marks change from new to done alone
@@ -68,7 +68,7 @@ pub record Advances (old new : List Mark) : Type 0 where
 -- an order of all places
 pub record IsOrder (ns : List Node) (order : List ℕ) : Type 0 where
   pub ordered : IsInOrder ns order
-  pub all : (k : ℕ) → k < length ns → IsListed order (length order) k
+  pub all : (k : ℕ) → k < length ns → IsAmongFirst order (length order) k
 
 -- types that hold, where each free place has this one
 pub record Solution (ns : List Node) (d : Ty) : Type 0 where

@@ -52,13 +52,13 @@ abbrev pub open_of : Ty → Open
 open_of = fold-Ty Open open_of_step
 
 -- a type scheme, whose letters are four variables from `n` on
-abbrev pub instance : ℕ → Scheme → Open
-instance n scheme.alpha = variable n
-instance n scheme.beta = variable (n + 1)
-instance n scheme.gamma = variable (n + 2)
-instance n scheme.delta = variable (n + 3)
-instance n scheme.integer = integers
-instance n scheme.boolean = booleans
-instance n scheme.truth = predicates
-instance n (scheme.power a) = powerset (instance n a)
-instance n (scheme.pair a b) = product (instance n a) (instance n b)
+abbrev pub instance_from : ℕ → Scheme → Open
+instance_from n scheme.alpha = variable n
+instance_from n scheme.beta = variable (n + 1)
+instance_from n scheme.gamma = variable (n + 2)
+instance_from n scheme.delta = variable (n + 3)
+instance_from n scheme.integer = integers
+instance_from n scheme.boolean = booleans
+instance_from n scheme.truth = predicates
+instance_from n (scheme.power a) = powerset (instance_from n a)
+instance_from n (scheme.pair a b) = product (instance_from n a) (instance_from n b)

@@ -1,7 +1,7 @@
 ghost use Rattle.std.specs.Prelude.{◌≡◌, ◌≤◌, [], ◌∷◌, ◌++◌, IfOk, OnOk, vec_len, replicate};
 ghost use Rattle.unification.specs.Terms.{term_of};
 ghost use Rattle.unification.specs.Solutions.{equations_of};
-ghost use Rattle.unification.specs.PrivateGraph.{variables_in, variables_of, IsGraph, Grows, StandsFor, Builds};
+ghost use Rattle.unification.specs.PrivateGraph.{variables_in, variable_count, IsGraph, ExtendsGraph, StandsForTerm, BuildsGraph};
 
 use crate::equations::Equation;
 use crate::graph::Node;
@@ -44,9 +44,9 @@ fn push(nodes: &mut Vec<Node>, node: Node) -> Result<usize, OutOfMemory>
 /// A place that has the type that the term stands for.
 fn place_term(nodes: &mut Vec<Node>, term: Term) -> Result<usize, OutOfMemory>
     requires graph { IsGraph nodes.old.items }
-    requires room { variables_of (term_of term) ≤ vec_len nodes.old }
-    ensures grown { OnOk result (Grows nodes.old.items nodes.new.items) }
-    ensures stands { IfOk result (λ place. StandsFor nodes.new.items place (term_of term)) }
+    requires room { variable_count (term_of term) ≤ vec_len nodes.old }
+    ensures grown { OnOk result (ExtendsGraph nodes.old.items nodes.new.items) }
+    ensures stands { IfOk result (λ place. StandsForTerm nodes.new.items place (term_of term)) }
 {
     match term {
         Term::Var(i) => Ok(i as usize),
@@ -74,7 +74,7 @@ pub(crate) fn place_equations(
 ) -> Result<Vec<(usize, usize)>, OutOfMemory>
     requires graph { IsGraph nodes.old.items }
     requires room { variables_in (equations_of equations.items) ≤ vec_len nodes.old }
-    ensures { IfOk result (λ pairs. Builds (equations_of equations.items) nodes.old.items nodes.new.items pairs.items) }
+    ensures { IfOk result (λ pairs. BuildsGraph (equations_of equations.items) nodes.old.items nodes.new.items pairs.items) }
 {
     let mut pending = equations;
     let mut pairs = Vec::new(alloc);

@@ -1,7 +1,7 @@
 ghost use Rattle.std.specs.Prelude.{◌≡◌, ℕ, ◌<◌, ◌==◌, if◌then◌else◌, IfOk, OnOk, Some, length, vec_len};
 ghost use Rattle.std.specs.Option.{option_copied};
 ghost use Rattle.unification.specs.Terms.{term_of};
-ghost use Rattle.unification.specs.Known.{type_at, closed};
+ghost use Rattle.unification.specs.Known.{type_at, closed_type};
 ghost use Rattle.unification.specs.PrivateOrder.{closed_form, IsOrder, TypeFits};
 
 use crate::graph::Node;
@@ -21,7 +21,7 @@ pub fn type_of(types: &[Option<Ty>], i: u32) -> Option<&Ty>
 
 /// The type that a term stands for, where all its variables have one.
 pub fn close(alloc: Global, types: &[Option<Ty>], term: &Term) -> Result<Option<Ty>, OutOfMemory>
-    ensures { IfOk result (λ t. t ≡ closed types.now (term_of term.now)) }
+    ensures { IfOk result (λ t. t ≡ closed_type types.now (term_of term.now)) }
 {
     match term {
         Term::Int => Ok(Some(Ty::Int)),

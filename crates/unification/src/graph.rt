@@ -1,6 +1,6 @@
 ghost use Rattle.std.specs.Prelude.{◌≡◌, ◌<◌, ℕ, None, Some, slice_set, vec_len};
 ghost use Rattle.formula_core.specs.declared.ty.Ty.{Ty};
-ghost use Rattle.unification.specs.PrivateGraph.{node_at, link_of, parts_of, IsGraph, Holds, Alike};
+ghost use Rattle.unification.specs.PrivateGraph.{node_at, link_of, node_parts, IsGraph, Holds, Alike};
 
 use formula_core::Name;
 use std::mem;
@@ -27,7 +27,7 @@ pub(crate) enum Parts {
 }
 
 pub(crate) fn places_in(node: &Node) -> Parts
-    ensures { result ≡ parts_of node.now }
+    ensures { result ≡ node_parts node.now }
 {
     match node {
         Node::Free => Parts::Zero,

@@ -1,6 +1,6 @@
 ghost use Rattle.std.specs.Prelude.{◌≡◌, ◌≢◌, ◌<◌, ℕ, None, IsErrOf, OnOk, vec_len};
 ghost use Rattle.formula_core.specs.declared.ty.Ty.{Ty};
-ghost use Rattle.unification.specs.PrivateGraph.{node_at, link_of, is_free, meeting_of, Adds, AllSame, AreInside, IsGraph, Holds, Joins, Merges};
+ghost use Rattle.unification.specs.PrivateGraph.{node_at, link_of, is_free, meeting_of, AddsPairs, AllSame, AreInside, IsGraph, Holds, Joins, Merges};
 
 use crate::equations::SolveFault;
 use crate::graph::{Node, put, replace_by_link, root};
@@ -64,7 +64,7 @@ fn meet(known: &Node, other: &Node) -> Meeting
 
 /// Adds the pairs of parts that are to be of one type.
 fn add_pairs(pairs: &mut Vec<(usize, usize)>, meeting: Meeting) -> Result<(), SolveFault>
-    ensures added { OnOk result (Adds meeting pairs.old.items pairs.new.items) }
+    ensures added { OnOk result (AddsPairs meeting pairs.old.items pairs.new.items) }
     ensures refused { IsErrOf result SolveFault.NoSolution → meeting ≡ Meeting.Never }
 {
     match meeting {

@@ -1,5 +1,5 @@
 ghost use Rattle.std.specs.Prelude.{◌≡◌, ◌≤◌, ◌<◌, ℕ, [], ◌∷◌, ◌++◌, IfOk, OnOk, IsErrOf, length, slice_set, vec_len};
-ghost use Rattle.unification.specs.PrivateGraph.{parts_of, AllParts, IsGraph};
+ghost use Rattle.unification.specs.PrivateGraph.{node_parts, AllParts, IsGraph};
 ghost use Rattle.unification.specs.PrivateOrder.{mark_at, sort_of, IsWalk, Advances, AreAbove, HasNoModel, IsOrder, HasModels, HasSorts, HasWrongSort};
 
 use crate::equations::SolveFault;
@@ -127,7 +127,7 @@ fn all_true(alloc: Global, count: usize) -> Result<Vec<bool>, SolveFault>
 
 /// Whether a form is that of a type of values, where this is known of its parts.
 fn is_proper(sorts: &[bool], node: &Node) -> bool
-    requires { AllParts (λ a. a < length sorts.now) (parts_of node.now) }
+    requires { AllParts (λ a. a < length sorts.now) (node_parts node.now) }
     ensures { result ≡ sort_of sorts.now node.now }
 {
     match node {

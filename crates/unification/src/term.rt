@@ -1,6 +1,6 @@
 ghost use Rattle.std.specs.Prelude.{◌≡◌, ◌+◌, ◌<◌, ◌^◌, IfOk};
-ghost use Rattle.unification.specs.Terms.{term_of, open_of, instance, variable, powerset, product};
-ghost use Rattle.unification.specs.PrivateGraph.{variables_of};
+ghost use Rattle.unification.specs.Terms.{term_of, open_of, instance_from, variable, powerset, product};
+ghost use Rattle.unification.specs.PrivateGraph.{variable_count};
 ghost use Rattle.formula_core.specs.SchemeView.{scheme_of, letter_of};
 
 use formula_core::{Letter, Name, OutOfMemory, Scheme, Ty};
@@ -60,7 +60,7 @@ impl Term {
     #[tactic(auto, using(formula_core::proofs::SchemeView::scheme_equations))]
     pub fn of_scheme(alloc: Global, scheme: &Scheme, first: u32) -> Result<Term, OutOfMemory>
         requires { first + 3 < 2 ^ 32 }
-        ensures { IfOk result (λ t. term_of t ≡ instance first (scheme_of scheme.now)) }
+        ensures { IfOk result (λ t. term_of t ≡ instance_from first (scheme_of scheme.now)) }
     {
         match scheme {
             Scheme::Any(letter) => Ok(Term::Var(letter_variable(*letter, first))),
@@ -78,7 +78,7 @@ impl Term {
 
     /// How many variables there are up to its greatest one.
     pub(crate) fn variables(&self) -> usize
-        ensures { result ≡ variables_of (term_of self.now) }
+        ensures { result ≡ variable_count (term_of self.now) }
     {
         match self {
             Term::Int => 0,
@@ -107,7 +107,7 @@ fn pair(alloc: Global, left: Term, right: Term) -> Result<Term, OutOfMemory>
 
 fn letter_variable(letter: Letter, first: u32) -> u32
     requires { first + 3 < 2 ^ 32 }
-    ensures { variable result ≡ instance first (letter_of letter) }
+    ensures { variable result ≡ instance_from first (letter_of letter) }
 {
     match letter {
         Letter::Alpha => first,

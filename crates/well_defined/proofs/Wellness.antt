@@ -14,7 +14,7 @@ use Rattle.formula_core.specs.declared.formula.Formula.{Formula}
 use Rattle.formula_core.specs.declared.formula.Formula.TheVariants.{Int, Free, Bound, Node, Bind}
 use Rattle.formula_core.specs.Types.{same_type, is_value_type, is_truth, is_integer, relation, if_set, if_relation, is_set_of, is_relation_of}
 use Rattle.formula_core.specs.Rows.{row_of}
-use Rattle.formula_core.specs.TypeTable.{fits, binder_fits}
+use Rattle.formula_core.specs.TypeTable.{row_fits, binder_fits}
 use Rattle.formula_core.specs.Shifting.{shifted}
 use Rattle.formula_core.specs.Wellness.{type_of, may_be_bound, is_well_in, is_well}
 use Rattle.formula_core.specs.WholeSets.{whole_set}
@@ -39,13 +39,13 @@ same_predicate : (bound : List Ty) (f g : Formula) → f ≡ g → IsPredicate b
 same_predicate bound f g e h = (ap (λ f. is_truth (type_of f)) e ∙ h.0, ap (λ f. is_well_in f bound) e ∙ h.1)
 
 module _ (bound : List Ty) where
-  one_is : (o : Op) (a : Formula) → is_well_in a bound ≡ true → fits (row_of o) (type_of a ∷ []) ty.Truth ≡ true → IsPredicate bound (predicate o (a ∷ []))
+  one_is : (o : Op) (a : Formula) → is_well_in a bound ≡ true → row_fits (row_of o) (type_of a ∷ []) ty.Truth ≡ true → IsPredicate bound (predicate o (a ∷ []))
   one_is o a w h = (
     ap is_truth (type-Node o (a ∷ []) ty.Truth) ∙ truth,
     well-Node o (a ∷ []) ty.Truth bound ∙ both_true _ _ (both_true _ _ w refl) h,
   )
 
-  two_are : (o : Op) (a b : Formula) → is_well_in a bound ≡ true → is_well_in b bound ≡ true → fits (row_of o) (type_of a ∷ type_of b ∷ []) ty.Truth ≡ true
+  two_are : (o : Op) (a b : Formula) → is_well_in a bound ≡ true → is_well_in b bound ≡ true → row_fits (row_of o) (type_of a ∷ type_of b ∷ []) ty.Truth ≡ true
       → IsPredicate bound (predicate o (a ∷ b ∷ []))
   two_are o a b v w h = (
     ap is_truth (type-Node o (a ∷ b ∷ []) ty.Truth) ∙ truth,
@@ -57,11 +57,11 @@ module _ (bound : List Ty) where
 
   connected : (o : Op) → row_of o ≡ Binary Connective → (p q : Formula) → IsPredicate bound p → IsPredicate bound q → IsPredicate bound (predicate o (p ∷ q ∷ []))
   connected o e p q g h =
-      two_are o p q g.1 h.1 (ap (λ r. fits r (type_of p ∷ type_of q ∷ []) ty.Truth) e ∙ both_true _ _ (both_true _ _ g.0 h.0) truth)
+      two_are o p q g.1 h.1 (ap (λ r. row_fits r (type_of p ∷ type_of q ∷ []) ty.Truth) e ∙ both_true _ _ (both_true _ _ g.0 h.0) truth)
 
   compared : (o : Op) → row_of o ≡ Binary Comparison → (e f : Formula) → is_well_in e bound ≡ true → is_integer (type_of e) ≡ true → is_well_in f bound ≡ true → is_integer (type_of f) ≡ true
       → IsPredicate bound (predicate o (e ∷ f ∷ []))
-  compared o r e f v i w j = two_are o e f v w (ap (λ r. fits r (type_of e ∷ type_of f ∷ []) ty.Truth) r ∙ both_true _ _ (both_true _ _ i j) truth)
+  compared o r e f v i w j = two_are o e f v w (ap (λ r. row_fits r (type_of e ∷ type_of f ∷ []) ty.Truth) r ∙ both_true _ _ (both_true _ _ i j) truth)
 
   differ : (e f : Formula) → is_well_in e bound ≡ true → is_well_in f bound ≡ true → is_value_type (type_of e) ≡ true → same_type (type_of f) (type_of e) ≡ true → IsPredicate bound (unequal e f)
   differ e f v w value same =
@@ -227,7 +227,7 @@ applicable_at bound f e t (Some r) is value h v w = applies bound f e r.0 r.1 (r
 
 -- the condition of an operator itself
 module _ (bound : List Ty) where
-  unary_is : (o : Op) (s : Formula) (t : Ty) → is_well_in s bound ≡ true → fits (row_of o) (type_of s ∷ []) t ≡ true → IsPredicate bound (unary_condition o s)
+  unary_is : (o : Op) (s : Formula) (t : Ty) → is_well_in s bound ≡ true → row_fits (row_of o) (type_of s ∷ []) t ≡ true → IsPredicate bound (unary_condition o s)
   unary_is op.Cardinality s t w h = let set = if_set_is (type_of s) is_value_type (first_true _ _ h) in is_finite bound s set.0 set.1 set.2 w
   unary_is op.Minimum s t w h =
       let set = if_set_is (type_of s) is_integer (first_true _ _ h) in has_least bound s (set.1 ∙ ap ty.Pow (integer_exact set.0 set.2)) w
@@ -238,7 +238,7 @@ module _ (bound : List Ty) where
       has_member bound s set.0 set.1 (sym (value-Pow set.0) ∙ sym (ap is_value_type set.1) ∙ first_true _ _ h) w
   unary_is _ s t w h = top_is bound
 
-  binary_is : (o : Op) (e f : Formula) (t : Ty) → is_well_in e bound ≡ true → is_well_in f bound ≡ true → fits (row_of o) (type_of e ∷ type_of f ∷ []) t ≡ true
+  binary_is : (o : Op) (e f : Formula) (t : Ty) → is_well_in e bound ≡ true → is_well_in f bound ≡ true → row_fits (row_of o) (type_of e ∷ type_of f ∷ []) t ≡ true
       → IsPredicate bound (binary_condition o e f)
   binary_is op.Divide e f t v w h = not_zero bound f w (second_true (is_integer (type_of e)) _ (first_true _ _ h))
   binary_is op.Modulo e f t v w h =
@@ -251,24 +251,24 @@ module _ (bound : List Ty) where
   binary_is op.Apply f e t v w h = applicable_at bound f e t (relation (type_of f)) refl (first_true _ _ h) (second_true (is_value_type (type_of f)) _ h) v w
   binary_is _ e f t v w h = top_is bound
 
-  own_is : (o : Op) (parts : List Formula) (t : Ty) → list_all (λ f. is_well_in f bound) parts ≡ true → fits (row_of o) (map type_of parts) t ≡ true → IsPredicate bound (own_condition o parts)
+  own_is : (o : Op) (parts : List Formula) (t : Ty) → list_all (λ f. is_well_in f bound) parts ≡ true → row_fits (row_of o) (map type_of parts) t ≡ true → IsPredicate bound (own_condition o parts)
   own_is o [] t w h = top_is bound
   own_is o (s ∷ []) t w h = unary_is o s t (first_true _ _ w) h
   own_is o (e ∷ f ∷ []) t w h = binary_is o e f t (first_true _ _ w) (first_true _ _ (second_true (is_well_in e bound) _ w)) h
   own_is o (p ∷ q ∷ r ∷ parts) t w h = top_is bound
 
   -- the operands of a connective are predicates
-  operands_are : (o : Op) (parts : List Formula) (t : Ty) → list_all (λ f. is_well_in f bound) parts ≡ true → fits (row_of o) (map type_of parts) t ≡ true → row_of o ≡ Binary Connective
+  operands_are : (o : Op) (parts : List Formula) (t : Ty) → list_all (λ f. is_well_in f bound) parts ≡ true → row_fits (row_of o) (map type_of parts) t ≡ true → row_of o ≡ Binary Connective
       → AllByRecursion (IsPredicate bound) parts
   operands_are o (p ∷ q ∷ []) t w h e =
-      let k : (is_truth (type_of p) && is_truth (type_of q) && is_truth t) ≡ true = ap (λ r. fits r (type_of p ∷ type_of q ∷ []) t) (sym e) ∙ h in
+      let k : (is_truth (type_of p) && is_truth (type_of q) && is_truth t) ≡ true = ap (λ r. row_fits r (type_of p ∷ type_of q ∷ []) t) (sym e) ∙ h in
       let l : (is_truth (type_of p) && is_truth (type_of q)) ≡ true = first_true _ _ k in (
         (first_true _ _ l, first_true _ _ w),
         ((second_true (is_truth (type_of p)) _ l, first_true _ _ (second_true (is_well_in p bound) _ w)), tt),
       )
   operands_are o [] t w h e = tt
-  operands_are o (p ∷ []) t w h e = let never : false ≡ true = ap (λ r. fits r (type_of p ∷ []) t) (sym e) ∙ h in cc
-  operands_are o (p ∷ q ∷ r ∷ parts) t w h e = let never : false ≡ true = ap (λ row. fits row (map type_of (p ∷ q ∷ r ∷ parts)) t) (sym e) ∙ h in cc
+  operands_are o (p ∷ []) t w h e = let never : false ≡ true = ap (λ r. row_fits r (type_of p ∷ []) t) (sym e) ∙ h in cc
+  operands_are o (p ∷ q ∷ r ∷ parts) t w h e = let never : false ≡ true = ap (λ row. row_fits row (map type_of (p ∷ q ∷ r ∷ parts)) t) (sym e) ∙ h in cc
 
 -- the condition of a binder
 first_part : (b : Binder) (p e t : Ty) → binder_fits b (p ∷ e ∷ []) t ≡ true → is_truth p ≡ true
@@ -309,9 +309,9 @@ conditions_are bound (p ∷ parts) each w = (each.0 bound (first_true _ _ w), co
 
 at_node : (o : Op) (parts : List Formula) (t : Ty) → AllByRecursion HasWellCondition parts → HasWellCondition (Node o parts t)
 at_node o parts t each bound h =
-    let k : (list_all (λ f. is_well_in f bound) parts && fits (row_of o) (map type_of parts) t) ≡ true = sym (well-Node o parts t bound) ∙ h in
+    let k : (list_all (λ f. is_well_in f bound) parts && row_fits (row_of o) (map type_of parts) t) ≡ true = sym (well-Node o parts t bound) ∙ h in
     let w : list_all (λ f. is_well_in f bound) parts ≡ true = first_true _ _ k in
-    let fit : fits (row_of o) (map type_of parts) t ≡ true = second_true (list_all (λ f. is_well_in f bound) parts) _ k in
+    let fit : row_fits (row_of o) (map type_of parts) t ≡ true = second_true (list_all (λ f. is_well_in f bound) parts) _ k in
     same_predicate bound (wd_of (Node o parts t)) (conjoined (operands_condition o parts (map wd_of parts)) (own_condition o parts)) (wd-Node o parts t)
     (conjoined_keeps (IsPredicate bound) (top_is bound) (connected bound) (operands_condition o parts (map wd_of parts)) (own_condition o parts)
     (operands_keep (IsPredicate bound) (top_is bound) (connected bound) o parts (map wd_of parts) (operands_are bound o parts t w fit) (conditions_are bound parts each w))

@@ -1,7 +1,7 @@
 use Rattle.std.proofs.Common.{sym, subst, map}
 use Rattle.std.specs.Arc.{arc_value}
 use Rattle.build_core.specs.Tables.{faults_in, warnings_in}
-use Rattle.build_core.specs.Private.{HasPlaces}
+use Rattle.build_core.specs.Private.{IndexesTable}
 use Rattle.build_core.specs.PrivateBuilders.{IsBuilt}
 use Rattle.build_core.proofs.Whole.{whole_given}
 use Rattle.build_core.proofs.incremental.build_from.Goals as goal
@@ -23,7 +23,7 @@ invariant_of-result g c =
       judged = judged.judged;
       owns = c.in_ok-owns.ensures.owns;
       table = c.in_ok-owns.ensures.table;
-      placed = subst (λ os. HasPlaces (map arc_value os) places) c.deref.ensures.value c.in_ok-places.ensures;
+      placed = subst (λ os. IndexesTable (map arc_value os) places) c.deref.ensures.value c.in_ok-places.ensures;
       fits = c.in_ok-owns.ensures.fits;
       faults = whole_given project components outcomes judged faults_in faults c.in_ok-faults.ensures;
       warnings = whole_given project components outcomes judged warnings_in warnings c.in_ok-warnings.ensures;

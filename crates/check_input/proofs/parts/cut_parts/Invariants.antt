@@ -1,5 +1,5 @@
 use Rattle.std.proofs.Common.{◌+◌, ◌≤◌, length}
-use Rattle.check_input.specs.Inputs.{parts_in}
+use Rattle.check_input.specs.Inputs.{input_parts}
 use Rattle.check_input.specs.PrivateCutting.{numbered_from}
 use Rattle.check_input.specs.PrivateParts.{AreNames}
 use Rattle.check_input.proofs.Faults.{AreBefore}
@@ -8,7 +8,7 @@ use Rattle.check_input.proofs.parts.cut_parts.Given as goal
 abbrev pub invariant-loop-piece : goal.invariant-loop-piece
 invariant-loop-piece l = record {
   seen : AreNames l.names l.parts.items;
-  before : AreBefore (parts_in l.text) l.parts.items (numbered_from l.rest.line l.rest.text.now);
+  before : AreBefore (input_parts l.text) l.parts.items (numbered_from l.rest.line l.rest.text.now);
   small : l.rest.line + length l.rest.text.now ≤ 67108865;
 }
 

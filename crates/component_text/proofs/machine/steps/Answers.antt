@@ -1,7 +1,7 @@
 use Rattle.std.proofs.Common.{refl, sym}
 use Rattle.component_text.specs.Forms.{limits}
 use Rattle.component_text.specs.Grammar.{is_a_label}
-use Rattle.component_text.specs.Machines.{Step, Steps}
+use Rattle.component_text.specs.Machines.{Step, ManySteps}
 use Rattle.component_text.proofs.Components.{exit_with}
 use Rattle.component_text.proofs.Refusing.{many_later, many_later_passes}
 use Rattle.component_text.proofs.Stops.{many_more, many_done, many_stop}
@@ -10,7 +10,7 @@ use Rattle.component_text.proofs.machine.steps.Goals as goal
 
 pub returns-in_err-step : goal.returns-in_err-step
 returns-in_err-step c =
-    exit_with Steps c.args.cursor.now c.step.new.cursor c.from_residual.result c.in_err-step.field-0.0 c.from_residual.ensures.1
+    exit_with ManySteps c.args.cursor.now c.step.new.cursor c.from_residual.result c.in_err-step.field-0.0 c.from_residual.ensures.1
     (many_stop is_a_label (Step) good_step refl step_takes c.args.cursor.now c.loop-alloc.cursor c.step.new.cursor c.in_err-step.field-0.0 (sym c.loop-alloc-test.ensures) c.in_err-step.ensures
     c.loop-alloc.invariant.refused c.loop-alloc.invariant.passed)
 

@@ -4,13 +4,13 @@ use Rattle.model_core.specs.declared.component.RawLabelled.{RawLabelled}
 use Rattle.component_text.specs.Marks.{Mark}
 use Rattle.component_text.specs.Forms.{limits}
 use Rattle.component_text.specs.Grammar.{Lines}
-use Rattle.component_text.specs.PrivateReading.{Refuses, Passes}
+use Rattle.component_text.specs.PrivateReading.{RefusesAt, Passes}
 use Rattle.component_text.proofs.parse.lines.Given as goal
 
 abbrev pub invariant-loop-alloc : goal.invariant-loop-alloc
 invariant-loop-alloc l = record {
   read : (xs : List RawLabelled) (rest : List Mark) → Lines limits l.cursor xs rest → Lines limits l.initial.cursor (l.lines.items ++ xs) rest;
-  refused : (rest : List Mark) → Refuses Lines l.cursor rest → Refuses Lines l.initial.cursor rest;
+  refused : (rest : List Mark) → RefusesAt Lines l.cursor rest → RefusesAt Lines l.initial.cursor rest;
   passed : (rest : List Mark) → Passes Lines l.cursor rest → Passes Lines l.initial.cursor rest;
 }
 

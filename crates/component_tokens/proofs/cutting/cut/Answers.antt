@@ -1,5 +1,5 @@
 use Rattle.std.proofs.Common.{◌≡◌, [], length, None, arith, append-nil, subst}
-use Rattle.component_tokens.specs.Pieces.{Cut, at_end, over_gap}
+use Rattle.component_tokens.specs.Pieces.{CutInto, at_end, over_gap}
 use Rattle.component_tokens.proofs.Walk.{gap_ends, piece_ends, one_more, stops}
 use Rattle.component_tokens.proofs.cutting.cut.Goals as goal
 
@@ -32,4 +32,4 @@ returns-in-Fault c = stops c.args.text.now c.loop-at.tokens.items c.in-Fault.fau
 pub returns : goal.returns
 returns c =
     let end : c.loop-at.at ≡ length c.args.text.now = omega (arith, c.loop-at.invariant.within, c.loop-at-test.false) in
-    subst (λ ts. Cut c.args.text.now 0 ts None) (append-nil c.loop-at.tokens.items) (c.loop-at.invariant.so_far [] None (at_end end))
+    subst (λ ts. CutInto c.args.text.now 0 ts None) (append-nil c.loop-at.tokens.items) (c.loop-at.invariant.so_far [] None (at_end end))

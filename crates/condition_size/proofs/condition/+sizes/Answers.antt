@@ -1,6 +1,6 @@
 use Rattle.std.proofs.Common.{◌≡◌, ◌∙◌, ap, ◌+◌, ◌-◌, ◌^◌, max, min, arith}
 use Rattle.std.proofs.lemmas.Grind.{common_steps}
-use Rattle.condition_size.specs.Sizes.{counted}
+use Rattle.condition_size.specs.Sizes.{clamped}
 use Rattle.condition_size.specs.Private.{conjoined_size, second_guarded_size, binary_size}
 use Rattle.condition_size.proofs.ConditionSizes.{asks_one, asks_two, binds_two, both_heights, both_nodes, one_item, two_items}
 use Rattle.condition_size.proofs.condition.+sizes.Goals as goal
@@ -14,7 +14,7 @@ sizes_of_parts-returns-in-len1-clause-condition t c =
 pub sizes_of_parts-returns-in-len2-clause-nodes : goal.sizes_of_parts-returns-in-len2-clause-nodes
 sizes_of_parts-returns-in-len2-clause-nodes t c =
     let is = two_items c.args.parts.now c.p-item.result c.q-item.result c.in-len2.len_at_least c.in-len2.len_below c.p-item.is c.q-item.is in
-    let sum : c.saturating_add.result ≡ counted (c.sizes-first.result.own.nodes + c.sizes-second.result.own.nodes) = grind (arith, common_steps) in
+    let sum : c.saturating_add.result ≡ clamped (c.sizes-first.result.own.nodes + c.sizes-second.result.own.nodes) = grind (arith, common_steps) in
     sum ∙ both_nodes c.args.parts.now c.p-item.result c.q-item.result c.sizes-first.result.own c.sizes-second.result.own is c.sizes-first.ensures.own c.sizes-second.ensures.own
 
 pub sizes_of_parts-returns-in-len2-clause-height : goal.sizes_of_parts-returns-in-len2-clause-height

@@ -4,14 +4,14 @@ use Rattle.model_core.specs.declared.checked.Checked.TheVariants.{Context}
 use Rattle.check_rules.specs.Contexts.{carrier_set, names_of}
 use Rattle.check_rules.specs.Visible.{entries, names}
 use Rattle.context_check.specs.Views.{placed, visible}
-use Rattle.context_check.specs.Private.{names_in}
+use Rattle.context_check.specs.Private.{placed_names}
 use Rattle.context_check.proofs.Contexts.{concluded}
 use Rattle.context_check.proofs.Distinct.{sets_distinct}
 use Rattle.context_check.proofs.context.check_axioms.Goals as goal
 
 pub context_env-requires : goal.context_env-requires
 context_env-requires c =
-    subst (λ ps. IsDistinct bytes_eq (names_in ps ++ names_of c.args.sets.now)) (sym c.deref.ensures.value)
+    subst (λ ps. IsDistinct bytes_eq (placed_names ps ++ names_of c.args.sets.now)) (sym c.deref.ensures.value)
     (sets_distinct (names (entries (visible c.args.view.now).constants)) c.args.sets.now c.args.constants.now c.requires)
 
 pub returns-in-Some : goal.returns-in-Some

@@ -4,11 +4,11 @@ use Rattle.check_rules.specs.Contexts.{names_of}
 use Rattle.check_rules.specs.Typed.{in_order}
 use Rattle.check_rules.specs.Visible.{entries, origins}
 use Rattle.context_check.specs.Views.{placed}
-use Rattle.context_check.specs.Private.{names_in}
+use Rattle.context_check.specs.Private.{placed_names}
 use Rattle.context_check.proofs.context.context_of.Goals as goal
 
 pub checked_env-requires : goal.checked_env-requires
-checked_env-requires c = subst (λ ps. IsDistinct bytes_eq (names_in ps ++ names_of (c.args.sets.now ++ c.args.constants.now))) (sym c.deref-4.ensures.value) c.requires
+checked_env-requires c = subst (λ ps. IsDistinct bytes_eq (placed_names ps ++ names_of (c.args.sets.now ++ c.args.constants.now))) (sym c.deref-4.ensures.value) c.requires
 
 pub returns : goal.returns
 returns c =

@@ -1,7 +1,7 @@
 use Rattle.std.proofs.Common.{◌∙◌, ap, sym, refl, map}
 use Rattle.std.proofs.lemmas.List.{take_all}
 use Rattle.model_core.specs.Faults.{first_by_place}
-use Rattle.check_rules.specs.Visible.{seen_from, clashing, identifiers, of_context}
+use Rattle.check_rules.specs.Visible.{seen_from, clashing, all_visible, of_context}
 use Rattle.context_check.specs.Views.{visible}
 use Rattle.context_check.proofs.Clashes.{told, now, borrowed_clash_more, borrowed_seen_more, all_clashes}
 use Rattle.context_check.proofs.Distinct.{distinct_more}
@@ -16,7 +16,7 @@ loop-at-preserved c =
     let w = visible c.loop-at.view in
     let context = c.index-contexts-at.result in
     let here =
-    c.in_ok-here.ensures ∙ ap (λ r. first_by_place (map (λ n. told c.args.component.now r.place n.0.0) (clashing (identifiers w) (of_context context.now)))) (sym c.index-references-at.is) in
+    c.in_ok-here.ensures ∙ ap (λ r. first_by_place (map (λ n. told c.args.component.now r.place n.0.0) (clashing (all_visible w) (of_context context.now)))) (sym c.index-references-at.is) in
     record {
       indexed = c.in_ok-add_context.ensures.indexed;
       seen = borrowed_seen_more v w (visible c.add_context.new.view) c.args.contexts.now c.loop-at.at context c.loop-at-test.true c.index-contexts-at.is c.loop-at.invariant.seen c.in_ok-add_context.ensures.seen;

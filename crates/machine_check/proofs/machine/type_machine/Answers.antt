@@ -3,7 +3,7 @@ use Rattle.std.specs.List.{filter}
 use Rattle.std.specs.Option.{option_copied}
 use Rattle.model_core.specs.Each.{is_among}
 use Rattle.model_core.specs.Faults.{earlier}
-use Rattle.check_rules.specs.Machines.{machine_of, own_names}
+use Rattle.check_rules.specs.Machines.{checked_machine_of, own_names}
 use Rattle.check_rules.specs.Visible.{entries}
 use Rattle.machine_check.specs.PrivateMachine.{written_of}
 use Rattle.context_check.specs.Views.{visible}
@@ -27,5 +27,5 @@ returns c =
     (c.in_ok-env.ensures ∙ ap (λ ks. entries v.constants ++ filter (λ e. is_among ks e.0) (entries v.variables)) c.abstract_variables-kept.ensures)
     (c.deref.ensures.value ∙ c.in_ok-wanted.ensures ∙ ap (λ ks. filter (λ n. not (is_among ks n)) (own_names w)) c.abstract_variables-kept.ensures)
     c.requires.all c.requires.events c.in_ok-invariants.ensures c.in_ok-untyped.ensures c.in_ok-variant.ensures c.in_ok-of_events.ensures.typed
-    (c.in_ok-typed.ensures ∙ ap (λ e. machine_of m w v e c.in_ok-invariants.invariants.typed.items c.in_ok-variant.variant.typed c.in_ok-of_events.of_events.typed.items) c.in_ok-of_events.ensures.kept)
+    (c.in_ok-typed.ensures ∙ ap (λ e. checked_machine_of m w v e c.in_ok-invariants.invariants.typed.items c.in_ok-variant.variant.typed c.in_ok-of_events.of_events.typed.items) c.in_ok-of_events.ensures.kept)
     (c.earlier-first.ensures ∙ ap (λ f. earlier f c.in_ok-of_events.of_events.first) (c.earlier-2.ensures ∙ ap (λ f. earlier f c.in_ok-variant.variant.first) c.earlier.ensures))

@@ -2,7 +2,7 @@ use Rattle.std.proofs.Common.{◌∙◌, ◌||◌, sym, ap, bytes_eq}
 use Rattle.model_core.specs.Each.{is_among}
 use Rattle.model_core.proofs.Lists.{any_append}
 use Rattle.check_rules.specs.Contexts.{names_of}
-use Rattle.check_rules.specs.Visible.{entries, identifiers, names}
+use Rattle.check_rules.specs.Visible.{entries, all_visible, names}
 use Rattle.context_check.specs.Texts.{has}
 use Rattle.context_check.specs.Views.{visible}
 use Rattle.machine_check.proofs.Machines.{filter_none}
@@ -11,7 +11,7 @@ use Rattle.machine_check.proofs.machine_names.all_names.Goals as goal
 
 pub returns : goal.returns
 returns c =
-    let seen = names (entries (identifiers (visible c.args.view.now))) in
+    let seen = names (entries (all_visible (visible c.args.view.now))) in
     λ x.
     c.in_ok-add_ref_names.ensures x
     ∙ ap (λ b. b || is_among (names_of c.args.variables.now) x)

@@ -8,7 +8,7 @@ use Rattle.check_rules.specs.Contexts.{labels_of}
 use Rattle.check_rules.specs.Declarations.{declared_twice, labelled_twice}
 use Rattle.check_rules.specs.Events.{event_declarations}
 use Rattle.check_rules.specs.Machines.{abstract_events, abstract_variables, own_names}
-use Rattle.check_rules.specs.Visible.{entries, identifiers, names}
+use Rattle.check_rules.specs.Visible.{entries, all_visible, names}
 use Rattle.machine_check.specs.PrivateMachine.{written_of}
 use Rattle.context_check.specs.Views.{visible}
 use Rattle.machine_check.proofs.Events.{four}
@@ -18,7 +18,7 @@ pub returns : goal.returns
 returns c =
     let m = option_copied c.args.abstraction in
     let w = written_of c.args.written.now in
-    let seen = names (entries (identifiers (visible c.args.view.now))) in
+    let seen = names (entries (all_visible (visible c.args.view.now))) in
     c.earlier-3.ensures ∙ ap (λ f. earlier f c.in_ok-in_events.in_events) (c.earlier-2.ensures ∙ ap (λ f. earlier f c.in_ok-event.event) c.earlier.ensures)
     ∙ (λ i. earlier (earlier (earlier
     ((c.in_ok-variable.ensures ∙ ap (λ ks. first_by_place (declared_twice w.name.name (filter (λ n. not (is_among ks n)) seen) w.variables)) c.abstract_variables-kept.ensures) i)

@@ -2,7 +2,7 @@ use Rattle.std.proofs.Common.{◌∙◌, ◌++◌, ◌||◌, ap, map, not}
 use Rattle.std.specs.List.{filter}
 use Rattle.model_core.specs.Each.{is_among}
 use Rattle.model_core.specs.Faults.{first_by_place}
-use Rattle.check_rules.specs.Visible.{entries, identifiers, names}
+use Rattle.check_rules.specs.Visible.{entries, all_visible, names}
 use Rattle.context_check.specs.Texts.{has, mark_of, ref_mark}
 use Rattle.context_check.specs.Views.{visible}
 use Rattle.context_check.proofs.Contexts.{nothing_more}
@@ -11,7 +11,7 @@ use Rattle.machine_check.proofs.machine_names.first_variable_twice.Goals as goal
 
 pub returns : goal.returns
 returns c =
-    let seen = names (entries (identifiers (visible c.args.view.now))) in
+    let seen = names (entries (all_visible (visible c.args.view.now))) in
     c.in_ok-first.ensures
     ∙ ap first_by_place (declared_from c.args.component.now (filter (λ n. not (is_among c.args.kept.now n)) seen) c.args.variables.now (λ x. has c.in_ok-known.known x || has c.new.result x) (map mark_of c.deref.result.now)
     (λ x. nothing_more (has c.in_ok-known.known x) (has c.new.result x) (is_among (filter (λ n. not (is_among c.args.kept.now n)) seen) x)

@@ -1,6 +1,6 @@
 use Rattle.std.proofs.Common.{rules, arith, ◌≡◌, ◌∙◌, ap, sym, ◌-◌, ◌++◌, ◌∷◌, [], false, map, string_bytes}
-use Rattle.math_print.specs.Characters.{bytes, comma_after, separated}
-use Rattle.math_print.specs.Printing.{printed, bind_text, name_at, body_text, operand, operator_text}
+use Rattle.math_print.specs.Characters.{bytes, comma_text, separated_texts}
+use Rattle.math_print.specs.Printing.{printed, bind_text, name_at, body_text, operand_text, operator_text}
 use Rattle.math_print.specs.Private.{with_texts}
 use Rattle.math_print.specs.declared.levels.Side.TheVariants as side
 use Rattle.std.proofs.lemmas.List.{append-nil}
@@ -45,13 +45,13 @@ print_body-returns-in_ok-push_str-in-len2 t c =
 pub print_members-returns : goal.print_members-returns
 print_members-returns t c =
     let one : string_bytes c.push_str.new.self ≡ string_bytes c.args.out.now ++ bytes "{" = search rules in
-    let two : string_bytes c.print_separated.new.out ≡ string_bytes c.push_str.new.self ++ separated (map (λ f. printed c.args.names.now f false c.args.depth) c.args.parts.now) = search rules in
+    let two : string_bytes c.print_separated.new.out ≡ string_bytes c.push_str.new.self ++ separated_texts (map (λ f. printed c.args.names.now f false c.args.depth) c.args.parts.now) = search rules in
     let three : string_bytes c.push_str-2.new.self ≡ string_bytes c.print_separated.new.out ++ bytes "}" = search rules in
     rw (texts-alone c.args.names.now c.args.parts.now c.args.depth) (three_pieces _ _ _ _ (bytes "{") _ (bytes "}") one two three)
 
 pub print_separated-loop-index-preserved : goal.print_separated-loop-index-preserved
 print_separated-loop-index-preserved t c =
-    let comma : string_bytes c.print_comma.new.out ≡ string_bytes c.loop-index.out ++ comma_after c.loop-index.index = search rules in
+    let comma : string_bytes c.print_comma.new.out ≡ string_bytes c.loop-index.out ++ comma_text c.loop-index.index = search rules in
     let more : string_bytes c.print.new.out ≡ string_bytes c.print_comma.new.out ++ printed c.args.names.now c.index-items-index.result false c.args.depth = search rules in
     one_more (λ f. printed c.args.names.now f false c.args.depth) c.args.items.now c.loop-index.index c.index-items-index.result _ _ _ _ c.loop-index-test.true c.index-items-index.is comma more c.loop-index.invariant
 
@@ -67,7 +67,7 @@ pub print_operator-returns-in_ok-print_operand-in-len2 : goal.print_operator-ret
 print_operator-returns-in_ok-print_operand-in-len2 t c =
     let parts : c.args.parts.now ≡ c.a-item-then-parts-lt3.result ∷ c.b-item.result ∷ []
     = two_parts c.args.parts.now c.a-item-then-parts-lt3.result c.b-item.result (omega arith) (omega arith) c.a-item-then-parts-lt3.is c.b-item.is in
-    let one : string_bytes c.print_operand.new.out ≡ string_bytes c.args.out.now ++ operand c.args.op side.Left (c.a-item-then-parts-lt3.result, printed c.args.names.now c.a-item-then-parts-lt3.result) c.args.depth = search rules in
+    let one : string_bytes c.print_operand.new.out ≡ string_bytes c.args.out.now ++ operand_text c.args.op side.Left (c.a-item-then-parts-lt3.result, printed c.args.names.now c.a-item-then-parts-lt3.result) c.args.depth = search rules in
     on_ok c.print_second.result
     (λ two. two_pieces _ _ _ _ _ one two ∙ ap (λ text. string_bytes c.args.out.now ++ text) (sym (operator_text-two c.args.op c.args.sign.now _ _ c.args.ty.now c.args.depth c.in_default.not-SetExtension))
     ∙ ap (λ ps. string_bytes c.args.out.now ++ operator_text c.args.op c.args.sign.now (with_texts c.args.names.now ps) c.args.ty.now c.args.depth) (sym parts))

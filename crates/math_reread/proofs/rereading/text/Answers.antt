@@ -3,13 +3,13 @@ use Rattle.std.specs.Prelude.{IfOk, OnOk, String, string_bytes}
 use Rattle.formula_core.specs.declared.memory.OutOfMemory.{OutOfMemory}
 use Rattle.formula_core.specs.declared.formula.Formula.{Formula}
 use Rattle.formula_core.specs.Wellness.{is_well}
-use Rattle.math_print.specs.Printing.{text_of}
+use Rattle.math_print.specs.Printing.{formula_text}
 use Rattle.math_print.specs.Held.{IsHeld}
 use Rattle.math_reread.specs.Back.{ReadsBack}
 use Rattle.math_reread.proofs.Reread.{reads_back}
 use Rattle.math_reread.proofs.rereading.text.Goals as goal
 
-back : (f : Formula) (printed : Result (String Global) OutOfMemory) → is_well f ≡ true → IfOk printed (λ text. string_bytes text ≡ text_of f) → OnOk printed (IsHeld f)
+back : (f : Formula) (printed : Result (String Global) OutOfMemory) → is_well f ≡ true → IfOk printed (λ text. string_bytes text ≡ formula_text f) → OnOk printed (IsHeld f)
     → IfOk printed (λ text. ReadsBack f (string_bytes text))
 back f (Ok text) well exact held = reads_back f (string_bytes text) exact well held.names held.counted held.narrow
 back f (Err e) well exact held = tt

@@ -2,7 +2,7 @@ use Rattle.std.proofs.Common.{◌≡◌, ◌∙◌, inl, sym, ap, subst}
 use Rattle.std.specs.Prelude.{Ok, Err, MatchResult}
 use Rattle.std.proofs.lemmas.Result.{err_from_is_err_and}
 use Rattle.core_steps.specs.State.{entered_if}
-use Rattle.prepared_events.specs.Prepared.{IsReady, changed}
+use Rattle.prepared_events.specs.Prepared.{IsReady, changed_by}
 use Rattle.project_store.specs.Records.{IsSmall, Recovers, RecoversAt}
 use Rattle.project_store.proofs.Moments.{idle}
 use Rattle.project_store.proofs.Preparing.{IsRecorded, finished, refused_for_memory, event_moments}
@@ -33,14 +33,14 @@ returns-clause-outcome g c =
     recorded c.commit_if.result c.commit_if.new.core
     (subst (λ d. IsRecorded g.D.Disk.told g.D.Disk.bytes_of g.D.Disk.images g.D.Disk.faults c.args.journal.now c.record_prepared-recorded.new.journal d p.entry recorded) at
     (record { idle = r.idle; acknowledged = r.acknowledged; reads = r.reads; sound = r.sound; causes = r.causes; full = r.full; refused = r.refused; fault = r.fault; failed = r.failed }))
-    (subst (λ s. MatchResult recorded (λ _. (c.commit_if.result ≡ Ok p.reply) × (c.commit_if.new.core ≡ changed p s)) (λ fault. (c.commit_if.result ≡ Err fault) × (c.commit_if.new.core ≡ s))) same c.commit_if.ensures)
+    (subst (λ s. MatchResult recorded (λ _. (c.commit_if.result ≡ Ok p.reply) × (c.commit_if.new.core ≡ changed_by p s)) (λ fault. (c.commit_if.result ≡ Err fault) × (c.commit_if.new.core ≡ s))) same c.commit_if.ensures)
 
 pub returns-clause-any_moment : goal.returns-clause-any_moment
 returns-clause-any_moment g c = λ t.
     let p = c.in_ok-prepared.prepared in
     let known = c.in_ok-prepared.ensures.known in
     let at = c.durable.ensures.durable ∙ ap (λ s. s.durable) c.prepare.ensures.same in
-    event_moments g.D.Disk.clock g.D.Disk.moments _ _ c.args.core.now c.durable.result.now c.args.event.now p.reply p.entry (changed p c.args.core.now) (c.record_prepared-recorded.ensures.any_moment t) at known.does known.enters
+    event_moments g.D.Disk.clock g.D.Disk.moments _ _ c.args.core.now c.durable.result.now c.args.event.now p.reply p.entry (changed_by p c.args.core.now) (c.record_prepared-recorded.ensures.any_moment t) at known.does known.enters
 
 pub returns-in_err-prepared-clause-outcome : goal.returns-in_err-prepared-clause-outcome
 returns-in_err-prepared-clause-outcome g c =

@@ -6,7 +6,7 @@ use Rattle.sequent_core.specs.declared.sequent.Sequent.{Sequent}
 use Rattle.sequent_core.specs.Sequents.{IsSequent}
 use Rattle.proof_deps.specs.declared.deps.Deps.{Deps}
 use Rattle.proof_deps.specs.declared.found.Found.{Found}
-use Rattle.proof_deps.specs.Private.{least}
+use Rattle.proof_deps.specs.Private.{least_sequent}
 use Rattle.proof_deps.proofs.Possible.{same_parts, same_goal}
 use Rattle.proof_deps.proofs.settle.settled.Goals as goal
 
@@ -14,7 +14,7 @@ pub returns-clause-settled : goal.returns-clause-settled
 returns-clause-settled c =
     let d : Found = c.args.found in
     let made : Sequent = record { env = d.used; hyps = c.of.result; goal = c.goal_or_top.result } in
-    let same : made ≡ least d = λ i. record { env = d.used; hyps = c.of.ensures i; goal = c.goal_or_top.ensures i } in
+    let same : made ≡ least_sequent d = λ i. record { env = d.used; hyps = c.of.ensures i; goal = c.goal_or_top.ensures i } in
     let deps : Deps = record { goal = c.goal_if.result; hyps = c.of.result; used = c.in_ok-used.used; fresh = c.of-2.result } in (
       record {
         possible = c.if-not-found.false;

@@ -2,7 +2,7 @@ use Rattle.std.proofs.Common.{◌≡◌, ◌∙◌, sym, ap, subst, length, arit
 use Rattle.std.specs.Option.{option_map}
 use Rattle.proof_tree.specs.Ways.{antecedents_of}
 use Rattle.proof_tree.proofs.WayEnds.{antecedents_of-Below}
-use Rattle.proof_steps.specs.Private.{Tells}
+use Rattle.proof_steps.specs.Private.{TellsFit}
 use Rattle.proof_steps.proofs.Rules.{first_of}
 use Rattle.proof_steps.proofs.Walks.{below_leaf, below_fresh, below_applies}
 use Rattle.proof_steps.proofs.steps.+fits_at.Goals as goal
@@ -22,4 +22,4 @@ returns-in-Some t c =
     let found = sym c.child_at.ensures ∙ ap (option_map (λ x. (x.0.now, x.1.now))) c.in-Some.is in
     let same = below_leaf c.args.tree.now c.args.path.now c.args.sequent.now (antecedents_of c.args.way.now) _ c.in-Some.antecedent.now c.in-Some.child.now
     c.in-len1-up.len_at_least found (antecedents_of-Below _ _) in
-    subst (λ o. Tells o c.args.rule.now c.fits_at.result) (sym same) c.fits_at.ensures
+    subst (λ o. TellsFit o c.args.rule.now c.fits_at.result) (sym same) c.fits_at.ensures

@@ -3,7 +3,7 @@ use Rattle.std.proofs.lemmas.Result.{IfOk-weaker}
 use Rattle.sequent_core.specs.declared.tree.Tree.TheVariants.{Node}
 use Rattle.sequent_core.specs.PrivateChildren.{EachApplies}
 use Rattle.sequent_core.specs.Trees.{node_count}
-use Rattle.proof_steps.specs.Private.{AreDistinct}
+use Rattle.proof_steps.specs.Private.{HaveDistinctIdentifiers}
 use Rattle.proof_strategies.specs.Private.{HasGrown, HaveGrown, IsPut, WasTried}
 use Rattle.proof_strategies.proofs.Grown.{child_at, child_nodes, children_apply, children_nodes, each_length, grown_all, grown_more, grown_node, grown_none, leaf_grown, leaf_put}
 use Rattle.proof_strategies.proofs.growing.+grow.Goals as goal
@@ -15,7 +15,7 @@ grow-grow_each-requires g t c κs within =
     let same = ap (λ ts. sum (map node_count ts)) c.items.ensures in
     let each = subst (λ xs. EachApplies xs c.items-antecedents.result.now c.args.sequent.now) (sym c.items.ensures)
     (subst (λ xs. EachApplies c.in-Node.children xs c.args.sequent.now) (sym c.items-antecedents.ensures) parts.0) in
-    let distinct = subst AreDistinct (sym c.items-antecedents.ensures) parts.1 in
+    let distinct = subst HaveDistinctIdentifiers (sym c.items-antecedents.ensures) parts.1 in
     (omega (arith, c.decreases, nodes, same), (search (rules, within), (each, (distinct, c.requires.most))))
 
 pub grow-returns-in_ok-rule-in-Node : goal.grow-returns-in_ok-rule-in-Node

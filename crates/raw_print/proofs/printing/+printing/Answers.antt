@@ -4,7 +4,7 @@ use Rattle.formula_core.specs.declared.raw.Raw.{Raw}
 use Rattle.math_grammar.specs.declared.symbols.Symbol.TheVariants as symbol
 use Rattle.math_grammar.specs.Characters.{bytes}
 use Rattle.raw_print.specs.Pieces.{Token, text_of}
-use Rattle.raw_print.specs.Printing.{pieces, body, operands, operand, second, side, names_in}
+use Rattle.raw_print.specs.Printing.{pieces, body_pieces, operation_pieces, operand_pieces, second, side, pattern_name_count}
 use Rattle.raw_print.specs.Private.{with_pieces, declared, with_pattern}
 use Rattle.math_grammar.specs.Operators.{raw_sign_of, raw_class_of}
 use Rattle.raw_print.proofs.Texts.{on_ok, two_pieces, three_pieces, one_more, all_parts, two_parts, if_ok, call_text, set_text, names_in-pair, none_named, pattern_text, names_in-other, pattern-other}
@@ -55,7 +55,7 @@ print_body-returns-in_ok-push_str-in-len2 t c =
     on_ok c.print_formula-in-len2-2.result
     (λ three. three_pieces _ _ _ _ (text_of (pieces c.p-item-then-parts-lt3.result)) (bytes " ∣ ") (text_of (pieces c.e-item.result)) one two three
     ∙ ap (λ t. string_bytes c.args.out.now ++ t) (sym (text-append (pieces c.p-item-then-parts-lt3.result) _))
-    ∙ ap (λ ps. string_bytes c.args.out.now ++ text_of (body (map with_pieces ps))) (sym parts))
+    ∙ ap (λ ps. string_bytes c.args.out.now ++ text_of (body_pieces (map with_pieces ps))) (sym parts))
     c.print_formula-in-len2-2.ensures
 
 pub print_operands-returns-in_ok-print_operand-in-len2 : goal.print_operands-returns-in_ok-print_operand-in-len2
@@ -63,11 +63,11 @@ print_operands-returns-in_ok-print_operand-in-len2 t c =
     let a : Raw = c.a-item-then-parts-lt3.result in
     let b : Raw = c.b-item.result in
     let parts : c.args.parts.now ≡ a ∷ b ∷ [] = two_parts c.args.parts.now a b (omega arith) (omega arith) c.a-item-then-parts-lt3.is c.b-item.is in
-    let one : string_bytes c.print_operand.new.out ≡ string_bytes c.args.out.now ++ text_of (operand (with_pieces a)) = search rules in
+    let one : string_bytes c.print_operand.new.out ≡ string_bytes c.args.out.now ++ text_of (operand_pieces (with_pieces a)) = search rules in
     on_ok c.print_second.result
-    (λ two. two_pieces _ _ _ (text_of (operand (with_pieces a))) _ one two
-    ∙ ap (λ t. string_bytes c.args.out.now ++ t) (sym (text-append (operand (with_pieces a)) (second c.args.symbol (Token c.args.symbol c.args.sign.now) (with_pieces b))))
-    ∙ ap (λ ps. string_bytes c.args.out.now ++ text_of (operands c.args.symbol (Token c.args.symbol c.args.sign.now) (map with_pieces ps))) (sym parts))
+    (λ two. two_pieces _ _ _ (text_of (operand_pieces (with_pieces a))) _ one two
+    ∙ ap (λ t. string_bytes c.args.out.now ++ t) (sym (text-append (operand_pieces (with_pieces a)) (second c.args.symbol (Token c.args.symbol c.args.sign.now) (with_pieces b))))
+    ∙ ap (λ ps. string_bytes c.args.out.now ++ text_of (operation_pieces c.args.symbol (Token c.args.symbol c.args.sign.now) (map with_pieces ps))) (sym parts))
     c.print_second.ensures
 
 pub print_node-returns-in_ok-push_str-in-Call : goal.print_node-returns-in_ok-push_str-in-Call
@@ -101,7 +101,7 @@ print_pattern-print_side-requires-in-Node t c =
     let parts : c.items-parts.result.now ≡ l ∷ r ∷ [] = two_parts c.items-parts.result.now l r (omega arith) (omega arith) c.index-parts-0.is c.index-parts-1.is in
     let whole : weight c.args.tree.now ≡ 1 + (weight l + (weight r + 0)) = ap weight c.in-Node.is ∙ weight-Node _ _ _ ∙ ap (λ ps. 1 + weights ps) (sym c.items-parts.ensures ∙ parts) in
     let rest : bound_weights c.in_ok-names-in-Node.names.now ≤ bound_weights c.args.names.now
-    = subst (λ ns. bound_weights ns ≤ bound_weights c.args.names.now) (sym c.in_ok-names-in-Node.ensures.left) (weight_of_rest (names_in l) c.args.names.now) in
+    = subst (λ ns. bound_weights ns ≤ bound_weights c.args.names.now) (sym c.in_ok-names-in-Node.ensures.left) (weight_of_rest (pattern_name_count l) c.args.names.now) in
     (omega (arith, c.decreases), tt)
 
 pub print_pattern-returns-in_ok-push_str-in-Node-clause-text : goal.print_pattern-returns-in_ok-push_str-in-Node-clause-text
@@ -123,7 +123,7 @@ print_pattern-returns-in_ok-push_str-in-Node-clause-left t c =
     let r : Raw = c.index-parts-1.result in
     let parts : c.in-Node.parts ≡ l ∷ r ∷ [] = sym c.items-parts.ensures ∙ two_parts c.items-parts.result.now l r (omega arith) (omega arith) c.index-parts-0.is c.index-parts-1.is in
     if_ok c.print_side-in-Node.result _ _
-    (λ rest is. is ∙ ap (drop (names_in r)) c.in_ok-names-in-Node.ensures.left ∙ drop-drop (names_in r) (names_in l) c.args.names.now
+    (λ rest is. is ∙ ap (drop (pattern_name_count r)) c.in_ok-names-in-Node.ensures.left ∙ drop-drop (pattern_name_count r) (pattern_name_count l) c.args.names.now
     ∙ ap (λ n. drop n c.args.names.now) (sym (names_in-pair c.args.tree.now l r _ _ _ c.in-Node.is parts)))
     c.print_side-in-Node.ensures.left
 

@@ -1,8 +1,8 @@
 use Rattle.std.proofs.Common.{◌≡◌, map, take}
 use Rattle.formula_core.specs.Formulas.{joined}
-use Rattle.check_rules.specs.Refinements.{lost_among, names_in}
+use Rattle.check_rules.specs.Refinements.{lost_among, unknowns_in}
 use Rattle.model_core.specs.Faults.{first_by_place}
 use Rattle.refine_check.proofs.lost.first_lost_in_guards.Given as goal
 
 abbrev pub invariant-loop-guard : goal.invariant-loop-guard
-invariant-loop-guard l = l.first ≡ first_by_place (joined (map (λ g. lost_among l.component l.lost (names_in g.formula)) (take l.guard-index l.guards)))
+invariant-loop-guard l = l.first ≡ first_by_place (joined (map (λ g. lost_among l.component l.lost (unknowns_in g.formula)) (take l.guard-index l.guards)))

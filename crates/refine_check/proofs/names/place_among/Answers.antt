@@ -1,7 +1,7 @@
 use Rattle.std.proofs.Common.{◌∙◌, [], ap, get_or, arith}
 use Rattle.std.proofs.lemmas.List.{take_all}
 use Rattle.model_core.specs.Each.{is_among}
-use Rattle.refine_check.specs.Private.{first_place, texts}
+use Rattle.refine_check.specs.Private.{first_index, texts}
 use Rattle.refine_check.proofs.Placing.{none_first, first_more}
 use Rattle.refine_check.proofs.names.place_among.Goals as goal
 
@@ -17,4 +17,4 @@ loop-name-preserved c = λ list h.
 pub returns : goal.returns
 returns c = λ list h.
     c.loop-name.invariant list h
-    ∙ ap (λ ns. first_place (is_among (texts ns)) list) (take_all c.loop-name.name-index c.args.names.now (omega (arith, c.loop-name-test.false)))
+    ∙ ap (λ ns. first_index (is_among (texts ns)) list) (take_all c.loop-name.name-index c.args.names.now (omega (arith, c.loop-name-test.false)))

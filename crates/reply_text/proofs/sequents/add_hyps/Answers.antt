@@ -1,7 +1,7 @@
 use Rattle.std.proofs.Common.{◌+◌, take, ◌++◌}
 use Rattle.std.specs.Prelude.{string_bytes, codes}
 use Rattle.std.specs.Fmt.{decimal}
-use Rattle.math_print.specs.Printing.{text_of}
+use Rattle.math_print.specs.Printing.{formula_text}
 use Rattle.reply_text.specs.Printing.{hyp_lines_after}
 use Rattle.reply_text.specs.Statuses.{line}
 use Rattle.reply_text.proofs.Hyps.{grows, hyp_added}
@@ -13,5 +13,5 @@ loop-index-preserved c =
     let at = c.loop-index.index in
     let hyp = c.index-hyps-index.result in
     grows (string_bytes c.add_hyp.new.out) (string_bytes c.loop-index.out) (string_bytes c.args.out.now) (hyp_lines_after 0 (take at hyps))
-    (line (decimal (at + 1) ++ codes ": " ++ text_of hyp)) (hyp_lines_after 0 (take (at + 1) hyps)) c.in_ok-add_hyp.ensures c.loop-index.invariant
+    (line (decimal (at + 1) ++ codes ": " ++ formula_text hyp)) (hyp_lines_after 0 (take (at + 1) hyps)) c.in_ok-add_hyp.ensures c.loop-index.invariant
     (hyp_added hyps at hyp c.loop-index-test.true c.index-hyps-index.is)

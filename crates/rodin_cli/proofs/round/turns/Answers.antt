@@ -2,7 +2,7 @@ use Rattle.std.proofs.Common.{[], ◌∷◌, ◌++◌, map, subst, arith}
 use Rattle.std.proofs.lemmas.List.{length-append, length-map}
 use Rattle.std.specs.Arc.{arc_value}
 use Rattle.std.proofs.lemmas.Result.{err_from_is_err_and}
-use Rattle.build_core.specs.Tables.{IsTable}
+use Rattle.build_core.specs.Tables.{IsTableOf}
 use Rattle.rodin_cli.proofs.Sessions.{both, AreTurns-both}
 use Rattle.rodin_cli.proofs.Sizes.{table_within}
 use Rattle.rodin_cli.proofs.Completing.{turns_bound}
@@ -12,7 +12,7 @@ pub turn-requires : goal.turn-requires
 turn-requires g c =
     let before = c.loop-turn.invariant in
     let table = map arc_value c.table-obligations.result.now in
-    let is = subst (λ p. IsTable p table) c.builder.ensures.builder c.table-obligations.ensures.table in
+    let is = subst (λ p. IsTableOf p table) c.builder.ensures.builder c.table-obligations.ensures.table in
     let bound = turns_bound (g.P.Prover.answers c.args.prover.now) (g.P.Prover.sure c.args.prover.now) before.0 table c.args.session.now.core c.loop-turn.session.core c.loop-turn._turn
     c.requires.out is before.1 before.2.0 before.3 in
     let start = c.requires.number in
@@ -45,7 +45,7 @@ pub unreachable-requires : goal.unreachable-requires
 unreachable-requires g c =
     let before = c.loop-turn.invariant in
     let table = map arc_value c.table-obligations.result.now in
-    let is = subst (λ p. IsTable p table) c.builder.ensures.builder c.table-obligations.ensures.table in
+    let is = subst (λ p. IsTableOf p table) c.builder.ensures.builder c.table-obligations.ensures.table in
     let bound = turns_bound (g.P.Prover.answers c.args.prover.now) (g.P.Prover.sure c.args.prover.now) before.0 table c.args.session.now.core c.loop-turn.session.core c.loop-turn._turn
     c.requires.out is before.1 before.2.0 before.3 in
     omega (arith, bound.0, length-map c.table-obligations.result.now arc_value, c.loop-turn-test.false)

@@ -3,7 +3,7 @@ use Rattle.std.proofs.lemmas.Grind.{common_steps}
 use Rattle.std.specs.List.{AllByRecursion}
 use Rattle.formula_core.specs.declared.Ty.{Ty}
 use Rattle.rule_table.specs.declared.rule.Rule.{Rule}
-use Rattle.rule_table.specs.Rules.{Stands, body_of, formulas_of, in_order, names_in}
+use Rattle.rule_table.specs.Rules.{Stands, body_of, formulas_of, sorted_by_name, names_in}
 use Rattle.rule_kernel.proofs.SoundParts.{parts_of_sound, sound_of_parts}
 use Rattle.rule_kernel.proofs.table.used_if_sound.Goals as goal
 
@@ -19,10 +19,10 @@ returns-clause-sound c =
     let names : List (List ℕ × Ty) = names_in (formulas_of rule.kind (body_of rule)) in
     let read : c.deref.result.now ≡ names = c.deref.ensures.value ∙ c.in_ok-names.ensures in
     let read_again : c.deref-2.result.now ≡ names = c.deref-2.ensures.value ∙ c.in_ok-names.ensures in
-    let sorted : c.in_ok-sorted.sorted.entries ≡ in_order names = c.in_ok-sorted.ensures ∙ ap in_order read in
+    let sorted : c.in_ok-sorted.sorted.entries ≡ sorted_by_name names = c.in_ok-sorted.ensures ∙ ap sorted_by_name read in
     let stand : AllByRecursion (Stands c.in_ok-sorted.sorted.entries) c.deref-2.result.now = c.have_one_type.ensures.0 (cc) in
     let has : c.in_ok-has_sound_parts.field-0 ≡ true = grind (arith, common_steps) in (
       λ h. sound_of_parts rule (c.in_ok-has_sound_parts.ensures.0 has)
-          (subst (λ ns. AllByRecursion (Stands (in_order names)) ns) read_again (subst (λ es. AllByRecursion (Stands es) c.deref-2.result.now) sorted stand)),
+          (subst (λ ns. AllByRecursion (Stands (sorted_by_name names)) ns) read_again (subst (λ es. AllByRecursion (Stands es) c.deref-2.result.now) sorted stand)),
       λ s. refl,
     )

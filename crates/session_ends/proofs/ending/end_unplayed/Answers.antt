@@ -3,7 +3,7 @@ use Rattle.std.specs.Option.{option_map}
 use Rattle.session_streams.specs.Streams.{writing}
 use Rattle.session_streams.specs.declared.ReadEnd.TheVariants.{OutOfMemory}
 use Rattle.session_talk.specs.declared.Ending.TheVariants.{Read}
-use Rattle.session_ends.specs.Private.{status_at, line_at}
+use Rattle.session_ends.specs.Private.{status_at, ending_line}
 use Rattle.session_ends.specs.Written.{WritesOrFails}
 use Rattle.session_ends.proofs.Whole.{moved, nothing_played}
 use Rattle.session_ends.proofs.ending.end_unplayed.Goals as goal
@@ -19,5 +19,5 @@ returns g c workers old left lost opens =
     c.close_session.ensures.disk status c.close_session.ensures.history c.close_session.ensures.last
     (nothing_played g.D.Disk.told g.D.Disk.bytes_of g.D.Disk.images g.D.Disk.faults _ _ workers c.args.store c.close_session.ensures.facts
     c.requires.0 c.requires.1 c.requires.2 left lost before after f h
-    (subst (λ k. WritesOrFails (writing before after f h) (line_at (Read OutOfMemory) (option_map (λ z. z.fault) k))) c.requires.2 c.close_session.ensures.written)
+    (subst (λ k. WritesOrFails (writing before after f h) (ending_line (Read OutOfMemory) (option_map (λ z. z.fault) k))) c.requires.2 c.close_session.ensures.written)
     c.close_session.ensures.later old opens)

@@ -1,6 +1,6 @@
 use Rattle.std.proofs.Common.{◌≡◌, ◌≤◌, List, not, map, filter, take, length}
 use Rattle.sequent_core.specs.declared.Obligation.{Obligation}
-use Rattle.build_core.specs.Tables.{IsTable as IsTableOf}
+use Rattle.build_core.specs.Tables.{IsTableOf}
 use Rattle.core_steps.specs.Table.{is_obligation}
 use Rattle.status_core.proofs.editing.names_lacking.Given as goal
 

@@ -1,5 +1,5 @@
 use Rattle.std.proofs.Common.{◌≡◌, ◌<◌, true, refl, ◌∙◌, arith}
-use Rattle.unification.specs.PrivateOrder.{place_at, sort_of}
+use Rattle.unification.specs.PrivateOrder.{ordered_at, sort_of}
 use Rattle.unification.proofs.Forms.{read}
 use Rattle.unification.proofs.Sorts.{Sorting-step, all_sorts, wrong_sort}
 use Rattle.unification.proofs.ordering.check_sorts.Goals as goal
@@ -7,7 +7,7 @@ use Rattle.unification.proofs.ordering.check_sorts.Goals.{else-at-count-via-then
 
 pub loop-at-preserved : goal.loop-at-preserved
 loop-at-preserved c =
-    let right : place_at c.args.order.now c.loop-at.at-index < c.args.count → c.is_proper-sort.result ≡ true =
+    let right : ordered_at c.args.order.now c.loop-at.at-index < c.args.count → c.is_proper-sort.result ≡ true =
     elim c.else-at-count.branch [
       | else-at-count-via-then-at-count+else-not-sort w ↦ λ _. w.if-not-sort.false
       | else-at-count-via-else-at-count w ↦ λ less. absurd (omega (arith, less, w.if-at-count.false))

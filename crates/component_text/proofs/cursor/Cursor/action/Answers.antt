@@ -1,21 +1,21 @@
 use Rattle.math_parse.specs.declared.fault.ParseFault.TheVariants as fault
-use Rattle.component_text.specs.Machines.{IsAct}
+use Rattle.component_text.specs.Machines.{IsActionWithin}
 use Rattle.component_text.proofs.Marks.{formula_read, formula_unexpected, formula_too_large, action_fails}
 use Rattle.component_text.proofs.cursor.Cursor.action.Goals as goal
 
 pub returns-in-Ok : goal.returns-in-Ok
 returns-in-Ok c =
-    formula_read IsAct c.self.inside.text.now c.self.inside.rest.now c.plain_length-length.result c.args.self.now c.self.view_is c.plain_length-length.ensures.value
+    formula_read IsActionWithin c.self.inside.text.now c.self.inside.rest.now c.plain_length-length.result c.args.self.now c.self.view_is c.plain_length-length.ensures.value
     c.in-Ok.action c.in-Ok.ensures.found
 
 pub returns-in-Err-Unexpected : goal.returns-in-Err-Unexpected
 returns-in-Err-Unexpected c =
-    formula_unexpected IsAct c.self.inside.text.now c.self.inside.rest.now c.plain_length-length.result c.args.self.now c.self.view_is c.plain_length-length.ensures.value
+    formula_unexpected IsActionWithin c.self.inside.text.now c.self.inside.rest.now c.plain_length-length.result c.args.self.now c.self.view_is c.plain_length-length.ensures.value
     c.in-Err-Unexpected.index
     (action_fails _ (fault.Unexpected c.in-Err-Unexpected.index) (rw c.in-Err-Unexpected.field-0-is at c.in-Err-Unexpected.ensures.fault) (rw c.in-Err-Unexpected.field-0-is at c.in-Err-Unexpected.ensures.only))
 
 pub returns-in-Err-TooLarge : goal.returns-in-Err-TooLarge
 returns-in-Err-TooLarge c =
-    formula_too_large IsAct c.self.inside.text.now c.self.inside.rest.now c.plain_length-length.result c.args.self.now c.self.view_is c.plain_length-length.ensures.value
+    formula_too_large IsActionWithin c.self.inside.text.now c.self.inside.rest.now c.plain_length-length.result c.args.self.now c.self.view_is c.plain_length-length.ensures.value
     c.in-Err-TooLarge.index
     (action_fails _ (fault.TooLarge c.in-Err-TooLarge.index) (rw c.in-Err-TooLarge.field-0-is at c.in-Err-TooLarge.ensures.fault) (rw c.in-Err-TooLarge.field-0-is at c.in-Err-TooLarge.ensures.only))

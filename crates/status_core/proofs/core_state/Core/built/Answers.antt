@@ -3,7 +3,7 @@ use Rattle.std.proofs.lemmas.List.{length-map}
 use Rattle.std.specs.Arc.{arc_value}
 use Rattle.std.specs.FinMap.{entries, len, len-entries}
 use Rattle.build_core.specs.Projects.{Project}
-use Rattle.build_core.specs.Tables.{IsTable as IsTableOf, AreFaults as AreFaultsOf}
+use Rattle.build_core.specs.Tables.{IsTableOf, AreFaultsOf}
 use Rattle.proof_entries.specs.declared.Entry.TheVariants.{Build}
 use Rattle.core_steps.specs.Durable.{IsSmallProject}
 use Rattle.core_steps.specs.declared.events.Reply.{Reply}

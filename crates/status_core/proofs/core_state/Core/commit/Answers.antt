@@ -5,7 +5,7 @@ use Rattle.core_steps.specs.State.{State, entered_if}
 use Rattle.prepared_events.specs.declared.moves.TicketMove.{TicketMove}
 use Rattle.prepared_events.specs.Closed.{AreClosedBefore}
 use Rattle.prepared_events.specs.Entered.{texts_after, built_after, proofs_after}
-use Rattle.prepared_events.specs.Prepared.{FitsBuilt, changed, moved}
+use Rattle.prepared_events.specs.Prepared.{FitsBuilt, changed_by, moved}
 use Rattle.prepared_events.proofs.EnteredParts.{entered_by}
 use Rattle.prepared_events.proofs.StillClosed.{commit_closed}
 use Rattle.status_core.proofs.Readied.{fits_built}
@@ -59,4 +59,4 @@ returns-clause-changed c =
     let move_is = subst (λ (m : TicketMove). moved m t ≡ record t { out = out; tried = tried; next = next }) c.into_parts-reply.ensures.tickets
     (c.move_ticket.ensures.moved t refl refl refl) in
     let all_is = move_is ∙ ap (λ (d : Durable). record { durable = d; out = out; tried = tried; next = next }) (sym durable_is) in
-    sym all_is ∙ ap (changed p) c.self.view_is
+    sym all_is ∙ ap (changed_by p) c.self.view_is

@@ -1,12 +1,12 @@
 use Rattle.std.proofs.Common.{◌∙◌, ap, sym, map, subst}
 use Rattle.std.specs.Prelude.{Some}
 use Rattle.sequent_core.specs.declared.Obligation.{Obligation}
-use Rattle.status_core.specs.PrivateParts.{Finds}
+use Rattle.status_core.specs.PrivateParts.{FindsObligation}
 use Rattle.std.proofs.lemmas.List.{length-map}
 use Rattle.std.specs.Arc.{arc_value}
 use Rattle.std.specs.FinMap.{entries}
 use Rattle.build_core.specs.Projects.{Project}
-use Rattle.build_core.specs.Tables.{IsTable as IsTableOf}
+use Rattle.build_core.specs.Tables.{IsTableOf}
 use Rattle.core_steps.specs.State.{State}
 use Rattle.table_lookup.proofs.Places.{map_at}
 use Rattle.status_core.proofs.Finding.{found_at}
@@ -31,5 +31,5 @@ returns-in-Some c =
     let place = c.in-Some.ensures.exact table c.table-table.ensures.table in
     let sequents = c.typed_tables.ensures c.self.inside.builder c.texts-texts.ensures.distinct table c.table-table.ensures.table in
     let is = map_at arc_value c.table-table.result.now at c.index-table-at.result c.index-table-at.is in
-    subst (λ (o : Obligation). Finds c.args.self.now.durable.built c.args.name.now (Some o)) (sym (c.obligation.ensures.obligation ∙ c.deref.ensures))
+    subst (λ (o : Obligation). FindsObligation c.args.self.now.durable.built c.args.name.now (Some o)) (sym (c.obligation.ensures.obligation ∙ c.deref.ensures))
     (found_at c.args.self.now.durable.built table c.args.name.now at (arc_value c.index-table-at.result) of sequents place is)

@@ -5,7 +5,7 @@ use Rattle.std.specs.List.{AllByRecursion}
 use Rattle.sequent_core.specs.declared.Ticket.{Ticket}
 use Rattle.sequent_core.specs.declared.Obligation.{Obligation}
 use Rattle.build_core.specs.Projects.{Project}
-use Rattle.build_core.specs.Tables.{IsTable as IsTableOf}
+use Rattle.build_core.specs.Tables.{IsTableOf}
 use Rattle.core_steps.specs.State.{State}
 use Rattle.core_steps.specs.Tickets.{CanTake, IsOpen}
 use Rattle.status_core.specs.PrivateParts.{IsFirstOpen}

@@ -1,7 +1,7 @@
 use Rattle.std.proofs.Common.{◌∙◌, sym, ap, subst, refl}
 use Rattle.std.specs.FinMap.{entries}
 use Rattle.build_core.specs.Projects.{Project}
-use Rattle.build_core.specs.Tables.{AreFaults as AreFaultsOf, AreWarnings as AreWarningsOf}
+use Rattle.build_core.specs.Tables.{AreFaultsOf, AreWarningsOf}
 use Rattle.core_steps.specs.State.{State}
 use Rattle.status_core.proofs.Made.{as_made}
 use Rattle.status_core.proofs.core_state.Core.prepare_faults.Goals as goal

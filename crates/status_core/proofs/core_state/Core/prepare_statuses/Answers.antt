@@ -3,7 +3,7 @@ use Rattle.std.specs.Arc.{arc_value}
 use Rattle.std.specs.FinMap.{entries}
 use Rattle.std.specs.List.{AllZip}
 use Rattle.build_core.specs.Projects.{Project}
-use Rattle.build_core.specs.Tables.{IsTable as IsTableOf}
+use Rattle.build_core.specs.Tables.{IsTableOf}
 use Rattle.core_steps.specs.State.{State}
 use Rattle.core_steps.specs.Status.{Shows}
 use Rattle.status_core.proofs.Made.{as_made}

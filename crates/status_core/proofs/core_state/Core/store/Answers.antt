@@ -6,13 +6,13 @@ use Rattle.core_steps.specs.declared.events.Reply.TheVariants.{Stored}
 use Rattle.core_steps.specs.declared.events.Status.TheVariants.{Discharged}
 use Rattle.core_steps.specs.Outcomes.{entering}
 use Rattle.core_steps.specs.Tickets.{by_prover}
-use Rattle.status_core.specs.PrivateParts.{IsHeld, without_at, ComesAs}
+use Rattle.status_core.specs.PrivateParts.{IsHeldProof, without_at, ComesAs}
 use Rattle.status_core.proofs.core_state.Core.store.Goals as goal
 
 pub store_held-requires-clause-held : goal.store_held-requires-clause-held
 store_held-requires-clause-held c =
     let held = c.in_ok-held.ensures c.args.tree.now c.requires.facts in
-    subst (λ (z : List ℕ × Tree). IsHeld c.args.self.now.durable.proofs z.0 z.1 c.in_ok-held.held) (λ i. (sym held.1 i, sym c.in-Ok.ensures i)) held
+    subst (λ (z : List ℕ × Tree). IsHeldProof c.args.self.now.durable.proofs z.0 z.1 c.in_ok-held.held) (λ i. (sym held.1 i, sym c.in-Ok.ensures i)) held
 
 pub returns : goal.returns
 returns c =

@@ -4,7 +4,7 @@ use Rattle.std.specs.Arc.{arc_value}
 use Rattle.std.specs.FinMap.{entries}
 use Rattle.sequent_core.specs.declared.Obligation.{Obligation}
 use Rattle.build_core.specs.Projects.{Project}
-use Rattle.build_core.specs.Tables.{IsTable as IsTableOf}
+use Rattle.build_core.specs.Tables.{IsTableOf}
 use Rattle.core_steps.specs.State.{State}
 use Rattle.core_steps.specs.Tickets.{IsOpen}
 use Rattle.core_steps.proofs.Lists.{split}
