@@ -1,7 +1,8 @@
 -- The blanks in front of a text, one after the other.
 use Rattle.std.proofs.Common.{◌≡◌, refl, ℕ, Bool, true, false, ◌&&◌, ◌==◌, List, [], ◌∷◌, drop, cond, arith}
 use Rattle.math_tokens.specs.Texts.{blank_length}
-use Rattle.check_input.specs.Headings.{is_ascii_blank, past_blanks}
+use Rattle.check_input.specs.Headings.{past_blanks}
+use Rattle.formula_core.specs.Texts.{is_ascii_blank}
 
 past_last : (c : ℕ) (b w : Bool) → is_ascii_blank c ≡ b → past_blanks (drop (cond b 1 (cond w 0 0)) (c ∷ [])) ≡ past_blanks (c ∷ [])
 past_last c true w e = rw e refl

@@ -8,7 +8,8 @@ use Rattle.std.proofs.lemmas.Cmp.{nat_list_eq_equiv}
 use Rattle.std.proofs.lemmas.Map.Text.{is_eq-slice_cmp}
 use Rattle.model_core.specs.Each.{is_among}
 use Rattle.check_input.specs.Inputs.{Component}
-use Rattle.check_input.specs.PrivateParts.{has, AreNames, component_names}
+use Rattle.check_input.specs.PrivateParts.{AreNames, component_names}
+use Rattle.model_core.specs.Borrowed.{has}
 
 at_more : (key : Bor (List ℕ)) (s n : BTreeSet (Bor (List ℕ))) → Updates (λ x y. slice_cmp nat_cmp x.now y.now) s n key true → (text : List ℕ) →
     has n text ≡ cond (bytes_eq key.now text) true (has s text)

@@ -2,9 +2,7 @@
 use Rattle.std.specs.Prelude.{ℕ, Bool, false, not, ◌||◌, ◌&&◌, ◌==◌, nat_eq, nat_lt, List, [], ◌∷◌, length, take, drop, bytes_eq, codes, Option, Some, None, if◌then◌else◌}
 use Rattle.std.specs.List.{take_while}
 use Rattle.formula_core.specs.Names.{is_identifier, is_in_word, prime}
-
-abbrev pub is_ascii_blank : ℕ → Bool
-is_ascii_blank c = c == 32 || (c == 9 || (c == 13 || c == 10))
+use Rattle.formula_core.specs.Texts.{is_ascii_blank}
 
 -- what stands behind the blanks with which the bytes begin
 abbrev pub past_blanks : List ℕ → List ℕ

@@ -2,9 +2,6 @@
 use Rattle.std.specs.Prelude.{◌≡◌, ℕ, Bool, nat_le, nat_lt, List, [], map, length, Option, Some, None, Result, Ok, if◌then◌else◌}
 use Rattle.std.specs.Borrow.{Bor}
 use Rattle.std.specs.BTreeSet.{BTreeSet}
-use Rattle.std.specs.BTreeSet as sorted
-use Rattle.std.specs.Cmp.Lexicographic.{slice_cmp}
-use Rattle.std.specs.Ordering.{nat_cmp}
 use Rattle.model_core.specs.Each.{is_among}
 use Rattle.check_input.specs.declared.input.InputFault.{InputFault}
 use Rattle.check_input.specs.declared.input.InputFault.TheVariants as fault
@@ -12,10 +9,7 @@ use Rattle.check_input.specs.declared.cutting.Piece.{Piece}
 use Rattle.check_input.specs.Headings.{is_blank_text}
 use Rattle.check_input.specs.PrivateCutting.{numbered_of}
 use Rattle.check_input.specs.Inputs.{Component, Numbered, input_parts, first_fault, without_fault, made_of}
-
--- whether the set has the text
-abbrev pub has : BTreeSet (Bor (List ℕ)) → List ℕ → Bool
-has set text = sorted.contains_by (λ k. slice_cmp nat_cmp text k.now) set
+use Rattle.model_core.specs.Borrowed.{has}
 
 abbrev pub component_names : List Component → List (List ℕ)
 component_names parts = map (λ p. p.0) parts

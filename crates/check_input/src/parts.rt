@@ -4,7 +4,8 @@ ghost use Rattle.formula_core.specs.Names.{is_identifier};
 ghost use Rattle.check_input.specs.declared.input.InputFault.{InputFault};
 ghost use Rattle.check_input.specs.Inputs.{IsInput, input_parts};
 ghost use Rattle.check_input.specs.PrivateCutting.{numbered_of};
-ghost use Rattle.check_input.specs.PrivateParts.{has, AreNames, fault_among, fault_behind, component_of_piece, validated, outcome};
+ghost use Rattle.check_input.specs.PrivateParts.{AreNames, fault_among, fault_behind, component_of_piece, validated, outcome};
+ghost use Rattle.model_core.specs.Borrowed.{has};
 
 use crate::cutting::{Piece, Rest, next_piece};
 use crate::headings::is_blank_text;

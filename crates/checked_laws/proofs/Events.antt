@@ -9,7 +9,7 @@ use Rattle.formula_core.specs.Env.{HasDistinctNames, type_in}
 use Rattle.formula_core.specs.Formulas.{joined}
 use Rattle.formula_core.specs.Identifiers.{carriers}
 use Rattle.formula_core.specs.Laws.{IsWithin}
-use Rattle.formula_core.specs.Names.{is_identifier, is_name}
+use Rattle.formula_core.specs.Names.{is_identifier, is_name, with_prime}
 use Rattle.formula_core.specs.Typed.{Stands, HasCarriers, IsPredicateIn, IsGoodEnv}
 use Rattle.formula_core.specs.Types.{is_value_type}
 use Rattle.type_core.proofs.Named.{all_append, all_front, all_back, all_each, sooner, found_has}
@@ -33,7 +33,7 @@ use Rattle.checked_laws.proofs.Names.{AllStand, AreNew, none_append, distinct_ba
 use Rattle.checked_laws.proofs.Parts.{all_map, all_unmap, all_two, filter_all, first_none, second_none, filter_back, any_append}
 use Rattle.checked_laws.proofs.Typing.{AddsNoSets, over_set, carriers_kept, predicates_within, Stood, typed_stand, last_from, in_order_has, in_order_stand, in_order_keys, among_new}
 use Rattle.checked_laws.proofs.Declared.{DeclaredOnce, AreOther, none_left, none_right, not_named, declared_once, all_named}
-use Rattle.checked_laws.specs.Refining.{with_prime, IsSoundRefinement, IsEventIn, chosen_by_first}
+use Rattle.checked_laws.specs.Refining.{IsSoundRefinement, IsEventIn, chosen_by_first}
 use Rattle.checked_laws.proofs.Lost.{found_in_events, left_is, lost_distinct, lost_each, lost_other, refined_again, abstract_together}
 use Rattle.checked_laws.proofs.Wanted.{all_wanted, labels_typed, wanted_is, wanted_listed}
 use Rattle.checked_laws.proofs.Witnesses.{named_among, HoldsWitnesses, holds_witnesses}

@@ -34,7 +34,8 @@ use Rattle.check_rules.specs.Visible.{Identifiers, Visible, all_visible, entries
 use Rattle.type_action.specs.Laws.{TypedActionsStand}
 use Rattle.checked_laws.specs.Projects.{ProjectNames, AreConstantsOf, AreVariablesOf, DeclaresIn, Has, BelongsTo}
 use Rattle.checked_laws.specs.Sound.{HasIdentifiers, HasCarriersAmong, ArePredicatesIn, IsNamedIn, IsVariantIn, IsSoundEvent, StartsPlainly, AssignsVariables, IsSoundMachine}
-use Rattle.checked_laws.specs.Refining.{refined_by, IsSoundRefinement, IsSoundBeside, IsSoundOver}
+use Rattle.checked_laws.specs.Refining.{IsSoundRefinement, IsSoundBeside, IsSoundOver}
+use Rattle.model_core.specs.Refined.{refined_by}
 use Rattle.checked_laws.proofs.Targets.{IsAssigningWell, events_assign, distinct_join}
 use Rattle.checked_laws.proofs.Witnesses.{named_among}
 use Rattle.checked_laws.proofs.Lost.{found_in_events, nothing_found}

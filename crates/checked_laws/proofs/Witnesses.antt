@@ -6,7 +6,7 @@ use Rattle.formula_core.specs.declared.ty.Ty.{Ty}
 use Rattle.formula_core.specs.Env.{HasDistinctNames, type_in}
 use Rattle.formula_core.specs.Identifiers.{carriers}
 use Rattle.formula_core.specs.Laws.{IsWithin}
-use Rattle.formula_core.specs.Names.{is_identifier, prime}
+use Rattle.formula_core.specs.Names.{is_identifier, prime, with_prime}
 use Rattle.formula_core.specs.Typed.{Stands, HasCarriers, IsGoodEnv}
 use Rattle.formula_core.specs.Types.{is_value_type}
 use Rattle.type_core.proofs.Named.{all_append, all_front, all_each, sooner, found_has}
@@ -17,7 +17,6 @@ use Rattle.model_core.specs.Each.{is_among}
 use Rattle.check_rules.specs.Events.{primed_variables, primed_env}
 use Rattle.check_rules.specs.Typed.{Entries, AreTyped}
 use Rattle.checked_laws.specs.Sound.{HasIdentifiers, HasCarriersAmong, ArePredicatesIn, IsNamedIn}
-use Rattle.checked_laws.specs.Refining.{with_prime}
 use Rattle.checked_laws.proofs.Names.{AllStand, AreNew, here_or, some_or, apart, met, missed, same_name, distinct_append, distinct_front, new_turned, stands_later, parts_stand, stand_there, stand_sooner}
 use Rattle.checked_laws.proofs.Parts.{all_map, filter_all}
 use Rattle.checked_laws.proofs.Growing.{within_with, with_all_each, with_all_or}

@@ -1,33 +1,22 @@
 -- The events of a machine beside those of its abstraction, and their witnesses.
-use Rattle.std.specs.Prelude.{ℕ, not, List, [], ◌++◌, map, bytes_eq, Option, Some, None, ◌≡◌, true, IfSome, slice_get}
-use Rattle.std.specs.List.{AllByRecursion, filter, filter_map, find}
+use Rattle.std.specs.Prelude.{ℕ, List, [], ◌++◌, map, Option, ◌≡◌, true, IfSome, slice_get}
+use Rattle.std.specs.List.{AllByRecursion, filter}
 use Rattle.std.specs.Map.{keys_of}
-use Rattle.formula_core.specs.declared.ty.Ty.{Ty}
 use Rattle.formula_core.specs.Typed.{Stands, IsPredicateIn, IsGoodEnv}
 use Rattle.type_action.specs.CoreActions.{primed}
 use Rattle.model_core.specs.declared.checked.Checked.{Checked}
 use Rattle.model_core.specs.declared.checked.Checked.TheVariants.{Context, Machine}
 use Rattle.model_core.specs.declared.checked.CheckedEvent.{CheckedEvent}
 use Rattle.model_core.specs.declared.checked.CheckedMachine.{CheckedMachine}
-use Rattle.model_core.specs.Each.{for_each, is_among}
+use Rattle.model_core.specs.Each.{is_among}
 use Rattle.check_rules.specs.Typed.{Entries}
 use Rattle.formula_core.specs.Laws.{IsWithin}
 use Rattle.formula_core.specs.Env.{HasDistinctNames}
 use Rattle.check_rules.specs.Refinements.{all_chosen, without_labels}
 use Rattle.std.specs.Option.{option_map_or}
 use Rattle.checked_laws.specs.Sound.{ArePredicatesIn, AreActionsIn, IsNamedIn}
-
--- the events of the abstraction that an event refines, in order
-abbrev pub refined_by : Option CheckedMachine → CheckedEvent → List CheckedEvent
-refined_by None e = []
-refined_by (Some abstract) e = filter_map (λ name. find (λ x. bytes_eq name x.name) abstract.events) e.refines
-
--- the parameters of these events that an event lacks
-abbrev pub params_left_out : CheckedEvent → List CheckedEvent → Entries
-params_left_out e refined = filter (λ x. not (is_among (keys_of e.params) x.0)) (for_each (λ r. r.params) refined)
-
-abbrev pub with_prime : List ℕ × Ty → List ℕ × Ty
-with_prime x = (primed x.0, x.1)
+use Rattle.model_core.specs.Refined.{refined_by, params_left_out}
+use Rattle.formula_core.specs.Names.{with_prime}
 
 -- the environment of a machine, with the parameters of an event and those that it lacks
 abbrev pub env_with_params : Entries → List CheckedEvent → CheckedEvent → Entries

@@ -20,7 +20,8 @@ use Rattle.model_core.proofs.Firsts.{first_more, taken_more}
 use Rattle.model_core.proofs.Lists.{any_append}
 use Rattle.check_rules.specs.Declarations.{LabelAt, declared_twice, labelled_twice}
 use Rattle.context_check.specs.declared.declarations.Mark.{Mark}
-use Rattle.context_check.specs.Texts.{has, mark_of, ref_mark, repeated_row, repeated}
+use Rattle.context_check.specs.Texts.{mark_of, ref_mark, repeated_row, repeated}
+use Rattle.model_core.specs.Borrowed.{has}
 
 cond_or : (a b : Bool) → cond a true b ≡ (b || a)
 cond_or true true = refl

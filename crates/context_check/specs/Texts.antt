@@ -1,10 +1,5 @@
 -- Texts that are looked up, and texts that stand twice.
 use Rattle.std.specs.Prelude.{ℕ, Bool, ◌||◌, if◌then◌else◌, List, [], ◌∷◌, map}
-use Rattle.std.specs.Borrow.{Bor}
-use Rattle.std.specs.BTreeSet.{BTreeSet}
-use Rattle.std.specs.BTreeSet as sorted
-use Rattle.std.specs.Cmp.Lexicographic.{slice_cmp}
-use Rattle.std.specs.Ordering.{nat_cmp}
 use Rattle.formula_core.specs.declared.raw.Ref.{Ref}
 use Rattle.model_core.specs.declared.fault.Fault.{Fault}
 use Rattle.model_core.specs.declared.fault.FaultKind.{FaultKind}
@@ -12,13 +7,6 @@ use Rattle.model_core.specs.Each.{at_each, is_among}
 use Rattle.model_core.specs.Faults.{fault_at}
 use Rattle.check_rules.specs.Declarations.{LabelAt}
 use Rattle.context_check.specs.declared.declarations.Mark.{Mark}
-
--- whether the set has the text
-abbrev pub has : BTreeSet (Bor (List ℕ)) → List ℕ → Bool
-has set text = sorted.contains_by (λ k. slice_cmp nat_cmp text k.now) set
-
-abbrev pub texts : List (Bor (List ℕ)) → List (List ℕ)
-texts names = map (λ n. n.now) names
 
 -- a text and its place
 abbrev pub mark_of : Mark → LabelAt

@@ -12,7 +12,7 @@ use Rattle.check_rules.specs.Visible.{WithOrigin, Identifiers, Visible, all_visi
 use Rattle.context_check.specs.declared.visible.Origin.{Origin}
 use Rattle.context_check.specs.declared.visible.Origin.TheVariants.{One, Several}
 use Rattle.context_check.specs.declared.visible.View.{View}
-use Rattle.context_check.specs.Texts.{has, texts}
+use Rattle.model_core.specs.Borrowed.{texts, has}
 
 abbrev pub placed : {X : Type 0} → Bor X × Bor (List ℕ) → WithOrigin X
 placed p = (p.0.now, p.1.now)

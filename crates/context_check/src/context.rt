@@ -11,7 +11,7 @@ ghost use Rattle.check_rules.specs.Declarations.{declared_twice, labelled_twice}
 ghost use Rattle.check_rules.specs.Typed.{in_order};
 ghost use Rattle.check_rules.specs.Contexts.{ChecksAxioms, ChecksContext, carrier_set, checked_context_of, labels_of, names_of};
 ghost use Rattle.check_rules.specs.Components.{AreContextsOf, ChecksBeside, contexts_in, is_context};
-ghost use Rattle.context_check.specs.Texts.{has};
+ghost use Rattle.model_core.specs.Borrowed.{has};
 ghost use Rattle.context_check.specs.Views.{placed, visible};
 ghost use Rattle.context_check.specs.Private.{AreDeclaredOnce, placed_names};
 

@@ -3,7 +3,8 @@
 ghost use Rattle.std.specs.Prelude.{◌≡◌, ◌++◌, ◌||◌, [], ℕ, List, IfOk, OnOk, bytes_eq, map};
 ghost use Rattle.model_core.specs.Faults.{first_by_place};
 ghost use Rattle.check_rules.specs.Contexts.{labels_of};
-ghost use Rattle.context_check.specs.Texts.{has, mark_of, ref_mark, repeated_row, repeated};
+ghost use Rattle.context_check.specs.Texts.{mark_of, ref_mark, repeated_row, repeated};
+ghost use Rattle.model_core.specs.Borrowed.{has};
 
 use formula_core::{Name, OutOfMemory, Ref};
 use model_core::{Fault, FaultKind, RawLabelled, earlier, fault_at};

@@ -10,7 +10,7 @@ ghost use Rattle.model_core.specs.Faults.{fault_at, first_by_place};
 ghost use Rattle.check_rules.specs.Declarations.{brings_clash};
 ghost use Rattle.check_rules.specs.Visible.{clashing, entries, all_visible, nothing, of_context, origins};
 ghost use Rattle.check_rules.specs.Visible.{seen_from, with_context, with_new};
-ghost use Rattle.context_check.specs.Texts.{has, texts};
+ghost use Rattle.model_core.specs.Borrowed.{texts, has};
 ghost use Rattle.context_check.specs.Views.{placed, differs, clashes, clashes_with, visible, IsIndexed};
 ghost use Rattle.context_check.specs.Private.{first_clashing};
 

@@ -23,7 +23,7 @@ use Rattle.check_rules.specs.Contexts.{names_of}
 use Rattle.check_rules.specs.Visible.{names}
 use Rattle.check_rules.specs.Typed.{Entries, LabelledAction, in_order}
 use Rattle.check_rules.specs.Events.{extended_of, params_inherited, witnesses_of, IsTypedEvent, AreTypedEvents}
-use Rattle.context_check.specs.Texts.{has}
+use Rattle.model_core.specs.Borrowed.{has}
 use Rattle.context_check.specs.Typings.{AreTypedSoFar}
 
 -- the set has these texts and no others

@@ -11,7 +11,8 @@ ghost use Rattle.check_rules.specs.Contexts.{names_of};
 ghost use Rattle.check_rules.specs.Events.{is_initialisation};
 ghost use Rattle.check_rules.specs.Assignments.{written_targets, targets_in, assigned, all_assigned, names_on_right};
 ghost use Rattle.check_rules.specs.Assignments.{free_names_of, is_bad_start, no_start, assignment_faults};
-ghost use Rattle.context_check.specs.Texts.{has, mark_of, ref_mark};
+ghost use Rattle.context_check.specs.Texts.{mark_of, ref_mark};
+ghost use Rattle.model_core.specs.Borrowed.{has};
 ghost use Rattle.machine_check.specs.PrivateEvents.{both_of, no_variable_at, no_variable_in, assigned_twice_in};
 ghost use Rattle.machine_check.specs.PrivateEvents.{reads_at, bad_start_in, bad_starts_in};
 

@@ -10,7 +10,7 @@ ghost use Rattle.check_rules.specs.Visible.{names};
 ghost use Rattle.check_rules.specs.Typed.{in_order};
 ghost use Rattle.check_rules.specs.Contexts.{names_of};
 ghost use Rattle.check_rules.specs.Events.{params_inherited, primed_env};
-ghost use Rattle.context_check.specs.Texts.{has};
+ghost use Rattle.model_core.specs.Borrowed.{has};
 ghost use Rattle.machine_check.specs.PrivateTyped.{HasExactly, ExtendsEntries, event_env_from, witness_env_from};
 ghost use Rattle.machine_check.specs.PrivateTyped.{primed_known, type_of_text, typed_there};
 

@@ -8,7 +8,8 @@ ghost use Rattle.model_core.specs.Each.{is_among};
 ghost use Rattle.model_core.specs.Faults.{first_by_place};
 ghost use Rattle.check_rules.specs.Visible.{names};
 ghost use Rattle.check_rules.specs.Events.{event_labels};
-ghost use Rattle.context_check.specs.Texts.{has, mark_of, ref_mark, repeated};
+ghost use Rattle.context_check.specs.Texts.{mark_of, ref_mark, repeated};
+ghost use Rattle.model_core.specs.Borrowed.{has};
 ghost use Rattle.machine_check.specs.PrivateNames.{step_mark, clash_of, clash_at, declared_in};
 
 use crate::assignments::{add_names_of, fault_if};

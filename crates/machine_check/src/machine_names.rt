@@ -11,7 +11,8 @@ ghost use Rattle.check_rules.specs.Declarations.{declared_twice};
 ghost use Rattle.check_rules.specs.Events.{event_declarations};
 ghost use Rattle.check_rules.specs.Machines.{abstract_events};
 ghost use Rattle.check_rules.specs.Visible.{entries, all_visible, names};
-ghost use Rattle.context_check.specs.Texts.{has, mark_of, ref_mark};
+ghost use Rattle.context_check.specs.Texts.{mark_of, ref_mark};
+ghost use Rattle.model_core.specs.Borrowed.{has};
 ghost use Rattle.machine_check.specs.PrivateMachine.{own_declarations, written_of};
 ghost use Rattle.context_check.specs.Views.{placed, visible};
 

@@ -9,7 +9,7 @@ ghost use Rattle.check_rules.specs.Contexts.{names_of};
 ghost use Rattle.check_rules.specs.Machines.{abstract_view, checked_machine_of, new_variables};
 ghost use Rattle.check_rules.specs.Typed.{in_order};
 ghost use Rattle.check_rules.specs.Visible.{entries, names, origins};
-ghost use Rattle.context_check.specs.Texts.{has};
+ghost use Rattle.model_core.specs.Borrowed.{has};
 ghost use Rattle.machine_check.specs.PrivateMachine.{written_of};
 ghost use Rattle.context_check.specs.Views.{placed, visible};
 

@@ -16,13 +16,13 @@ use Rattle.rule_table.specs.declared.rule.Body.{Body}
 use Rattle.rule_table.specs.declared.rule.Main.{Main}
 use Rattle.rule_table.specs.Linear.{has_linear_form, linear_sum, is_positive_constant}
 use Rattle.rule_table.specs.Rows.{instance, both, hyp, contr, and_r, and_l, or_r, or_l, imp_r, imp_l, mp, iff_r, iff_l, not_r, not_l, contra, all_r, all_l, ex_r, ex_l, cut, cases, eq_refl, eq_goal, eq_hyp, bool_cases, rw_goal, rw_hyp, linear_step_of, card_nat, fun_in, fun_eq, over_other, first, with_hyp, with_chosen, with_two}
-use Rattle.rule_table.specs.Rules.{needed_formulas, terms_of}
+use Rattle.rule_table.specs.Rules.{needed_formulas, terms_of, rule_of}
 use Rattle.sequent_core.specs.declared.hint.Hint.{Hint}
 use Rattle.sequent_core.specs.declared.sequent.Sequent.{Sequent}
 use Rattle.sequent_core.specs.Sequents.{IsSequent}
 use Rattle.rule_making.specs.declared.fault.RuleFault.{RuleFault}
 use Rattle.rule_making.specs.declared.fault.RuleFault.TheVariants as fault
-use Rattle.rule_making.specs.Make.{AreTerms, FitsAt, IsNamed, IsWithinSizes, first_taken, instance_for, main_for, needing, replaced_types, rule_of, same_goal, unfit}
+use Rattle.rule_making.specs.Make.{AreTerms, FitsAt, IsNamed, IsWithinSizes, first_taken, instance_for, main_for, needing, replaced_types, same_goal, unfit}
 use Rattle.rule_making.proofs.Reread.{named_is_instance}
 use Rattle.made_rules.proofs.Typed.{Env, Is}
 use Rattle.made_rules.proofs.Fitting.{IsLeftIn, sound, used_stand}

@@ -7,7 +7,8 @@ use Rattle.sequent_core.specs.declared.hint.Hint.{Hint}
 use Rattle.sequent_core.specs.declared.sequent.Sequent.{Sequent}
 use Rattle.sequent_core.specs.Sequents.{IsSequent}
 use Rattle.rule_making.specs.declared.fault.RuleFault.TheVariants.{NoForm}
-use Rattle.rule_making.specs.Make.{Answers, AreTerms, FitsAt, IsNamed, IsWithinSizes, WithTerms, replaced_types, rule_of, unfit}
+use Rattle.rule_making.specs.Make.{Answers, AreTerms, FitsAt, IsNamed, IsWithinSizes, WithTerms, replaced_types, unfit}
+use Rattle.rule_table.specs.Rules.{rule_of}
 
 -- What a hint with typed terms names for a sequent, of any kind and by any law, and is within the limits, is a rule
 -- of the table that applies there.

@@ -6,7 +6,8 @@ use Rattle.std.proofs.lemmas.Slice.Eq.{bytes_eq-Decides}
 use Rattle.std.proofs.lemmas.Bool.{eq-eqb, leb-true}
 use Rattle.std.proofs.lemmas.List.{map-append, take-append-drop}
 use Rattle.math_tokens.specs.Lexemes.{Forms, sign_in}
-use Rattle.math_tokens.specs.Private.{begins_with, none_begins, is_group, are_groups, IsGroup, Best, table}
+use Rattle.math_tokens.specs.Private.{none_begins, is_group, are_groups, IsGroup, Best, table}
+use Rattle.formula_core.specs.Texts.{begins_with}
 use Rattle.math_tokens.proofs.Longest.{or_else-none, sign_in-append, false_from}
 use Rattle.math_tokens.proofs.Fronts.{both}
 

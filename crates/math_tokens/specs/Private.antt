@@ -1,15 +1,12 @@
 -- The longest token at the front, as the code finds it, and the forms of a table by their first byte.
-use Rattle.std.specs.Prelude.{ℕ, ◌+◌, ◌-◌, ◌==◌, ◌&&◌, not, Bool, true, false, List, [], ◌∷◌, length, take, drop, nat_le, Option, ◌≡◌, ◌<◌, ◌≤◌, map, Some, None, cond, nat_lt, nat_eq, slice_index}
+use Rattle.std.specs.Prelude.{ℕ, ◌+◌, ◌-◌, ◌==◌, ◌&&◌, not, Bool, true, List, [], ◌∷◌, length, take, drop, nat_le, Option, ◌≡◌, ◌<◌, ◌≤◌, map, Some, None, cond, nat_lt, nat_eq, slice_index}
 use Rattle.std.specs.Borrow.{Bor}
 use Rattle.std.specs.List.{prefix_len, starts_with}
 use Rattle.formula_core.specs.Names.{starts_word, is_in_word}
 use Rattle.math_tokens.specs.declared.lexemes.Lexeme.{Lexeme}
 use Rattle.math_tokens.specs.declared.lexemes.Lexeme.TheVariants.{Sign, Word, Primed, Number}
 use Rattle.math_tokens.specs.Lexemes.{Forms, sign_in, IsLexeme, IsLongest}
-
-abbrev pub begins_with : ℕ → List ℕ → Bool
-begins_with b [] = false
-begins_with b (c ∷ cs) = c == b
+use Rattle.formula_core.specs.Texts.{begins_with}
 
 abbrev pub none_begins : ℕ → List (Bor (List ℕ) × ℕ) → Bool
 none_begins b [] = true

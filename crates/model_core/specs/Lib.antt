@@ -1,3 +1,5 @@
+pub mod Borrowed
 pub mod Components
 pub mod Each
 pub mod Faults
+pub mod Refined

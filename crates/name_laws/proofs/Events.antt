@@ -23,7 +23,8 @@ use Rattle.model_core.specs.declared.checked.CheckedMachine.{CheckedMachine}
 use Rattle.model_core.specs.Components.{is_ordinary, is_convergent}
 use Rattle.model_core.specs.Each.{IsIn, for_each, is_among}
 use Rattle.sequent_core.specs.declared.sequent.Obligation.{Obligation}
-use Rattle.po_rules.specs.Parts.{EventParts, path_with, formulas, initialises, is_extended, actions_of, actions_of_first, with_prime, as_term, new_values, machine_hyps, after_pairs, primed_values, parts_of}
+use Rattle.po_rules.specs.Parts.{EventParts, path_with, formulas, initialises, is_extended, actions_of, actions_of_first, as_term, new_values, machine_hyps, after_pairs, primed_values, parts_of}
+use Rattle.formula_core.specs.Names.{with_prime}
 use Rattle.po_rules.specs.Rows.{needed, of_kind, from_base, from_choices, from_witnesses, chain, for_some_of, equal_terms, labelled_rows, guard_rows, witness_row, witness_rows, conditions, strengthening_rows, merging_rows, action_condition, feasible, action_row, action_rows, simulated, simulation_row, simulation_rows, kept_variables, equality_row, equality_rows, is_changed, invariant_row, invariant_rows, was_convergent, decrease, naturals, decrease_rows}
 use Rattle.po_rules.specs.Tables.{Row, guards, witnesses, strengthening, merging, actions, simulation, equality, invariants, variant, all_rows, row_of_event}
 use Rattle.name_laws.specs.Labels.{IsPlain, labels, action_labels, names_of_witnesses, own_invariants, HasPlainNamesInEvent, HasDistinctLabelsInEvent}

@@ -15,7 +15,8 @@ use Rattle.model_core.specs.declared.checked.CheckedMachine.{CheckedMachine}
 use Rattle.model_core.specs.declared.checked.Labelled.{Labelled}
 use Rattle.model_core.specs.Each.{at_each, for_each}
 use Rattle.sequent_core.specs.declared.sequent.Obligation.{Obligation}
-use Rattle.po_rules.specs.Parts.{path_with, formulas, machine_hyps, refined_by}
+use Rattle.po_rules.specs.Parts.{path_with, formulas, machine_hyps}
+use Rattle.model_core.specs.Refined.{refined_by}
 use Rattle.po_rules.specs.Rows.{needed, labelled_rows, axiom_rows, own_invariant_rows, variant_rows}
 use Rattle.po_rules.specs.Tables.{all_rows, event_rows, machine_rows}
 use Rattle.name_laws.specs.Labels.{IsPlain, labels, own_axioms, own_invariants, HasPlainNamesInEvent, HasPlainNamesInMachine, HasDistinctLabelsInEvent, HasDistinctLabelsInMachine, AreOnce}

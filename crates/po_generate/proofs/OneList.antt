@@ -9,7 +9,8 @@ use Rattle.model_core.specs.declared.checked.CheckedEvent.{CheckedEvent}
 use Rattle.model_core.specs.Each.{IsIn, for_each}
 use Rattle.model_core.proofs.Members.{in_either, in_first, in_second, given}
 use Rattle.sequent_core.specs.declared.sequent.Obligation.{Obligation}
-use Rattle.po_rules.specs.Parts.{refined_by, parts_of}
+use Rattle.po_rules.specs.Parts.{parts_of}
+use Rattle.model_core.specs.Refined.{refined_by}
 use Rattle.po_rules.specs.Rows.{own_invariant_rows, variant_rows}
 use Rattle.po_rules.specs.Tables.{Row, guards, witnesses, strengthening, merging, actions, simulation, equality, invariants, variant, all_rows, row_of_event, event_rows, machine_rows, obligations_of}
 use Rattle.po_generate.specs.Lists.{rows_alone, rows_beside, machine_obligations_of, refine_obligations_of}

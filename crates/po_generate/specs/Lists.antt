@@ -7,7 +7,7 @@ use Rattle.model_core.specs.declared.checked.CheckedMachine.{CheckedMachine}
 use Rattle.model_core.specs.declared.checked.CheckedEvent.{CheckedEvent}
 use Rattle.model_core.specs.Each.{for_each, IsIn}
 use Rattle.sequent_core.specs.declared.sequent.Obligation.{Obligation}
-use Rattle.po_rules.specs.Parts.{refined_by}
+use Rattle.model_core.specs.Refined.{refined_by}
 use Rattle.po_rules.specs.Rows.{axiom_rows, own_invariant_rows, variant_rows}
 use Rattle.po_rules.specs.Tables.{Row, guards, witnesses, strengthening, merging, actions, simulation, equality, invariants, variant, event_rows, obligations_of}
 

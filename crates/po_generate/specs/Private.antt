@@ -3,7 +3,8 @@ use Rattle.std.specs.Prelude.{List, [], ◌∷◌, Option}
 use Rattle.model_core.specs.declared.checked.CheckedMachine.{CheckedMachine}
 use Rattle.model_core.specs.declared.checked.CheckedEvent.{CheckedEvent}
 use Rattle.sequent_core.specs.declared.sequent.Obligation.{Obligation}
-use Rattle.po_rules.specs.Parts.{EventParts, refined_by}
+use Rattle.po_rules.specs.Parts.{EventParts}
+use Rattle.model_core.specs.Refined.{refined_by}
 use Rattle.po_rules.specs.Rows.{invariant_rows}
 use Rattle.po_rules.specs.Tables.{Row, all_rows, event_rows}
 use Rattle.po_generate.specs.declared.table.Part.{Part}

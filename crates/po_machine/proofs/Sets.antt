@@ -9,7 +9,7 @@ use Rattle.std.proofs.lemmas.Cmp.{nat_list_eq_equiv}
 use Rattle.std.proofs.lemmas.List.{take_more}
 use Rattle.std.proofs.lemmas.Map.Text.{is_eq-slice_cmp}
 use Rattle.model_core.specs.Each.{is_among}
-use Rattle.po_machine.specs.PrivateNames.{has, texts}
+use Rattle.model_core.specs.Borrowed.{texts, has}
 
 pub at_empty : (s : BTreeSet (Bor (List ℕ))) → s.keys ≡ [] → (text : List ℕ) → has s text ≡ false
 at_empty s e text = ap (λ ks. list_any (λ k. is_eq (slice_cmp nat_cmp text k.now)) ks) e

@@ -17,7 +17,8 @@ use Rattle.model_core.specs.Components.{is_convergent}
 use Rattle.model_core.specs.Each.{at_each, for_each, is_among}
 use Rattle.sequent_core.specs.declared.sequent.Obligation.{Obligation}
 use Rattle.po_rules.specs.Gathering.{table_limit}
-use Rattle.po_rules.specs.Parts.{EventParts, actions_of, actions_of_first, as_term, initialises, machine_hyps, open_targets, path_with, with_prime}
+use Rattle.po_rules.specs.Parts.{EventParts, actions_of, actions_of_first, as_term, initialises, machine_hyps, open_targets, path_with}
+use Rattle.formula_core.specs.Names.{with_prime}
 use Rattle.po_rules.specs.Rows.{decrease, from_base, from_choices, labelled_rows, naturals, needed, of_kind}
 use Rattle.po_machine.specs.declared.changes.Wanted.{Wanted}
 use Rattle.po_machine.specs.declared.changes.Wanted.TheVariants.{All, Among}

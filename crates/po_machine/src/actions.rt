@@ -7,7 +7,7 @@ ghost use Rattle.well_defined.specs.Connectives.{conjoined};
 ghost use Rattle.well_defined.specs.Predicates.{top};
 ghost use Rattle.po_rules.specs.Gathering.{gathered};
 ghost use Rattle.po_rules.specs.Rows.{action_condition, action_row, action_rows, feasible, for_some_of, from_base, of_kind};
-ghost use Rattle.po_rules.specs.Parts.{with_prime};
+ghost use Rattle.formula_core.specs.Names.{with_prime};
 ghost use Rattle.po_machine.specs.Shared.{parts_in, view};
 
 use crate::changes::with_primes;

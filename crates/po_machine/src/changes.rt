@@ -1,12 +1,12 @@
 //! What actions change, and to what.
 ghost use Rattle.std.specs.Prelude.{◌≡◌, ◌++◌, ◌∷◌, [], IfOk, OnOk, map};
 ghost use Rattle.std.specs.Option.{option_copied};
-ghost use Rattle.formula_core.specs.Names.{prime};
+ghost use Rattle.formula_core.specs.Names.{prime, with_prime};
 ghost use Rattle.formula_core.specs.Types.{members};
 ghost use Rattle.formula_core.specs.Wellness.{type_of};
 ghost use Rattle.formula_core.specs.declared.raw.Action.TheVariants as action;
 ghost use Rattle.model_core.specs.Each.{for_each};
-ghost use Rattle.po_rules.specs.Parts.{as_term, before_after, new_values, open_targets, with_prime};
+ghost use Rattle.po_rules.specs.Parts.{as_term, before_after, new_values, open_targets};
 ghost use Rattle.po_machine.specs.Private.{is_wanted_name, wanted_of};
 
 use crate::names::Names;

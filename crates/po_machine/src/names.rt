@@ -2,7 +2,7 @@
 ghost use Rattle.std.specs.Prelude.{◌≡◌, ◌++◌, IfOk, OnOk, ℕ, List};
 ghost use Rattle.std.specs.Map.{keys_of};
 ghost use Rattle.model_core.specs.Each.{is_among};
-ghost use Rattle.po_machine.specs.PrivateNames.{has, texts};
+ghost use Rattle.model_core.specs.Borrowed.{texts, has};
 
 use formula_core::{Name, OutOfMemory};
 use std::alloc::Global;
@@ -19,7 +19,7 @@ pub struct Names<'a> {
 impl<'a> Model for Names<'a> {
     ghost use Rattle.std.specs.Prelude.{List, ℕ, ◌≡◌};
     ghost use Rattle.model_core.specs.Each.{is_among};
-    ghost use Rattle.po_machine.specs.PrivateNames.{has, texts};
+    ghost use Rattle.model_core.specs.Borrowed.{texts, has};
 
     ghost Value = { List (List ℕ) };
 

@@ -3,7 +3,9 @@ ghost use Rattle.std.specs.Prelude.{◌≡◌, ◌++◌, ◌∷◌, [], IfOk, On
 ghost use Rattle.std.specs.List.{filter, filter_map, find};
 ghost use Rattle.std.specs.Option.{option_copied, option_to_list};
 ghost use Rattle.model_core.specs.Each.{for_each, is_among};
-ghost use Rattle.po_rules.specs.Parts.{actions_of_first, after_pairs, obligation_env, parts_of, primed_values, refined_by, with_prime};
+ghost use Rattle.po_rules.specs.Parts.{actions_of_first, after_pairs, obligation_env, parts_of, primed_values};
+ghost use Rattle.formula_core.specs.Names.{with_prime};
+ghost use Rattle.model_core.specs.Refined.{refined_by};
 ghost use Rattle.po_machine.specs.Shared.{parts_in};
 ghost use Rattle.po_machine.specs.declared.changes.Wanted.{Wanted};
 ghost use Rattle.po_machine.specs.Private.{primed_value, substituted_witness, wanted_targets};

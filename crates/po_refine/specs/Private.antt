@@ -11,7 +11,8 @@ use Rattle.model_core.specs.declared.checked.CheckedEvent.{CheckedEvent}
 use Rattle.model_core.specs.declared.checked.Labelled.{Labelled}
 use Rattle.model_core.specs.Each.{for_each, is_among}
 use Rattle.sequent_core.specs.declared.sequent.Obligation.{Obligation}
-use Rattle.po_rules.specs.Parts.{EventParts, formulas, as_term, with_prime}
+use Rattle.po_rules.specs.Parts.{EventParts, formulas, as_term}
+use Rattle.formula_core.specs.Names.{with_prime}
 use Rattle.po_rules.specs.Rows.{chain, conditions, equal_terms, from_witnesses, of_kind}
 use Rattle.po_refine.specs.declared.equality.Changes.{Changes}
 

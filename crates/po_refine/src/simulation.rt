@@ -2,12 +2,12 @@
 ghost use Rattle.std.specs.Prelude.{◌≡◌, ◌++◌, ◌∷◌, [], IfOk, OnOk, map};
 ghost use Rattle.std.specs.List.{list_any};
 ghost use Rattle.formula_core.specs.Formulas.{substituted};
-ghost use Rattle.formula_core.specs.Names.{prime};
+ghost use Rattle.formula_core.specs.Names.{prime, with_prime};
 ghost use Rattle.formula_core.specs.Same.{same_action};
 ghost use Rattle.well_defined.specs.Predicates.{member};
 ghost use Rattle.model_core.specs.Each.{for_each};
 ghost use Rattle.po_rules.specs.Gathering.{gathered};
-ghost use Rattle.po_rules.specs.Parts.{actions_of, as_term, with_prime};
+ghost use Rattle.po_rules.specs.Parts.{actions_of, as_term};
 ghost use Rattle.po_rules.specs.Rows.{simulated, simulated_value, simulation_row, simulation_rows};
 ghost use Rattle.po_machine.specs.Shared.{view, parts_in};
 ghost use Rattle.po_refine.specs.Private.{value_of_primed};

@@ -3,7 +3,7 @@ ghost use Rattle.std.specs.Prelude.{◌≡◌, ◌++◌, IfOk, OnOk, ℕ, List, 
 ghost use Rattle.std.specs.Map.{keys_of};
 ghost use Rattle.model_core.specs.Each.{for_each, is_among};
 ghost use Rattle.po_rules.specs.Parts.{new_values};
-ghost use Rattle.po_machine.specs.PrivateNames.{has, texts};
+ghost use Rattle.model_core.specs.Borrowed.{texts, has};
 
 use formula_core::{Action, Formula, Label, Name, OutOfMemory, Ty};
 use std::alloc::Global;
@@ -20,7 +20,7 @@ pub(crate) struct Targets<'a> {
 impl<'a> Model for Targets<'a> {
     ghost use Rattle.std.specs.Prelude.{List, ℕ, ◌≡◌};
     ghost use Rattle.model_core.specs.Each.{is_among};
-    ghost use Rattle.po_machine.specs.PrivateNames.{has, texts};
+    ghost use Rattle.model_core.specs.Borrowed.{texts, has};
 
     ghost Value = { List (List ℕ) };
 

@@ -10,7 +10,8 @@ use Rattle.model_core.specs.declared.checked.CheckedEvent.{CheckedEvent}
 use Rattle.model_core.specs.Each.{IsIn, at_each, for_each, IsGivenBeside}
 use Rattle.model_core.proofs.Members.{in_either, in_first, in_second, given, given_beside, is_given_beside}
 use Rattle.sequent_core.specs.declared.sequent.Obligation.{Obligation}
-use Rattle.po_rules.specs.Parts.{formulas, refined_by, parts_of}
+use Rattle.po_rules.specs.Parts.{formulas, parts_of}
+use Rattle.model_core.specs.Refined.{refined_by}
 use Rattle.po_rules.specs.Rows.{labelled_rows, own_invariant_rows, variant_rows}
 use Rattle.po_rules.specs.Tables.{Row, guards, witnesses, strengthening, merging, actions, simulation, equality, invariants, variant, all_rows, row_of_event, event_rows, machine_rows, obligations_of}
 use Rattle.po_rules.specs.Members.{IsOfEvent, IsObligation}

@@ -7,7 +7,8 @@ use Rattle.model_core.specs.declared.checked.CheckedMachine.{CheckedMachine}
 use Rattle.model_core.specs.declared.checked.CheckedEvent.{CheckedEvent}
 use Rattle.model_core.specs.Each.{IsIn, IsGivenBeside}
 use Rattle.sequent_core.specs.declared.sequent.Obligation.{Obligation}
-use Rattle.po_rules.specs.Parts.{formulas, refined_by, parts_of}
+use Rattle.po_rules.specs.Parts.{formulas, parts_of}
+use Rattle.model_core.specs.Refined.{refined_by}
 use Rattle.po_rules.specs.Rows.{labelled_rows, variant_rows}
 use Rattle.po_rules.specs.Tables.{Row, row_of_event}
 

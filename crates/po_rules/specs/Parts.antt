@@ -1,14 +1,13 @@
 -- What the rows of one event share: its environment, its hypotheses, and the values of the variables after it.
-use Rattle.std.specs.Prelude.{ℕ, Bool, not, ◌&&◌, ◌==◌, if◌then◌else◌, List, [], ◌∷◌, ◌++◌, map, codes, bytes_eq, Option, Some, None}
+use Rattle.std.specs.Prelude.{ℕ, Bool, not, ◌&&◌, ◌==◌, if◌then◌else◌, List, [], ◌∷◌, ◌++◌, map, codes, bytes_eq}
 use Rattle.std.specs.Option.{option_to_list}
-use Rattle.std.specs.List.{filter, filter_map, find}
-use Rattle.std.specs.Map.{keys_of}
+use Rattle.std.specs.List.{filter}
 use Rattle.formula_core.specs.declared.ty.Ty.{Ty}
 use Rattle.formula_core.specs.declared.formula.Formula.{Formula}
 use Rattle.formula_core.specs.declared.formula.Formula.TheVariants as formula
 use Rattle.formula_core.specs.declared.raw.Action.{Action}
 use Rattle.formula_core.specs.declared.raw.Action.TheVariants.{Assign, ChooseIn, ChooseSuch}
-use Rattle.formula_core.specs.Names.{prime}
+use Rattle.formula_core.specs.Names.{with_prime}
 use Rattle.formula_core.specs.Formulas.{substituted}
 use Rattle.formula_core.specs.Types.{members}
 use Rattle.formula_core.specs.Wellness.{type_of}
@@ -17,6 +16,7 @@ use Rattle.model_core.specs.declared.checked.Labelled.{Labelled}
 use Rattle.model_core.specs.declared.checked.CheckedMachine.{CheckedMachine}
 use Rattle.model_core.specs.declared.checked.CheckedEvent.{CheckedEvent}
 use Rattle.model_core.specs.Each.{for_each, is_among}
+use Rattle.model_core.specs.Refined.{params_left_out}
 
 -- `path` is the front of the names. `choices` are the before-after predicates of the nondeterministic actions. In `witnesses` each primed variable is
 -- replaced by its value after the event. `after` has the new value of each variable that is changed, own or lost.
@@ -44,11 +44,6 @@ is_extended e = not (e.own_guards_from == 0 && e.own_actions_from == 0)
 abbrev pub actions_of : CheckedEvent → List Action
 actions_of e = map (λ a. a.1) e.actions
 
--- the events of the abstraction that an event refines, in order
-abbrev pub refined_by : Option CheckedMachine → CheckedEvent → List CheckedEvent
-refined_by None e = []
-refined_by (Some abstract) e = filter_map (λ name. find (λ x. bytes_eq name x.name) abstract.events) e.refines
-
 -- the actions of the abstract event, of the first one where there are several; a new event has none
 abbrev pub actions_of_first : List CheckedEvent → List Action
 actions_of_first [] = []
@@ -59,9 +54,6 @@ abbrev pub open_targets : Action → List (List ℕ × Ty)
 open_targets (Assign pairs) = []
 open_targets (ChooseIn x s) = map (λ t. (x, t)) (option_to_list (members (type_of s)))
 open_targets (ChooseSuch targets p) = targets
-
-abbrev pub with_prime : List ℕ × Ty → List ℕ × Ty
-with_prime x = (x.0 ++ prime ∷ [], x.1)
 
 abbrev pub as_term : List ℕ × Ty → Formula
 as_term x = formula.Free x.0 x.1
@@ -90,10 +82,6 @@ variables_of m = filter (λ x. is_among (m.variables ++ m.lost) x.0) m.env
 -- each primed variable with the variable's value after the event, which is the variable itself where it is not changed
 abbrev pub primed_values : CheckedMachine → List (List ℕ × Formula) → List (List ℕ × Formula)
 primed_values m after = map (λ x. ((with_prime x).0, substituted after (as_term x))) (variables_of m)
-
--- the parameters of the abstract events that an event lacks
-abbrev pub params_left_out : CheckedEvent → List CheckedEvent → List (List ℕ × Ty)
-params_left_out e refined = filter (λ x. not (is_among (keys_of e.params) x.0)) (for_each (λ r. r.params) refined)
 
 -- The names with which formulas of an event may be written: carrier sets and constants, variables from the most abstract machine on, parameters, lost abstract parameters,
 -- and the primed names of variables that are assigned nondeterministically, own ones before lost ones.

@@ -27,7 +27,8 @@ use Rattle.model_core.specs.Components.{is_ordinary, is_convergent}
 use Rattle.model_core.specs.Each.{at_each, for_each, is_among}
 use Rattle.sequent_core.specs.declared.sequent.Obligation.{Obligation}
 use Rattle.formula_core.specs.Same.{same_action}
-use Rattle.po_rules.specs.Parts.{EventParts, path_with, formulas, initialises, is_extended, actions_of, actions_of_first, open_targets, with_prime, as_term, new_values, before_after, machine_hyps}
+use Rattle.po_rules.specs.Parts.{EventParts, path_with, formulas, initialises, is_extended, actions_of, actions_of_first, open_targets, as_term, new_values, before_after, machine_hyps}
+use Rattle.formula_core.specs.Names.{with_prime}
 
 -- the obligation of this name, and none where the goal is ⊤
 abbrev pub needed : List ℕ → List (List ℕ × Ty) → List Formula → Formula → List Obligation

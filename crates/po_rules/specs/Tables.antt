@@ -7,7 +7,8 @@ use Rattle.model_core.specs.declared.checked.CheckedMachine.{CheckedMachine}
 use Rattle.model_core.specs.declared.checked.CheckedEvent.{CheckedEvent}
 use Rattle.model_core.specs.Each.{for_each}
 use Rattle.sequent_core.specs.declared.sequent.Obligation.{Obligation}
-use Rattle.po_rules.specs.Parts.{EventParts, refined_by, parts_of}
+use Rattle.po_rules.specs.Parts.{EventParts, parts_of}
+use Rattle.model_core.specs.Refined.{refined_by}
 use Rattle.po_rules.specs.Rows.{axiom_rows, own_invariant_rows, variant_rows, guard_rows, witness_rows, strengthening_rows, merging_rows, action_rows, simulation_rows, equality_rows, invariant_rows, decrease_rows}
 
 -- the rows of one event

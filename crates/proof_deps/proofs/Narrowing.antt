@@ -9,7 +9,7 @@ use Rattle.formula_core.specs.Env.{type_in}
 use Rattle.formula_core.specs.Typed.{Stands}
 use Rattle.rule_table.specs.declared.rule.Rule.{Rule}
 use Rattle.sequent_core.specs.declared.tree.Tree.{Tree}
-use Rattle.sequent_core.specs.Trees.{Meets, Applies}
+use Rattle.sequent_core.specs.Trees.{Meets, Applies, at_end, AreFresh}
 use Rattle.rule_table.specs.Rules.{IsRule}
 use Rattle.sequent_core.specs.PrivateChildren.{EachApplies}
 use Rattle.sequent_core.proofs.Nodes.{all_both, all_first, all_last, node_applies, applied_rule}
@@ -21,7 +21,6 @@ use Rattle.proof_deps.proofs.Carried.{at}
 use Rattle.proof_deps.proofs.Envs.{some_is, stands_there}
 use Rattle.proof_deps.specs.declared.found.Found.{Found}
 use Rattle.proof_deps.specs.Private.{Allows, Narrows}
-use Rattle.proof_deps.specs.Private.{at_end, AreFresh}
 
 pub narrows_nothing : (way : List Antecedent) (P : Sequent → Type 0) (d : Found) → ((s : Sequent) → P s) → Narrows way P d d
 narrows_nothing way P d p = λ s. (λ a. a, λ f a. (λ _. p (at_end way s), λ _. a))

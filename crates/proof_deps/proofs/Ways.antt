@@ -15,7 +15,8 @@ use Rattle.proof_deps.specs.declared.way.Way.TheOpen.{Below as BelowF, Root as R
 use Rattle.proof_deps.specs.declared.way.Way.TheVariants.{Below, Root}
 use Rattle.proof_deps.specs.declared.way.Way.TheViews.{rolls-Below, rolls-Root}
 use Rattle.proof_deps.specs.declared.way.Way.TheFolds.{fold-roll-Way}
-use Rattle.proof_deps.specs.Private.{antecedents_on_step, antecedents_on, at_end, AreFresh}
+use Rattle.proof_deps.specs.Private.{antecedents_on_step, antecedents_on}
+use Rattle.sequent_core.specs.Trees.{at_end, AreFresh}
 
 pub antecedents_of-Below : (a : Bor Antecedent) (outer : Bor Way) → antecedents_on (Below a outer) ≡ a.now ∷ antecedents_on outer.now
 antecedents_of-Below a outer = ap antecedents_on (sym (rolls-Below a outer)) ∙ fold-roll-Way (List Antecedent) antecedents_on_step (BelowF a outer)

@@ -1,5 +1,5 @@
 -- Places in a tree, and what was found of a tree so far.
-use Rattle.std.specs.Prelude.{◌≡◌, List, [], ◌∷◌, ⊤, None, IfSome, IsTrue, Contains}
+use Rattle.std.specs.Prelude.{◌≡◌, List, [], ◌∷◌, None, IfSome, IsTrue, Contains}
 use Rattle.std.specs.List.{AllByRecursion}
 use Rattle.formula_core.specs.Env.{type_in}
 use Rattle.formula_core.specs.Typed.{Stands}
@@ -7,7 +7,7 @@ use Rattle.sequent_core.specs.declared.sequent.Sequent.{Sequent}
 use Rattle.rule_table.specs.declared.rule.Antecedent.{Antecedent}
 use Rattle.well_defined.specs.Predicates.{top}
 use Rattle.sequent_core.specs.Sequents.{IsSequent}
-use Rattle.sequent_core.specs.Trees.{goal_or, extended, IsFresh}
+use Rattle.sequent_core.specs.Trees.{goal_or, at_end, AreFresh}
 use Rattle.proof_deps.specs.declared.found.Found.{Found}
 use Rattle.proof_deps.specs.declared.way.Way.{Way}
 use Rattle.proof_deps.specs.declared.way.Way.TheOpen.{Way-F, Root, Below}
@@ -20,16 +20,6 @@ antecedents_on_step (Below a above) = a.now ∷ above.now
 -- the antecedents on the way to a place, the nearest first
 abbrev pub antecedents_on : Way → List Antecedent
 antecedents_on = fold-Way (List Antecedent) antecedents_on_step
-
--- the sequent to which the way leads
-abbrev pub at_end : List Antecedent → Sequent → Sequent
-at_end [] s = s
-at_end (a ∷ above) s = extended (at_end above s) a
-
--- the identifiers of each antecedent are new where it is added
-abbrev pub AreFresh : List Antecedent → Sequent → Type 0
-AreFresh [] s = ⊤
-AreFresh (a ∷ above) s = IsFresh (at_end above s) a × AreFresh above s
 
 -- what was found so far allows the sequent
 pub record Allows (d : Found) (s : Sequent) : Type 0 where

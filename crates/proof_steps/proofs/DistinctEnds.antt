@@ -11,7 +11,7 @@ use Rattle.formula_core.proofs.Distinct.{distinct_with_new}
 use Rattle.rule_table.specs.declared.rule.Antecedent.{Antecedent}
 use Rattle.sequent_core.specs.declared.sequent.Sequent.{Sequent}
 use Rattle.proof_steps.specs.Private.{HaveDistinctIdentifiers}
-use Rattle.proof_tree.specs.Ways.{at_end, AreFresh}
+use Rattle.sequent_core.specs.Trees.{at_end, AreFresh}
 use Rattle.proof_tree.proofs.WayEnds.{type_in-append}
 
 abbrev Names : Type 0

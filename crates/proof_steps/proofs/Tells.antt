@@ -5,7 +5,8 @@ use Rattle.rule_table.specs.declared.rule.Rule.{Rule}
 use Rattle.sequent_core.specs.declared.sequent.Sequent.{Sequent}
 use Rattle.sequent_core.specs.declared.tree.Tree.{Tree}
 use Rattle.proof_tree.specs.declared.way.Way.TheVariants.{Root}
-use Rattle.proof_tree.specs.Ways.{antecedents_of, at_end}
+use Rattle.proof_tree.specs.Ways.{antecedents_of}
+use Rattle.sequent_core.specs.Trees.{at_end}
 use Rattle.proof_tree.proofs.WayEnds.{root_end}
 use Rattle.proof_steps.specs.declared.steps.StepFault.{StepFault}
 use Rattle.proof_steps.specs.declared.steps.StepFault.TheVariants.{NoFit}

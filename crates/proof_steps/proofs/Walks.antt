@@ -3,8 +3,7 @@ use Rattle.std.proofs.Common.{◌≡◌, ◌∙◌, sym, ap, subst, refl, ℕ, �
 use Rattle.rule_table.specs.declared.rule.Antecedent.{Antecedent}
 use Rattle.sequent_core.specs.declared.sequent.Sequent.{Sequent}
 use Rattle.sequent_core.specs.declared.tree.Tree.{Tree}
-use Rattle.sequent_core.specs.Trees.{Applies}
-use Rattle.proof_tree.specs.Ways.{at_end, AreFresh}
+use Rattle.sequent_core.specs.Trees.{Applies, at_end, AreFresh}
 use Rattle.proof_steps.specs.Places.{if_leaf, child_of, leaf_at}
 use Rattle.proof_steps.specs.Private.{HaveDistinctIdentifiers}
 use Rattle.proof_steps.proofs.Descent.{child_applies, leaf_below, leaf_nowhere}

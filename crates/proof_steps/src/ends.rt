@@ -2,8 +2,8 @@
 ghost use Rattle.std.specs.Prelude.{◌≡◌, ◌↔◌, IsTrue, IfOk, OnOk};
 ghost use Rattle.std.specs.List.{AllByRecursion};
 ghost use Rattle.sequent_core.specs.declared.sequent.Sequent.{Sequent};
-ghost use Rattle.sequent_core.specs.Trees.{IsFresh};
-ghost use Rattle.proof_tree.specs.Ways.{antecedents_of, at_end, AreFresh};
+ghost use Rattle.sequent_core.specs.Trees.{IsFresh, at_end, AreFresh};
+ghost use Rattle.proof_tree.specs.Ways.{antecedents_of};
 ghost use Rattle.proof_steps.specs.Places.{AppliesTo};
 ghost use Rattle.proof_steps.specs.Private.{HaveDistinctIdentifiers};
 

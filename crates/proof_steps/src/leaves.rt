@@ -1,7 +1,7 @@
 // The sequent at a leaf.
 ghost use Rattle.std.specs.Prelude.{◌≡◌, None, IfOk};
-ghost use Rattle.sequent_core.specs.Trees.{Applies};
-ghost use Rattle.proof_tree.specs.Ways.{antecedents_of, at_end, AreFresh};
+ghost use Rattle.sequent_core.specs.Trees.{Applies, at_end, AreFresh};
+ghost use Rattle.proof_tree.specs.Ways.{antecedents_of};
 ghost use Rattle.proof_steps.specs.Places.{if_leaf, leaf_at};
 ghost use Rattle.proof_steps.specs.Private.{HaveDistinctIdentifiers};
 

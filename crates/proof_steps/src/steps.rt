@@ -1,7 +1,7 @@
 // A rule is put at a leaf.
 ghost use Rattle.std.specs.Prelude.{◌≡◌, ◌≤◌, ◌<◌, IfOk, OnOk, OnErr, IsErrOf, None, map};
-ghost use Rattle.sequent_core.specs.Trees.{Applies, node_count};
-ghost use Rattle.proof_tree.specs.Ways.{antecedents_of, at_end, AreFresh};
+ghost use Rattle.sequent_core.specs.Trees.{Applies, node_count, at_end, AreFresh};
+ghost use Rattle.proof_tree.specs.Ways.{antecedents_of};
 ghost use Rattle.proof_steps.specs.Places.{AppliesTo, HasLeaf, grown, if_leaf, leaf_at};
 ghost use Rattle.proof_steps.specs.Private.{TellsFit};
 

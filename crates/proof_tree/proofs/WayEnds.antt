@@ -10,13 +10,13 @@ use Rattle.formula_core.specs.declared.Formula.{Formula}
 use Rattle.formula_core.specs.Env.{type_in}
 use Rattle.sequent_core.specs.declared.sequent.Sequent.{Sequent}
 use Rattle.rule_table.specs.declared.rule.Antecedent.{Antecedent}
-use Rattle.sequent_core.specs.Trees.{extended, IsFresh}
+use Rattle.sequent_core.specs.Trees.{extended, IsFresh, at_end, AreFresh}
 use Rattle.proof_tree.specs.declared.way.Way.{Way}
 use Rattle.proof_tree.specs.declared.way.Way.TheOpen.{Below as BelowF, Root as RootF}
 use Rattle.proof_tree.specs.declared.way.Way.TheVariants.{Below, Root}
 use Rattle.proof_tree.specs.declared.way.Way.TheViews.{rolls-Below, rolls-Root}
 use Rattle.proof_tree.specs.declared.way.Way.TheFolds.{fold-roll-Way}
-use Rattle.proof_tree.specs.Ways.{antecedents_step, antecedents_of, at_end, AreFresh}
+use Rattle.proof_tree.specs.Ways.{antecedents_step, antecedents_of}
 
 pub antecedents_of-Below : (a : Bor Antecedent) (outer : Bor Way) → antecedents_of (Below a outer) ≡ a.now ∷ antecedents_of outer.now
 antecedents_of-Below a outer = ap antecedents_of (sym (rolls-Below a outer)) ∙ fold-roll-Way (List Antecedent) antecedents_step (BelowF a outer)

@@ -5,8 +5,8 @@ ghost use Rattle.formula_core.specs.Env.{type_in};
 ghost use Rattle.formula_core.specs.Typed.{Stands};
 ghost use Rattle.sequent_core.specs.PrivateChildren.{EachApplies};
 ghost use Rattle.sequent_core.specs.Provers.{IsGoodTree};
-ghost use Rattle.sequent_core.specs.Trees.{Applies, Derives, IsFresh, Meets, extended};
-ghost use Rattle.proof_tree.specs.Ways.{antecedents_of, at_end, AreFresh};
+ghost use Rattle.sequent_core.specs.Trees.{Applies, Derives, IsFresh, Meets, extended, at_end, AreFresh};
+ghost use Rattle.proof_tree.specs.Ways.{antecedents_of};
 
 use crate::way::Way;
 use formula_core::{Formula, Name, OutOfMemory, Steps, Ty};

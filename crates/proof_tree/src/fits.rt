@@ -3,8 +3,8 @@ ghost use Rattle.std.specs.Prelude.{◌≡◌, ◌↔◌, IsTrue, None, Contains
 ghost use Rattle.std.specs.List.{AllByRecursion};
 ghost use Rattle.formula_core.specs.Env.{type_in};
 ghost use Rattle.formula_core.specs.Typed.{Stands};
-ghost use Rattle.sequent_core.specs.Trees.{IsFresh, Meets};
-ghost use Rattle.proof_tree.specs.Ways.{antecedents_of, at_end, AreFresh};
+ghost use Rattle.sequent_core.specs.Trees.{IsFresh, Meets, at_end, AreFresh};
+ghost use Rattle.proof_tree.specs.Ways.{antecedents_of};
 
 use crate::way::Way;
 use formula_core::{Formula, Name, Ty};

@@ -3,8 +3,8 @@ ghost use Rattle.std.specs.Prelude.{◌≡◌, ◌⊎◌, ◌↔◌, IsTrue, Con
 ghost use Rattle.std.specs.Option.{option_copied, option_or};
 ghost use Rattle.formula_core.specs.Env.{type_in};
 ghost use Rattle.sequent_core.specs.declared.sequent.Sequent.{Sequent};
-ghost use Rattle.sequent_core.specs.Trees.{goal_or};
-ghost use Rattle.proof_tree.specs.Ways.{antecedents_of, at_end, AreFresh};
+ghost use Rattle.sequent_core.specs.Trees.{goal_or, at_end, AreFresh};
+ghost use Rattle.proof_tree.specs.Ways.{antecedents_of};
 
 use formula_core::{Formula, Name, Ty};
 use sequent_core::Antecedent;

@@ -17,7 +17,8 @@ use Rattle.model_core.specs.declared.fault.FaultKind.{FaultKind}
 use Rattle.model_core.specs.Each.{is_among}
 use Rattle.model_core.specs.Faults.{fault_rank, comes_before, earlier, first_by_place, fault_at}
 use Rattle.model_core.proofs.Lists.{any_append, at_index}
-use Rattle.refine_check.specs.Private.{first_index, lower, index_in, texts}
+use Rattle.refine_check.specs.Private.{first_index, lower, index_in}
+use Rattle.model_core.specs.Borrowed.{texts}
 use Rattle.refine_check.proofs.Faults.{map-append}
 
 or_false : (a : Bool) → (a || false) ≡ a

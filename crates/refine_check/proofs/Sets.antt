@@ -1,7 +1,7 @@
 -- Texts to which others are added.
 use Rattle.std.proofs.Common.{◌≡◌, ◌∙◌, ap, refl, ℕ, List, [], ◌∷◌, ◌++◌, take, length}
 use Rattle.std.specs.Borrow.{Bor}
-use Rattle.refine_check.specs.Private.{texts}
+use Rattle.model_core.specs.Borrowed.{texts}
 
 -- the texts that stood there before others were added
 pub cut : (xs ys : List (Bor (List ℕ))) (zs : List (List ℕ)) (n : ℕ) → texts ys ≡ texts xs ++ zs → n ≡ length xs → texts (take n ys) ≡ texts xs

@@ -46,10 +46,6 @@ index_in places text = tree.get_by (λ k. slice_cmp nat_cmp text k.now) places
 abbrev pub text_at : List (List ℕ) → Option ℕ → Option (List ℕ)
 text_at names place = option_and_then (slice_get names) place
 
--- the texts behind references
-abbrev pub texts : List (Bor (List ℕ)) → List (List ℕ)
-texts names = map (λ n. n.now) names
-
 -- the name and the place of a reference
 abbrev pub used_at : Ref → List ℕ × ℕ
 used_at r = (r.name, r.place)

@@ -11,7 +11,8 @@ ghost use Rattle.model_core.specs.Faults.{first_by_place};
 ghost use Rattle.check_rules.specs.Visible.{names, entries, of_machine};
 ghost use Rattle.check_rules.specs.Contexts.{names_of};
 ghost use Rattle.check_rules.specs.Refinements.{lost_among, unknowns_in, lost_in_own, lost_in_variant};
-ghost use Rattle.refine_check.specs.Private.{texts, used_at, lost_of};
+ghost use Rattle.refine_check.specs.Private.{used_at, lost_of};
+ghost use Rattle.model_core.specs.Borrowed.{texts};
 
 use crate::names::{Names, texts_of, texts_of_refs};
 use formula_core::{Name, OutOfMemory, Raw, RawAction, Ref, Ty};

@@ -5,7 +5,8 @@ ghost use Rattle.std.specs.Option.{option_map};
 ghost use Rattle.model_core.specs.Each.{is_among};
 ghost use Rattle.check_rules.specs.Visible.{names};
 ghost use Rattle.check_rules.specs.Contexts.{names_of};
-ghost use Rattle.refine_check.specs.Private.{first_index, lower, index_in, texts, text_at};
+ghost use Rattle.refine_check.specs.Private.{first_index, lower, index_in, text_at};
+ghost use Rattle.model_core.specs.Borrowed.{texts};
 
 use formula_core::{Name, OutOfMemory, Ref, Ty};
 use std::alloc::Global;
@@ -21,7 +22,8 @@ pub(crate) struct Names<'a> {
 
 impl<'a> Model for Names<'a> {
     ghost use Rattle.std.specs.Prelude.{List, ℕ, ◌≡◌, bytes_eq};
-    ghost use Rattle.refine_check.specs.Private.{first_index, index_in, texts};
+    ghost use Rattle.refine_check.specs.Private.{first_index, index_in};
+    ghost use Rattle.model_core.specs.Borrowed.{texts};
 
     ghost Value = { List (List ℕ) };
 

@@ -10,7 +10,8 @@ ghost use Rattle.model_core.specs.Faults.{first_by_place, fault_at};
 ghost use Rattle.check_rules.specs.Visible.{names};
 ghost use Rattle.check_rules.specs.Events.{params_inherited};
 ghost use Rattle.check_rules.specs.Refinements.{chosen, all_chosen, without_labels, missing_witness_row, superfluous_witness_row};
-ghost use Rattle.refine_check.specs.Private.{texts, kept_params, lost_param_names, chosen_first, needed_params_of, needed_of, bad_witnesses_of};
+ghost use Rattle.refine_check.specs.Private.{kept_params, lost_param_names, chosen_first, needed_params_of, needed_of, bad_witnesses_of};
+ghost use Rattle.model_core.specs.Borrowed.{texts};
 
 use crate::names::{Names, add_entries, add_refs};
 use formula_core::{Action, Label, Name, OutOfMemory, Text, Ty};

@@ -7,7 +7,8 @@ use Rattle.formula_core.specs.declared.Ty.{Ty}
 use Rattle.formula_core.specs.Formulas.{joined}
 use Rattle.rule_table.specs.declared.rule.Antecedent.{Antecedent}
 use Rattle.rule_table.specs.declared.rule.Rule.{Rule}
-use Rattle.rule_table.specs.Rules.{IsAllowed, IsSound, Stands, antecedent_formulas, body_of, formulas_of, sorted_by_name, names_in, terms_of}
+use Rattle.rule_table.specs.Rules.{IsAllowed, IsSound, antecedent_formulas, body_of, formulas_of, sorted_by_name, names_in, terms_of}
+use Rattle.formula_core.specs.Typed.{Stands}
 use Rattle.rule_kernel.specs.Private.{HasAllowedFormulas, HasSoundParts, IsAllowedAntecedent, IsSmallType}
 use Rattle.rule_kernel.proofs.Appended.{all_append, all_first, all_last, all_joined, each_joined, all_mapped}
 

@@ -4,7 +4,8 @@ ghost use Rattle.std.specs.List.{AllByRecursion};
 ghost use Rattle.std.specs.Option.{option_to_list};
 ghost use Rattle.formula_core.specs.declared.Ty.{Ty};
 ghost use Rattle.formula_core.specs.Formulas.{joined};
-ghost use Rattle.rule_table.specs.Rules.{Stands, added_by, antecedent_formulas, body_of, formulas_of, sorted_by_name, is_named, names_in, with_name};
+ghost use Rattle.rule_table.specs.Rules.{added_by, antecedent_formulas, body_of, formulas_of, sorted_by_name, is_named, names_in, with_name};
+ghost use Rattle.formula_core.specs.Typed.{Stands};
 ghost use Rattle.rule_kernel.specs.Private.{is_other};
 
 use crate::parts::terms_of;

@@ -11,7 +11,7 @@ use Rattle.rule_table.specs.declared.rule.Rule.{Rule}
 use Rattle.rule_table.specs.declared.rule.Body.{Body}
 use Rattle.rule_table.specs.declared.kind.RuleKind.{RuleKind}
 use Rattle.rule_table.specs.Rows.{first}
-use Rattle.rule_table.specs.Rules.{IsRule, IsSound, IsAllowed, formulas_of, body_of}
+use Rattle.rule_table.specs.Rules.{IsRule, IsSound, IsAllowed, formulas_of, body_of, rule_of}
 use Rattle.rule_kernel.proofs.Appended.{all_mapped}
 use Rattle.formula_core.specs.Sizes.{IsWithinLimits}
 use Rattle.sequent_core.specs.declared.hint.Hint.{Hint}
@@ -19,7 +19,7 @@ use Rattle.sequent_core.specs.declared.sequent.Sequent.{Sequent}
 use Rattle.rule_making.specs.declared.fault.RuleFault.{RuleFault}
 use Rattle.rule_making.specs.declared.fault.RuleFault.TheVariants as fault
 use Rattle.rule_making.specs.Laws.{HasMemory, AnswersAreOne}
-use Rattle.rule_making.specs.Make.{Answers, AreTerms, IsTerm, IsTypedAlone, IsNamed, IsWithinSizes, FitsAt, HasBadTerm, WithTerms, Makes, StandsAgainst, body_for, has_places, kind_of, replaced_types, rule_of, unfit, without_first}
+use Rattle.rule_making.specs.Make.{Answers, AreTerms, IsTerm, IsTypedAlone, IsNamed, IsWithinSizes, FitsAt, HasBadTerm, WithTerms, Makes, StandsAgainst, body_for, has_places, kind_of, replaced_types, unfit, without_first}
 
 -- terms are typed in one way
 same_typing : (env : List (List ℕ × Ty)) (b : Bare) (t : Option Ty) (f g : Formula) → IsTheFormula env [] b t f → IsTheFormula env [] b t g → f ≡ g

@@ -5,11 +5,11 @@ use Rattle.rule_table.specs.declared.rule.Rule.{Rule}
 use Rattle.rule_table.specs.declared.rule.Body.{Body}
 use Rattle.rule_table.specs.declared.kind.RuleKind.{RuleKind}
 use Rattle.rule_table.specs.Rows.{IsInstance}
-use Rattle.rule_table.specs.Rules.{IsRule, IsSound, body_of}
+use Rattle.rule_table.specs.Rules.{IsRule, IsSound, body_of, rule_of}
 use Rattle.sequent_core.specs.declared.sequent.Sequent.{Sequent}
 use Rattle.rule_making.specs.declared.fault.RuleFault.{RuleFault}
 use Rattle.rule_making.specs.declared.fault.RuleFault.TheVariants as fault
-use Rattle.rule_making.specs.Make.{FitsAt, IsWithinSizes, rule_of}
+use Rattle.rule_making.specs.Make.{FitsAt, IsWithinSizes}
 use Rattle.rule_making.specs.Private.{IsMetBy, KeepsWhere, TestsBody}
 
 module _ (s : Sequent) (k : RuleKind) (b : Body) where

@@ -26,7 +26,7 @@ use Rattle.rule_table.specs.declared.kind.RuleKind.TheVariants as kind
 use Rattle.rule_table.specs.Shapes.{one_bound}
 use Rattle.rule_table.specs.Rewriting.{at_place}
 use Rattle.rule_table.specs.Rows.{instance, first}
-use Rattle.rule_table.specs.Rules.{IsRule, body_of, formulas_of, added_by, used_of, width}
+use Rattle.rule_table.specs.Rules.{IsRule, body_of, formulas_of, added_by, width, rule_of}
 use Rattle.rule_making.specs.declared.fault.RuleFault.{RuleFault}
 use Rattle.rule_making.specs.declared.fault.RuleFault.TheVariants as fault
 
@@ -202,11 +202,6 @@ unfit n h terms s =
 -- no formula of the rule and no type that it adds is too large
 abbrev pub IsWithinSizes : RuleKind → Body → Type 0
 IsWithinSizes k b = AllByRecursion IsWithinLimits (formulas_of k b) × AllByRecursion (λ x. type_nodes x.1 ≤ 4096) (added_by b)
-
--- the rule of a kind with what it needs and leaves
-abbrev pub rule_of : RuleKind → Body → Rule
-rule_of k b =
-    record { kind = k; needed_goal = b.goal; needed_hyps = b.hyps; used = used_of k b; antecedents = b.antecedents }
 
 -- the rule is one of the table and fits at the sequent, with a child for each antecedent
 abbrev pub FitsAt : Rule → Sequent → Type 0

@@ -12,7 +12,7 @@ use Rattle.rule_table.specs.declared.rule.Body.{Body}
 use Rattle.rule_table.specs.declared.rule.Rule.{Rule}
 use Rattle.rule_table.specs.declared.kind.RuleKind.{RuleKind}
 use Rattle.rule_table.specs.declared.rule.Main.{Main}
-use Rattle.rule_table.specs.Rules.{terms_of, width}
+use Rattle.rule_table.specs.Rules.{terms_of, width, rule_of}
 use Rattle.instance_size.specs.declared.extent.Extent.{Extent}
 use Rattle.sequent_core.specs.declared.hint.Hint.{Hint}
 use Rattle.sequent_core.specs.declared.sequent.Sequent.{Sequent}
@@ -20,7 +20,7 @@ use Rattle.rule_making.specs.declared.fault.RuleFault.{RuleFault}
 use Rattle.rule_making.specs.declared.fault.RuleFault.TheVariants as fault
 use Rattle.rule_kernel.specs.Private.{IsSmallType}
 use Rattle.sequent_core.specs.Trees.{Meets, IsFresh}
-use Rattle.rule_making.specs.Make.{IsWithinSizes, FitsAt, instance_for, rule_of, same_goal, Makes, StandsAgainst}
+use Rattle.rule_making.specs.Make.{IsWithinSizes, FitsAt, instance_for, same_goal, Makes, StandsAgainst}
 
 -- the formulas of an antecedent and the types that it adds are within the limits, and those of a rule
 pub record IsSmallAntecedent (a : Antecedent) : Type 0 where

@@ -4,9 +4,9 @@ ghost use Rattle.std.specs.List.{AllByRecursion};
 ghost use Rattle.formula_core.specs.Env.{type_in};
 ghost use Rattle.formula_core.specs.Same.{same_formula, same_list};
 ghost use Rattle.rule_table.specs.Rows.{IsInstance};
-ghost use Rattle.rule_table.specs.Rules.{body_of, used_of, width};
+ghost use Rattle.rule_table.specs.Rules.{body_of, used_of, width, rule_of};
 ghost use Rattle.sequent_core.specs.Trees.{IsFresh};
-ghost use Rattle.rule_making.specs.Make.{Answers, FitsAt, needing, instance_for, rule_of, same_goal};
+ghost use Rattle.rule_making.specs.Make.{Answers, FitsAt, needing, instance_for, same_goal};
 ghost use Rattle.instance_size.specs.Growth.{Outgrows, hyp_count, needs_goal};
 ghost use Rattle.rule_making.specs.Private.{AnswersOver, FindsRule, GivesBody, IsMetBy, KeepsWhere, TestsBody, limits, needs_just};
 

@@ -1,5 +1,5 @@
 -- When a rule is one of the table, without any sequent.
-use Rattle.std.specs.Prelude.{◌≡◌, ◌≤◌, ℕ, ℤ, Bool, not, List, [], ◌++◌, map, filter, fold, bytes_eq, Some, None, Option, IsTrue, if◌then◌else◌}
+use Rattle.std.specs.Prelude.{◌≡◌, ◌≤◌, ℕ, ℤ, Bool, not, List, [], ◌++◌, map, filter, fold, bytes_eq, None, Option, IsTrue, if◌then◌else◌}
 use Rattle.std.specs.List.{AllByRecursion, list_any}
 use Rattle.std.specs.Option.{option_to_list, option_and_then}
 use Rattle.std.specs.BTreeMap.{insert_entry}
@@ -8,7 +8,7 @@ use Rattle.std.specs.Cmp.Lexicographic.{slice_cmp}
 use Rattle.formula_core.specs.declared.Formula.{Formula}
 use Rattle.formula_core.specs.declared.Ty.{Ty}
 use Rattle.formula_core.specs.declared.Ty.TheVariants.{Truth}
-use Rattle.formula_core.specs.Env.{HasDistinctNames, type_in}
+use Rattle.formula_core.specs.Env.{HasDistinctNames}
 use Rattle.formula_core.specs.Formulas.{joined}
 use Rattle.formula_core.specs.Wellness.{is_well, type_of}
 use Rattle.formula_core.specs.Identifiers.{identifiers}
@@ -22,6 +22,7 @@ use Rattle.rule_table.specs.declared.rule.Rule.{Rule}
 use Rattle.rule_table.specs.Rewriting.{law_of, at_place, width_of}
 use Rattle.rule_table.specs.Linear.{has_linear_form, linear_sum, first_overflow}
 use Rattle.rule_table.specs.Rows.{IsInstance, first}
+use Rattle.formula_core.specs.Typed.{Stands}
 
 -- what a rule needs and leaves
 abbrev pub body_of : Rule → Body
@@ -69,10 +70,6 @@ is_named names name = list_any (λ x. bytes_eq x.0 name) names
 abbrev pub used_of : RuleKind → Body → List (List ℕ × Ty)
 used_of k b = sorted_by_name (filter (λ x. not (is_named (added_by b) x.0)) (names_in (formulas_of k b)))
 
--- the name stands there with this type
-abbrev pub Stands : List (List ℕ × Ty) → List ℕ × Ty → Type 0
-Stands env x = type_in env x.0 ≡ Some x.1
-
 -- a formula that may stand in a rule: well, and within the limits
 pub record IsAllowed (f : Formula) : Type 0 where
   pub well : IsTrue (is_well f)
@@ -107,3 +104,8 @@ width (kind.RwGoal law place) m = option_and_then (width_at law place) m.goal
 width (kind.RwHyp law place) m = option_and_then (width_at law place) (first m.hyps)
 width (kind.Linear ks) m = option_and_then (linear_width ks m.hyps) m.goal
 width _ m = None
+
+-- the rule of a kind with what it needs and leaves
+abbrev pub rule_of : RuleKind → Body → Rule
+rule_of k b =
+    record { kind = k; needed_goal = b.goal; needed_hyps = b.hyps; used = used_of k b; antecedents = b.antecedents }

@@ -1,5 +1,5 @@
 -- When a proof tree applies to a sequent, and when it derives it.
-use Rattle.std.specs.Prelude.{◌≡◌, ◌+◌, ℕ, Bool, true, false, List, [], ◌∷◌, ◌++◌, Option, Some, None, IfSome, IsTrue, Contains, length, sum, if◌then◌else◌}
+use Rattle.std.specs.Prelude.{◌≡◌, ◌+◌, ℕ, Bool, true, false, List, [], ◌∷◌, ◌++◌, Option, Some, None, IfSome, IsTrue, Contains, length, sum, if◌then◌else◌, ⊤}
 use Rattle.std.specs.List.{AllByRecursion, list_all, list_any}
 use Rattle.formula_core.specs.declared.Formula.{Formula}
 use Rattle.formula_core.specs.Env.{type_in}
@@ -100,3 +100,13 @@ rule_count_step (Node r children) = sum children + 1
 -- the number of nodes that are rules
 abbrev pub rule_count : Tree → ℕ
 rule_count = fold-Tree ℕ rule_count_step
+
+-- the sequent to which the way leads
+abbrev pub at_end : List Antecedent → Sequent → Sequent
+at_end [] s = s
+at_end (a ∷ above) s = extended (at_end above s) a
+
+-- the identifiers of each antecedent are new where it is added
+abbrev pub AreFresh : List Antecedent → Sequent → Type 0
+AreFresh [] s = ⊤
+AreFresh (a ∷ above) s = IsFresh (at_end above s) a × AreFresh above s

@@ -13,7 +13,8 @@ use Rattle.formula_core.specs.Laws.{IsWithin}
 use Rattle.formula_core.specs.Typed.{Stands}
 use Rattle.formula_core.proofs.Keeping.{front, back, both}
 use Rattle.model_core.specs.Each.{for_each, is_among}
-use Rattle.po_rules.specs.Parts.{open_targets, with_prime, as_term, new_values}
+use Rattle.po_rules.specs.Parts.{open_targets, as_term, new_values}
+use Rattle.formula_core.specs.Names.{with_prime}
 use Rattle.sequent_laws.specs.Sound.{Environment, targets_of_all, AreAmong}
 use Rattle.sequent_laws.proofs.Environments.{of_keys, to_keys, distinct_append}
 use Rattle.sequent_laws.proofs.Primes.{name_is}

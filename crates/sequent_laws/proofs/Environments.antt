@@ -10,14 +10,13 @@ use Rattle.formula_core.specs.Env.{HasDistinctNames, type_in}
 use Rattle.formula_core.specs.Laws.{IsWithin}
 use Rattle.formula_core.specs.Typed.{Stands}
 use Rattle.formula_core.specs.Identifiers.{carriers}
-use Rattle.formula_core.specs.Names.{prime}
+use Rattle.formula_core.specs.Names.{prime, with_prime}
 use Rattle.formula_core.specs.declared.ty.Ty.TheVariants as ty
 use Rattle.formula_core.proofs.Equations.{carriers-Given, carriers-Pow, carriers-Pair}
 use Rattle.formula_core.proofs.Types.{type_induction}
 use Rattle.formula_core.proofs.Keeping.{front, back, both, carriers-Int, carriers-Bool, carriers-Truth}
 use Rattle.formula_core.proofs.TypedIn.{stands_more}
 use Rattle.model_core.specs.Each.{for_each}
-use Rattle.po_rules.specs.Parts.{with_prime}
 use Rattle.sequent_laws.specs.Sound.{Environment}
 use Rattle.sequent_laws.proofs.Primes.{name_is, same_unprimed}
 

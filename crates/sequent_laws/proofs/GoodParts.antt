@@ -25,7 +25,9 @@ use Rattle.model_core.specs.declared.checked.CheckedEvent.{CheckedEvent}
 use Rattle.model_core.specs.declared.checked.CheckedMachine.{CheckedMachine}
 use Rattle.model_core.specs.declared.checked.Labelled.{Labelled}
 use Rattle.model_core.specs.Each.{for_each, is_among}
-use Rattle.po_rules.specs.Parts.{formulas, initialises, actions_of, actions_of_first, open_targets, with_prime, as_term, new_values, before_after, after_pairs, variables_of, primed_values, params_left_out, obligation_env, machine_hyps, refined_by, parts_of}
+use Rattle.po_rules.specs.Parts.{formulas, initialises, actions_of, actions_of_first, open_targets, as_term, new_values, before_after, after_pairs, variables_of, primed_values, obligation_env, machine_hyps, parts_of}
+use Rattle.formula_core.specs.Names.{with_prime}
+use Rattle.model_core.specs.Refined.{refined_by, params_left_out}
 use Rattle.po_rules.specs.Sequents.{IsNewValueIn, AreGoodParts}
 use Rattle.sequent_laws.specs.Sound.{Environment, AreTypedPredicates, IsTypedVariantIn, IsActionAt, AreNewValues, IsAbstractActionAt, IsReadIn, HasGoodParts, IsGoodMachine, params_env, witnesses_env, IsTypedActionIn, lost_chosen, wants_witness, IsWellTypedEvent, IsWellTypedMachine, targets_of_all}
 use Rattle.sequent_laws.proofs.Environments.{found_in, within_both, list_within, entries_stand, absent, front_within, named_has, mapped_front, filter_append, both_hold, distinct_append, distinct_front, distinct_primed, sets_keep, of_keys}

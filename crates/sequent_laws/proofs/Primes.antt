@@ -13,13 +13,12 @@ use Rattle.formula_core.specs.Env.{type_in}
 use Rattle.formula_core.specs.Formulas.{substituted}
 use Rattle.formula_core.specs.Identifiers.{carriers}
 use Rattle.formula_core.specs.Laws.{IsNewValue, Replaces}
-use Rattle.formula_core.specs.Names.{prime}
+use Rattle.formula_core.specs.Names.{prime, with_prime}
 use Rattle.formula_core.specs.Typed.{Stands, IsTypedIn, IsPredicateIn, IsGoodEnv}
 use Rattle.formula_core.specs.Wellness.{type_of}
 use Rattle.formula_core.proofs.Equations.{carriers-Given, carriers-Pow}
 use Rattle.formula_core.proofs.TypedIn.{replaced_predicate}
 use Rattle.model_core.specs.Each.{IsIn}
-use Rattle.po_rules.specs.Parts.{with_prime}
 use Rattle.sequent_laws.specs.Sound.{Environment}
 use Rattle.sequent_laws.proofs.Formulas.{carriers_at}
 

@@ -27,7 +27,8 @@ use Rattle.model_core.specs.declared.checked.Labelled.{Labelled}
 use Rattle.model_core.specs.Each.{at_each, for_each}
 use Rattle.sequent_core.specs.declared.sequent.Obligation.{Obligation}
 use Rattle.sequent_core.specs.Sequents.{IsSequent}
-use Rattle.po_rules.specs.Parts.{EventParts, path_with, formulas, initialises, is_extended, with_prime, as_term, machine_hyps}
+use Rattle.po_rules.specs.Parts.{EventParts, path_with, formulas, initialises, is_extended, as_term, machine_hyps}
+use Rattle.formula_core.specs.Names.{with_prime}
 use Rattle.po_rules.specs.Rows.{needed, from_base, from_choices, from_witnesses, of_kind, chain, for_some_of, equal_terms, labelled_rows, variant_rows, witness_row, witness_rows, conditions, strengthening_rows, merging_rows, action_condition, feasible, action_row, action_rows, equality_row, equality_rows, is_changed, invariant_row, invariant_rows, was_convergent, decrease, naturals, decrease_rows}
 use Rattle.po_rules.specs.Sequents.{IsNewValueIn, AreGoodParts, AreSequents}
 use Rattle.sequent_laws.specs.Sound.{Environment, AreTypedPredicates, IsTypedVariantIn, IsActionAt}

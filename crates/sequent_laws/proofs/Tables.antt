@@ -18,7 +18,9 @@ use Rattle.model_core.specs.declared.checked.Checked.TheVariants.{Context, Machi
 use Rattle.model_core.specs.declared.checked.CheckedEvent.{CheckedEvent}
 use Rattle.model_core.specs.declared.checked.CheckedMachine.{CheckedMachine}
 use Rattle.model_core.specs.Each.{for_each, is_among}
-use Rattle.po_rules.specs.Parts.{EventParts, formulas, is_extended, actions_of, actions_of_first, open_targets, with_prime, as_term, before_after, machine_hyps, refined_by, parts_of}
+use Rattle.po_rules.specs.Parts.{EventParts, formulas, is_extended, actions_of, actions_of_first, open_targets, as_term, before_after, machine_hyps, parts_of}
+use Rattle.formula_core.specs.Names.{with_prime}
+use Rattle.model_core.specs.Refined.{refined_by}
 use Rattle.po_rules.specs.Rows.{of_kind, chain, equal_terms, simulated_value, simulated, simulation_row, simulation_rows, own_invariant_rows, variant_rows, decrease_rows}
 use Rattle.po_rules.specs.Sequents.{IsNewValueIn, AreGoodParts, AreSequents}
 use Rattle.po_rules.specs.Tables.{Row, guards, witnesses, strengthening, merging, actions, simulation, equality, invariants, variant, all_rows, row_of_event, event_rows, machine_rows, obligations_of}

@@ -18,7 +18,9 @@ use Rattle.model_core.specs.declared.checked.CheckedEvent.{CheckedEvent}
 use Rattle.model_core.specs.declared.checked.CheckedMachine.{CheckedMachine}
 use Rattle.model_core.specs.declared.checked.Labelled.{Labelled}
 use Rattle.model_core.specs.Each.{for_each, is_among}
-use Rattle.po_rules.specs.Parts.{actions_of, actions_of_first, params_left_out, variables_of, open_targets, with_prime, new_values, before_after, refined_by, parts_of}
+use Rattle.po_rules.specs.Parts.{actions_of, actions_of_first, variables_of, open_targets, new_values, before_after, parts_of}
+use Rattle.formula_core.specs.Names.{with_prime}
+use Rattle.model_core.specs.Refined.{refined_by, params_left_out}
 use Rattle.po_rules.specs.Sequents.{IsNewValueIn, AreGoodParts}
 
 abbrev pub Environment : Type 0

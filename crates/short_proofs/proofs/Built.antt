@@ -11,14 +11,14 @@ use Rattle.rule_table.specs.declared.rule.Body.{Body}
 use Rattle.rule_table.specs.declared.rule.Rule.{Rule}
 use Rattle.rule_table.specs.Linear.{is_formula_among}
 use Rattle.rule_table.specs.Rows.{adds, backward, both, forward, proves}
-use Rattle.rule_table.specs.Rules.{IsSound}
+use Rattle.rule_table.specs.Rules.{IsSound, rule_of}
 use Rattle.rule_table.specs.SetLaws.{member_of_whole}
 use Rattle.rule_table.specs.Shapes.{bottom}
 use Rattle.sequent_core.specs.declared.sequent.Sequent.{Sequent}
 use Rattle.sequent_core.specs.declared.tree.Tree.{Tree}
 use Rattle.sequent_core.specs.declared.tree.Tree.TheVariants.{Node}
 use Rattle.sequent_core.specs.Sequents.{IsSequent}
-use Rattle.short_proofs.specs.Private.{truth, rule_of}
+use Rattle.short_proofs.specs.Private.{truth}
 use Rattle.short_proofs.specs.Short.{IsShortProof}
 use Rattle.short_proofs.specs.Sure.{is_reflexive, IsSmallSequent, IsSureByLogic}
 use Rattle.short_proofs.proofs.Forms.{top_fits, whole_proof}

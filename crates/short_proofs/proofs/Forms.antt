@@ -31,14 +31,13 @@ use Rattle.rule_table.specs.declared.rule.Antecedent.{Antecedent}
 use Rattle.rule_table.specs.declared.rule.Body.{Body}
 use Rattle.rule_table.specs.Linear.{is_formula_among}
 use Rattle.rule_table.specs.Rows.{backward, forward, both, proves, adds, eq_refl, IsInstance}
-use Rattle.rule_table.specs.Rules.{IsSound}
+use Rattle.rule_table.specs.Rules.{IsSound, rule_of}
 use Rattle.rule_table.specs.SetLaws.{member_of_whole}
 use Rattle.rule_table.specs.Shapes.{bottom, equal, operands_at, two_of, two_operands}
 use Rattle.sequent_core.specs.declared.sequent.Sequent.{Sequent}
 use Rattle.sequent_core.specs.declared.tree.Tree.TheVariants.{Node}
 use Rattle.sequent_core.specs.Sequents.{IsSequent}
 use Rattle.sequent_core.specs.Trees.{extended}
-use Rattle.short_proofs.specs.Private.{rule_of}
 use Rattle.short_proofs.specs.Sure.{IsSmallSequent, is_reflexive}
 use Rattle.short_proofs.proofs.Plain.{IsFit, is_sound, is_rule_of, meets, no_names}
 use Rattle.short_proofs.proofs.Trees.{FitsPlainly, IsProofOf, proof_alone, proof_above, extended_env}

@@ -8,12 +8,12 @@ use Rattle.rule_table.specs.declared.rule.Body.{Body}
 use Rattle.rule_table.specs.declared.rule.Rule.{Rule}
 use Rattle.rule_table.specs.Linear.{has_linear_form, is_positive_constant, linear_sum}
 use Rattle.rule_table.specs.Rows.{adds, backward, both, forward, linear_step_of, proves}
-use Rattle.rule_table.specs.Rules.{IsSound}
+use Rattle.rule_table.specs.Rules.{IsSound, rule_of}
 use Rattle.sequent_core.specs.declared.sequent.Sequent.{Sequent}
 use Rattle.sequent_core.specs.declared.tree.Tree.{Tree}
 use Rattle.sequent_core.specs.declared.tree.Tree.TheVariants.{Node}
 use Rattle.sequent_core.specs.Sequents.{IsSequent}
-use Rattle.short_proofs.specs.Private.{below_goal, below_hyp, law_of_reading, linear_tree, linear_tree_if, rule_of}
+use Rattle.short_proofs.specs.Private.{below_goal, below_hyp, law_of_reading, linear_tree, linear_tree_if}
 use Rattle.short_proofs.specs.Short.{IsShortProof}
 use Rattle.short_proofs.specs.Sure.{as_comparison, is_linear_step, IsSmallSequent}
 use Rattle.short_proofs.proofs.Built.{tree_alone}

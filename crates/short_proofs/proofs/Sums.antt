@@ -9,13 +9,13 @@ use Rattle.formula_core.specs.declared.Ty.{Ty}
 use Rattle.rule_table.specs.declared.kind.RuleKind.TheVariants as kind
 use Rattle.rule_table.specs.declared.rule.Body.{Body}
 use Rattle.rule_table.specs.Rows.{adds, backward, both, forward, proves, IsInstance}
-use Rattle.rule_table.specs.Rules.{formulas_of, needed_formulas, IsSound}
+use Rattle.rule_table.specs.Rules.{formulas_of, needed_formulas, IsSound, rule_of}
 use Rattle.sequent_core.specs.declared.sequent.Sequent.{Sequent}
 use Rattle.sequent_core.specs.declared.tree.Tree.{Tree}
 use Rattle.sequent_core.specs.declared.tree.Tree.TheVariants.{Node}
 use Rattle.sequent_core.specs.Sequents.{IsSequent}
 use Rattle.sequent_core.specs.Trees.{extended}
-use Rattle.short_proofs.specs.Private.{below_goal, below_hyp, law_of_reading, linear_tree, rule_of}
+use Rattle.short_proofs.specs.Private.{below_goal, below_hyp, law_of_reading, linear_tree}
 use Rattle.short_proofs.specs.Short.{IsShortProof}
 use Rattle.short_proofs.specs.Sure.{as_comparison, is_linear_step, IsSmallSequent}
 use Rattle.short_proofs.proofs.Comparisons.{Reading, ReadsBy, reading}

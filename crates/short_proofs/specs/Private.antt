@@ -6,10 +6,7 @@ use Rattle.formula_core.specs.declared.Formula.{Formula}
 use Rattle.well_defined.specs.Predicates.{top}
 use Rattle.rule_table.specs.declared.kind.RuleKind.TheVariants as kind
 use Rattle.rule_table.specs.Rows.{adds, backward, both, forward, proves}
-use Rattle.rule_table.specs.declared.rule.Body.{Body}
-use Rattle.rule_table.specs.declared.rule.Rule.{Rule}
-use Rattle.rule_table.specs.declared.kind.RuleKind.{RuleKind}
-use Rattle.rule_table.specs.Rules.{used_of}
+use Rattle.rule_table.specs.Rules.{rule_of}
 use Rattle.sequent_core.specs.declared.tree.Tree.{Tree}
 use Rattle.sequent_core.specs.declared.tree.Tree.TheVariants.{Node}
 use Rattle.short_proofs.specs.Sure.{is_linear_step, natural_in}
@@ -17,11 +14,6 @@ use Rattle.short_proofs.specs.Sure.{is_linear_step, natural_in}
 -- the number of the law by which a formula is read as a comparison, or 0
 abbrev pub law_of_reading : Formula → ℕ
 law_of_reading f = option_map_or (λ e. 61) (natural_in op.Naturals f) (option_map_or (λ e. 62) (natural_in op.PositiveNaturals f) 0)
-
--- the rule of a kind that needs and leaves this
-abbrev pub rule_of : RuleKind → Body → Rule
-rule_of k b =
-    record { kind = k; needed_goal = b.goal; needed_hyps = b.hyps; used = used_of k b; antecedents = b.antecedents }
 
 -- the proof of ⊤
 abbrev pub truth : Tree

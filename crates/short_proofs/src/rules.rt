@@ -1,8 +1,7 @@
 //! Rules that are known to be right, and trees of one rule.
 ghost use Rattle.std.specs.Prelude.{◌≡◌, IfOk, [], ◌∷◌};
 ghost use Rattle.rule_table.specs.Rows.{adds, backward, forward, proves};
-ghost use Rattle.rule_table.specs.Rules.{IsSound};
-ghost use Rattle.short_proofs.specs.Private.{rule_of};
+ghost use Rattle.rule_table.specs.Rules.{IsSound, rule_of};
 
 use formula_core::{Formula, List, OutOfMemory};
 use rule_kernel::used_if_sound;

@@ -27,12 +27,14 @@ use Rattle.check_rules.specs.Refinements.{chosen, all_chosen}
 use Rattle.check_rules.specs.Typed.{Entries, LabelledAction}
 use Rattle.check_rules.specs.Visible.{names}
 use Rattle.checked_laws.specs.Sound.{HasTargets, AreActionsIn, IsSoundEvent, AssignsVariables, IsSoundMachine, IsSoundComponent}
-use Rattle.checked_laws.specs.Refining.{IsEventIn, IsSoundRefinement, chosen_by_first, params_left_out, witness_names, IsSoundBeside}
+use Rattle.checked_laws.specs.Refining.{IsEventIn, IsSoundRefinement, chosen_by_first, witness_names, IsSoundBeside}
 use Rattle.checked_laws.proofs.Actions.{with_all_new}
 use Rattle.checked_laws.proofs.Growing.{within_with}
 use Rattle.checked_laws.proofs.Names.{some_or, or_cases, or_left, or_right, same_name, name_is, among_later, among_sooner}
 use Rattle.checked_laws.proofs.Parts.{any_append}
-use Rattle.po_rules.specs.Parts.{actions_of, actions_of_first, open_targets, with_prime, as_term, new_values, refined_by}
+use Rattle.po_rules.specs.Parts.{actions_of, actions_of_first, open_targets, as_term, new_values}
+use Rattle.formula_core.specs.Names.{with_prime}
+use Rattle.model_core.specs.Refined.{refined_by, params_left_out}
 use Rattle.po_rules.specs.Sequents.{IsNewValueIn}
 use Rattle.sequent_laws.specs.Sound.{IsTypedActionIn, lost_chosen, wants_witness, targets_of_all, AreAmong, params_env, IsWellTypedEvent, IsWellTypedComponent}
 

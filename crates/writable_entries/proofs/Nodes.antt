@@ -16,7 +16,7 @@ use Rattle.proof_codec.specs.Entries.{IsWritable}
 use Rattle.proof_codec.specs.Parts.{IsAny}
 use Rattle.proof_codec.specs.Rules.{IsFitRule}
 use Rattle.proof_codec.specs.ProofTrees.{rules_in, rules_step, HasChildren}
-use Rattle.writable_entries.specs.Private.{HasFitRules}
+use Rattle.proof_codec.specs.Private.{HasFitRules}
 
 rules_at : (x : Tree-F Tree) → rules_in (roll-Tree x) ≡ rules_step (map-Tree Tree (List (Rule × ℕ)) rules_in x)
 rules_at x = fold-roll-Tree (List (Rule × ℕ)) rules_step x

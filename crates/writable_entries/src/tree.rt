@@ -3,7 +3,7 @@ ghost use Rattle.std.specs.Prelude.{◌↔◌, IsTrue, length};
 ghost use Rattle.std.specs.List.{AllByRecursion};
 ghost use Rattle.proof_codec.specs.Rules.{IsFitRule};
 ghost use Rattle.proof_codec.specs.ProofTrees.{HasChildren, IsFitTree};
-ghost use Rattle.writable_entries.specs.Private.{HasFitRules};
+ghost use Rattle.proof_codec.specs.Private.{HasFitRules};
 
 use crate::rule::is_fit_rule;
 use rule_table::Rule;

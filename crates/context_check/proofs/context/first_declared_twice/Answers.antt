@@ -3,7 +3,8 @@ use Rattle.std.proofs.lemmas.List.{map-append}
 use Rattle.model_core.specs.Each.{is_among}
 use Rattle.model_core.specs.Faults.{first_by_place}
 use Rattle.check_rules.specs.Visible.{entries, names}
-use Rattle.context_check.specs.Texts.{has, mark_of, ref_mark}
+use Rattle.context_check.specs.Texts.{mark_of, ref_mark}
+use Rattle.model_core.specs.Borrowed.{has}
 use Rattle.context_check.specs.Views.{placed}
 use Rattle.context_check.proofs.Contexts.{after, nothing_more}
 use Rattle.context_check.proofs.Repeated.{declared_from, has_none}

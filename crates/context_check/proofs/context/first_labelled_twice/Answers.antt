@@ -1,7 +1,8 @@
 use Rattle.std.proofs.Common.{◌∙◌, ◌++◌, ◌||◌, [], ap, map, false}
 use Rattle.model_core.specs.Faults.{first_by_place}
 use Rattle.check_rules.specs.Contexts.{labels_of}
-use Rattle.context_check.specs.Texts.{has, mark_of}
+use Rattle.context_check.specs.Texts.{mark_of}
+use Rattle.model_core.specs.Borrowed.{has}
 use Rattle.context_check.proofs.Contexts.{nothing_more}
 use Rattle.context_check.proofs.Repeated.{labelled_from, has_none}
 use Rattle.context_check.proofs.context.first_labelled_twice.Goals as goal

@@ -1,7 +1,7 @@
 use Rattle.std.proofs.Common.{◌∙◌, ◌||◌, ap, map, false, arith, bytes_eq}
 use Rattle.std.proofs.lemmas.List.{take_all}
 use Rattle.model_core.specs.Each.{is_among}
-use Rattle.context_check.specs.Texts.{has}
+use Rattle.model_core.specs.Borrowed.{has}
 use Rattle.context_check.specs.Views.{placed}
 use Rattle.context_check.proofs.Copied.{map_map}
 use Rattle.context_check.proofs.Repeated.{has_none}

@@ -1,6 +1,6 @@
 use Rattle.std.proofs.Common.{◌∙◌, [], ◌||◌, refl, arith}
 use Rattle.context_check.specs.declared.declarations.Mark.{Mark}
-use Rattle.context_check.specs.Texts.{has}
+use Rattle.model_core.specs.Borrowed.{has}
 use Rattle.context_check.proofs.Repeated.{none_seen, seen_more, first_here, all_marks}
 use Rattle.context_check.proofs.declarations.first_repeated.Goals as goal
 

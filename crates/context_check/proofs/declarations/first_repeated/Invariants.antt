@@ -1,7 +1,8 @@
 use Rattle.std.proofs.Common.{◌≡◌, ℕ, List, [], ◌||◌, map, take}
 use Rattle.model_core.specs.Each.{at_each, is_among}
 use Rattle.model_core.specs.Faults.{first_by_place}
-use Rattle.context_check.specs.Texts.{has, mark_of, repeated_row}
+use Rattle.context_check.specs.Texts.{mark_of, repeated_row}
+use Rattle.model_core.specs.Borrowed.{has}
 use Rattle.context_check.proofs.Repeated.{texts_of}
 use Rattle.context_check.proofs.declarations.first_repeated.Given as goal
 

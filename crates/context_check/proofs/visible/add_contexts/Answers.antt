@@ -1,5 +1,5 @@
 use Rattle.std.proofs.Common.{◌∙◌, ap, map}
-use Rattle.context_check.specs.Texts.{has}
+use Rattle.model_core.specs.Borrowed.{has}
 use Rattle.context_check.proofs.Views.{contexts_with, known_with}
 use Rattle.context_check.proofs.visible.add_contexts.Goals as goal
 

@@ -1,5 +1,5 @@
 use Rattle.std.proofs.Common.{not, filter, map}
-use Rattle.context_check.specs.Texts.{has}
+use Rattle.model_core.specs.Borrowed.{has}
 use Rattle.model_core.proofs.Lists.{filter_append}
 use Rattle.context_check.proofs.Views.{grows, append_none}
 use Rattle.context_check.proofs.visible.add_fresh_names.Goals as goal

@@ -1,7 +1,7 @@
 use Rattle.std.proofs.Common.{◌∙◌, ◌++◌, ap, map}
 use Rattle.std.specs.List.{zip}
 use Rattle.check_rules.specs.Visible.{origins}
-use Rattle.context_check.specs.Texts.{has}
+use Rattle.model_core.specs.Borrowed.{has}
 use Rattle.context_check.specs.Views.{placed}
 use Rattle.context_check.proofs.Views.{new_with, known_with, origins_with}
 use Rattle.context_check.proofs.visible.add_new.Goals as goal

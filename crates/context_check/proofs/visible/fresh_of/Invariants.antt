@@ -1,5 +1,5 @@
 use Rattle.std.proofs.Common.{◌≡◌, not, filter, map, take}
-use Rattle.context_check.specs.Texts.{has}
+use Rattle.model_core.specs.Borrowed.{has}
 use Rattle.context_check.specs.Views.{placed}
 use Rattle.context_check.proofs.visible.fresh_of.Given as goal
 

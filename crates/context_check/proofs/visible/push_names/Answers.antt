@@ -1,6 +1,6 @@
 use Rattle.std.proofs.Common.{map, bytes_eq}
 use Rattle.std.proofs.lemmas.List.{map-append}
-use Rattle.context_check.specs.Texts.{has}
+use Rattle.model_core.specs.Borrowed.{has}
 use Rattle.context_check.proofs.Views.{grows, none_before, any_more, append_none}
 use Rattle.context_check.proofs.visible.push_names.Goals as goal
 

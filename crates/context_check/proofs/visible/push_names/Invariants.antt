@@ -1,6 +1,6 @@
 use Rattle.std.proofs.Common.{◌≡◌, ◌||◌, ◌++◌, ℕ, List, map, take}
 use Rattle.model_core.specs.Each.{is_among}
-use Rattle.context_check.specs.Texts.{has}
+use Rattle.model_core.specs.Borrowed.{has}
 use Rattle.context_check.proofs.visible.push_names.Given as goal
 
 abbrev pub invariant-loop-name : goal.invariant-loop-name

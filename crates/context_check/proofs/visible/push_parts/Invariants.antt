@@ -1,7 +1,7 @@
 use Rattle.std.proofs.Common.{◌≡◌, ◌||◌, ◌++◌, ℕ, List, map, take}
 use Rattle.model_core.specs.Each.{is_among}
 use Rattle.check_rules.specs.Visible.{origins}
-use Rattle.context_check.specs.Texts.{has}
+use Rattle.model_core.specs.Borrowed.{has}
 use Rattle.context_check.specs.Views.{placed}
 use Rattle.context_check.proofs.visible.push_parts.Given as goal
 

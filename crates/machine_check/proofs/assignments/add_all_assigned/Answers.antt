@@ -1,4 +1,4 @@
-use Rattle.context_check.specs.Texts.{has}
+use Rattle.model_core.specs.Borrowed.{has}
 use Rattle.model_core.specs.Each.{is_among}
 use Rattle.check_rules.specs.Assignments.{assigned}
 use Rattle.machine_check.proofs.Assigned.{none_yet, texts_more}

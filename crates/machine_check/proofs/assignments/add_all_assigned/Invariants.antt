@@ -2,7 +2,7 @@ use Rattle.std.proofs.Common.{◌≡◌, ◌||◌, ℕ, List, take}
 use Rattle.std.specs.List.{list_any}
 use Rattle.model_core.specs.Each.{is_among}
 use Rattle.check_rules.specs.Assignments.{assigned}
-use Rattle.context_check.specs.Texts.{has}
+use Rattle.model_core.specs.Borrowed.{has}
 use Rattle.machine_check.proofs.assignments.add_all_assigned.Given as goal
 
 abbrev pub invariant-loop-action : goal.invariant-loop-action

@@ -1,5 +1,5 @@
 use Rattle.std.proofs.Common.{◌≡◌, ℕ, List, Bool, ◌||◌, subst, OnOk}
-use Rattle.context_check.specs.Texts.{has}
+use Rattle.model_core.specs.Borrowed.{has}
 use Rattle.machine_check.proofs.Targets.{assigned_pairs, assigned_such}
 use Rattle.machine_check.proofs.assignments.add_assigned.Goals as goal
 

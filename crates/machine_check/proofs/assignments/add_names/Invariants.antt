@@ -1,6 +1,6 @@
 use Rattle.std.proofs.Common.{◌≡◌, ◌||◌, ℕ, List, take}
 use Rattle.model_core.specs.Each.{is_among}
-use Rattle.context_check.specs.Texts.{has}
+use Rattle.model_core.specs.Borrowed.{has}
 use Rattle.machine_check.proofs.assignments.add_names.Given as goal
 
 abbrev pub invariant-loop-name : goal.invariant-loop-name

@@ -1,5 +1,5 @@
 use Rattle.std.proofs.Common.{◌∙◌, ap, bytes_eq, ◌||◌}
-use Rattle.context_check.specs.Texts.{has}
+use Rattle.model_core.specs.Borrowed.{has}
 use Rattle.machine_check.proofs.Assigned.{none_yet, texts_more}
 use Rattle.machine_check.proofs.assignments.add_names_of.Goals as goal
 

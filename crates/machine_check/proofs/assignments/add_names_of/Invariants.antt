@@ -1,6 +1,6 @@
 use Rattle.std.proofs.Common.{◌≡◌, ◌||◌, ℕ, List, take, bytes_eq}
 use Rattle.std.specs.List.{list_any}
-use Rattle.context_check.specs.Texts.{has}
+use Rattle.model_core.specs.Borrowed.{has}
 use Rattle.machine_check.proofs.assignments.add_names_of.Given as goal
 
 abbrev pub invariant-loop-pair : goal.invariant-loop-pair

@@ -2,7 +2,8 @@ use Rattle.std.proofs.Common.{◌≡◌, ◌∙◌, ap, subst, IfOk, ◌||◌, m
 use Rattle.model_core.specs.Each.{is_among}
 use Rattle.model_core.specs.Faults.{first_by_place}
 use Rattle.check_rules.specs.Assignments.{all_assigned}
-use Rattle.context_check.specs.Texts.{has, mark_of}
+use Rattle.context_check.specs.Texts.{mark_of}
+use Rattle.model_core.specs.Borrowed.{has}
 use Rattle.context_check.proofs.Repeated.{has_none}
 use Rattle.machine_check.proofs.Assigned.{or_false}
 use Rattle.machine_check.proofs.Targets.{twice_is}

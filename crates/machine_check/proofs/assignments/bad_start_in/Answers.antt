@@ -7,7 +7,7 @@ use Rattle.model_core.specs.Faults.{first_by_place, earlier, fault_at}
 use Rattle.model_core.proofs.Firsts.{first_append}
 use Rattle.check_rules.specs.Contexts.{names_of}
 use Rattle.check_rules.specs.Assignments.{is_bad_start}
-use Rattle.context_check.specs.Texts.{has}
+use Rattle.model_core.specs.Borrowed.{has}
 use Rattle.machine_check.specs.PrivateEvents.{reads_at}
 use Rattle.machine_check.proofs.assignments.bad_start_in.Goals as goal
 

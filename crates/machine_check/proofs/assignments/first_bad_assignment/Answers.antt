@@ -1,5 +1,5 @@
 use Rattle.std.proofs.Common.{◌∙◌, ap, map}
-use Rattle.context_check.specs.Texts.{has}
+use Rattle.model_core.specs.Borrowed.{has}
 use Rattle.machine_check.specs.PrivateEvents.{both_of}
 use Rattle.check_rules.specs.Contexts.{names_of}
 use Rattle.model_core.specs.Faults.{earlier}

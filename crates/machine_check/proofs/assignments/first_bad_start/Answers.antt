@@ -6,7 +6,7 @@ use Rattle.model_core.proofs.Firsts.{first_append}
 use Rattle.check_rules.specs.Contexts.{names_of}
 use Rattle.check_rules.specs.Events.{is_initialisation}
 use Rattle.check_rules.specs.Assignments.{no_start}
-use Rattle.context_check.specs.Texts.{has}
+use Rattle.model_core.specs.Borrowed.{has}
 use Rattle.machine_check.specs.PrivateEvents.{both_of, bad_start_in}
 use Rattle.machine_check.proofs.assignments.first_bad_start.Goals as goal
 

@@ -1,6 +1,6 @@
 use Rattle.std.proofs.Common.{◌∙◌}
 use Rattle.check_rules.specs.Contexts.{names_of}
-use Rattle.context_check.specs.Texts.{has}
+use Rattle.model_core.specs.Borrowed.{has}
 use Rattle.machine_check.specs.PrivateEvents.{both_of, bad_start_in}
 use Rattle.machine_check.proofs.Assigned.{first_joined}
 use Rattle.machine_check.proofs.assignments.first_in_starts.Goals as goal

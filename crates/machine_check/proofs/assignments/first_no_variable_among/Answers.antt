@@ -1,7 +1,8 @@
 use Rattle.std.proofs.Common.{◌∙◌, [], get_or}
 use Rattle.std.proofs.lemmas.List.{get_or_default}
 use Rattle.context_check.specs.declared.declarations.Mark.{Mark}
-use Rattle.context_check.specs.Texts.{has, mark_of}
+use Rattle.context_check.specs.Texts.{mark_of}
+use Rattle.model_core.specs.Borrowed.{has}
 use Rattle.machine_check.specs.PrivateEvents.{no_variable_at}
 use Rattle.machine_check.proofs.Assigned.{first_joined}
 use Rattle.machine_check.proofs.assignments.first_no_variable_among.Goals as goal

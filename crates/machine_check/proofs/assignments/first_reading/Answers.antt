@@ -3,7 +3,7 @@ use Rattle.std.proofs.lemmas.Iterator.{YieldsList-from_slice, YieldsList-from_zi
 use Rattle.std.proofs.lemmas.Iterator.Consumers.{YieldsList-at, YieldsList-end}
 use Rattle.formula_core.specs.Formulas.{joined}
 use Rattle.model_core.specs.Faults.{first_by_place}
-use Rattle.context_check.specs.Texts.{has}
+use Rattle.model_core.specs.Borrowed.{has}
 use Rattle.machine_check.specs.PrivateEvents.{reads_at}
 use Rattle.machine_check.proofs.Assigned.{first_pushed}
 use Rattle.machine_check.proofs.assignments.first_reading.Goals as goal

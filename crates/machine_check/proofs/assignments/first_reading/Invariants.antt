@@ -1,7 +1,7 @@
 use Rattle.std.proofs.Common.{◌≡◌, map}
 use Rattle.formula_core.specs.Formulas.{joined}
 use Rattle.model_core.specs.Faults.{first_by_place}
-use Rattle.context_check.specs.Texts.{has}
+use Rattle.model_core.specs.Borrowed.{has}
 use Rattle.machine_check.specs.PrivateEvents.{reads_at}
 use Rattle.machine_check.proofs.assignments.first_reading.Given as goal
 

@@ -1,7 +1,7 @@
 use Rattle.std.proofs.Common.{◌≡◌, take}
 use Rattle.std.specs.List.{list_any}
 use Rattle.check_rules.specs.Assignments.{free_names_of}
-use Rattle.context_check.specs.Texts.{has}
+use Rattle.model_core.specs.Borrowed.{has}
 use Rattle.machine_check.proofs.assignments.one_reads.Given as goal
 
 abbrev pub invariant-loop-pair : goal.invariant-loop-pair

@@ -2,7 +2,7 @@ use Rattle.std.proofs.Common.{◌∙◌, sym, ap}
 use Rattle.std.specs.List.{list_any}
 use Rattle.formula_core.specs.Formulas.{free_of}
 use Rattle.model_core.proofs.Lists.{any_map}
-use Rattle.context_check.specs.Texts.{has}
+use Rattle.model_core.specs.Borrowed.{has}
 use Rattle.machine_check.proofs.assignments.reads.Goals as goal
 
 pub returns : goal.returns

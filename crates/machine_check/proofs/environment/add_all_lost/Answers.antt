@@ -1,7 +1,7 @@
 use Rattle.std.proofs.Common.{◌∙◌, not, ap}
 use Rattle.std.specs.List.{filter}
 use Rattle.type_action.specs.CoreActions.{with_all}
-use Rattle.context_check.specs.Texts.{has}
+use Rattle.model_core.specs.Borrowed.{has}
 use Rattle.machine_check.proofs.Params.{added_at}
 use Rattle.machine_check.proofs.environment.add_all_lost.Goals as goal
 

@@ -2,7 +2,7 @@ use Rattle.std.proofs.Common.{◌≡◌, not, map, drop}
 use Rattle.std.specs.List.{filter}
 use Rattle.formula_core.specs.Formulas.{joined}
 use Rattle.type_action.specs.CoreActions.{with_all}
-use Rattle.context_check.specs.Texts.{has}
+use Rattle.model_core.specs.Borrowed.{has}
 use Rattle.machine_check.proofs.environment.add_all_lost.Given as goal
 
 abbrev pub invariant-loop-event : goal.invariant-loop-event

@@ -5,7 +5,7 @@ use Rattle.type_action.specs.CoreActions.{with_all}
 use Rattle.model_core.specs.Each.{is_among}
 use Rattle.check_rules.specs.Contexts.{names_of}
 use Rattle.check_rules.specs.Visible.{names}
-use Rattle.context_check.specs.Texts.{has}
+use Rattle.model_core.specs.Borrowed.{has}
 use Rattle.machine_check.proofs.Growing.{by_two}
 use Rattle.machine_check.proofs.Params.{behind, params_of}
 use Rattle.machine_check.proofs.environment.add_witness_names.Goals as goal

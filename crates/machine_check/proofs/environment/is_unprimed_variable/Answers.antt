@@ -1,7 +1,7 @@
 use Rattle.std.proofs.Common.{◌∙◌, sym, ap, not, ◌&&◌}
 use Rattle.formula_core.specs.Names.{is_identifier}
 use Rattle.model_core.proofs.Lists.{identifier_is}
-use Rattle.context_check.specs.Texts.{has}
+use Rattle.model_core.specs.Borrowed.{has}
 use Rattle.machine_check.proofs.environment.is_unprimed_variable.Goals as goal
 
 pub returns-then-not-is_primed : goal.returns-then-not-is_primed

@@ -1,6 +1,6 @@
 use Rattle.std.proofs.Common.{◌∙◌, ap}
 use Rattle.type_action.specs.CoreActions.{with_all}
-use Rattle.context_check.specs.Texts.{has}
+use Rattle.model_core.specs.Borrowed.{has}
 use Rattle.machine_check.specs.PrivateTyped.{primed_known}
 use Rattle.machine_check.proofs.environment.primed_env.Goals as goal
 

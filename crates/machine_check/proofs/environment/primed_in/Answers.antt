@@ -1,5 +1,5 @@
 use Rattle.std.proofs.Common.{[]}
-use Rattle.context_check.specs.Texts.{has}
+use Rattle.model_core.specs.Borrowed.{has}
 use Rattle.context_check.proofs.Views.{grows}
 use Rattle.machine_check.specs.PrivateTyped.{primed_known}
 use Rattle.machine_check.proofs.Params.{primed_append}

@@ -5,7 +5,8 @@ use Rattle.model_core.specs.Each.{is_among}
 use Rattle.model_core.specs.Faults.{earlier, first_by_place}
 use Rattle.check_rules.specs.Visible.{names}
 use Rattle.check_rules.specs.Events.{extended_of, params_inherited, inherited_params, inherited_labels, event_labels}
-use Rattle.context_check.specs.Texts.{has, ref_mark, repeated}
+use Rattle.context_check.specs.Texts.{ref_mark, repeated}
+use Rattle.model_core.specs.Borrowed.{has}
 use Rattle.machine_check.specs.PrivateNames.{clash_at}
 use Rattle.machine_check.specs.PrivateTyped.{guards_in, actions_in}
 use Rattle.context_check.proofs.Copied.{map-id}

@@ -1,5 +1,5 @@
 use Rattle.std.proofs.Common.{◌∙◌}
-use Rattle.context_check.specs.Texts.{has}
+use Rattle.model_core.specs.Borrowed.{has}
 use Rattle.machine_check.specs.PrivateNames.{declared_in}
 use Rattle.machine_check.proofs.Assigned.{first_joined}
 use Rattle.machine_check.proofs.event_names.first_declared_in_events.Goals as goal

@@ -1,7 +1,8 @@
 use Rattle.std.proofs.Common.{◌≡◌, ◌∙◌, ap, subst, IfOk, ◌||◌, map}
 use Rattle.model_core.specs.declared.fault.FaultKind.TheVariants as kind
 use Rattle.model_core.specs.Faults.{first_by_place}
-use Rattle.context_check.specs.Texts.{has, mark_of, repeated}
+use Rattle.context_check.specs.Texts.{mark_of, repeated}
+use Rattle.model_core.specs.Borrowed.{has}
 use Rattle.context_check.proofs.Repeated.{has_none}
 use Rattle.machine_check.proofs.Assigned.{or_false}
 use Rattle.machine_check.proofs.event_names.first_label_twice.Goals as goal

@@ -3,7 +3,8 @@ use Rattle.std.specs.List.{list_any}
 use Rattle.model_core.specs.declared.fault.FaultKind.TheVariants as kind
 use Rattle.model_core.specs.Faults.{first_by_place}
 use Rattle.model_core.proofs.Lists.{any_map}
-use Rattle.context_check.specs.Texts.{has, mark_of, ref_mark, repeated}
+use Rattle.context_check.specs.Texts.{mark_of, ref_mark, repeated}
+use Rattle.model_core.specs.Borrowed.{has}
 use Rattle.context_check.proofs.Repeated.{has_none}
 use Rattle.machine_check.proofs.event_names.first_param_twice.Goals as goal
 

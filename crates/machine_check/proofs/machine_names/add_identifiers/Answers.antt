@@ -2,7 +2,7 @@ use Rattle.std.proofs.Common.{◌∙◌, ◌||◌, ◌∷◌, [], ap, map, not}
 use Rattle.std.specs.List.{filter}
 use Rattle.model_core.specs.Each.{is_among}
 use Rattle.check_rules.specs.Visible.{entries, names}
-use Rattle.context_check.specs.Texts.{has}
+use Rattle.model_core.specs.Borrowed.{has}
 use Rattle.context_check.specs.Views.{placed}
 use Rattle.machine_check.proofs.Machines.{names_placed, texts_grow}
 use Rattle.context_check.proofs.Views.{none_before}

@@ -1,7 +1,7 @@
 use Rattle.std.proofs.Common.{◌∙◌, ◌||◌, sym, ap, bytes_eq}
 use Rattle.std.proofs.lemmas.List.{map-append}
 use Rattle.check_rules.specs.Contexts.{names_of}
-use Rattle.context_check.specs.Texts.{has}
+use Rattle.model_core.specs.Borrowed.{has}
 use Rattle.machine_check.proofs.Assigned.{or_false}
 use Rattle.machine_check.proofs.Machines.{texts_grow}
 use Rattle.context_check.proofs.Views.{none_before}

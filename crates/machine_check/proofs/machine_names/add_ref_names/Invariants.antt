@@ -1,7 +1,7 @@
 use Rattle.std.proofs.Common.{◌≡◌, ◌||◌, ℕ, List, take}
 use Rattle.model_core.specs.Each.{is_among}
 use Rattle.check_rules.specs.Contexts.{names_of}
-use Rattle.context_check.specs.Texts.{has}
+use Rattle.model_core.specs.Borrowed.{has}
 use Rattle.machine_check.proofs.machine_names.add_ref_names.Given as goal
 
 abbrev pub invariant-loop-r : goal.invariant-loop-r

@@ -3,7 +3,7 @@ use Rattle.model_core.specs.Each.{is_among}
 use Rattle.model_core.proofs.Lists.{any_append}
 use Rattle.check_rules.specs.Contexts.{names_of}
 use Rattle.check_rules.specs.Visible.{entries, all_visible, names}
-use Rattle.context_check.specs.Texts.{has}
+use Rattle.model_core.specs.Borrowed.{has}
 use Rattle.context_check.specs.Views.{visible}
 use Rattle.machine_check.proofs.Machines.{filter_none}
 use Rattle.context_check.proofs.Repeated.{has_none}

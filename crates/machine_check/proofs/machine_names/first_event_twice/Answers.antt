@@ -1,6 +1,7 @@
 use Rattle.std.proofs.Common.{◌∙◌, ◌++◌, ◌||◌, [], ap, map, false}
 use Rattle.model_core.specs.Faults.{first_by_place}
-use Rattle.context_check.specs.Texts.{has, mark_of, ref_mark}
+use Rattle.context_check.specs.Texts.{mark_of, ref_mark}
+use Rattle.model_core.specs.Borrowed.{has}
 use Rattle.context_check.proofs.Contexts.{nothing_more}
 use Rattle.context_check.proofs.Copied.{map_map}
 use Rattle.context_check.proofs.Repeated.{declared_from, has_none}

@@ -3,7 +3,8 @@ use Rattle.std.specs.List.{filter}
 use Rattle.model_core.specs.Each.{is_among}
 use Rattle.model_core.specs.Faults.{first_by_place}
 use Rattle.check_rules.specs.Visible.{entries, all_visible, names}
-use Rattle.context_check.specs.Texts.{has, mark_of, ref_mark}
+use Rattle.context_check.specs.Texts.{mark_of, ref_mark}
+use Rattle.model_core.specs.Borrowed.{has}
 use Rattle.context_check.specs.Views.{visible}
 use Rattle.context_check.proofs.Contexts.{nothing_more}
 use Rattle.context_check.proofs.Repeated.{declared_from, has_none}

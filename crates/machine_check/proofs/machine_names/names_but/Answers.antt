@@ -1,5 +1,5 @@
 use Rattle.std.proofs.Common.{not}
-use Rattle.context_check.specs.Texts.{has}
+use Rattle.model_core.specs.Borrowed.{has}
 use Rattle.machine_check.proofs.Machines.{both_added}
 use Rattle.context_check.proofs.Repeated.{has_none}
 use Rattle.machine_check.proofs.machine_names.names_but.Goals as goal

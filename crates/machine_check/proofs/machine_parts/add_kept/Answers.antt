@@ -1,7 +1,7 @@
 use Rattle.std.proofs.Common.{map}
 use Rattle.std.specs.List.{filter}
 use Rattle.check_rules.specs.Visible.{entries}
-use Rattle.context_check.specs.Texts.{has}
+use Rattle.model_core.specs.Borrowed.{has}
 use Rattle.context_check.specs.Views.{placed}
 use Rattle.machine_check.proofs.Machines.{entries_placed}
 use Rattle.context_check.proofs.Views.{append_none, grows}

@@ -1,6 +1,6 @@
 use Rattle.std.proofs.Common.{map, not}
 use Rattle.std.specs.List.{filter}
-use Rattle.context_check.specs.Texts.{has}
+use Rattle.model_core.specs.Borrowed.{has}
 use Rattle.context_check.proofs.Views.{append_none, filter_mapped, grows}
 use Rattle.machine_check.proofs.machine_parts.add_unrefined.Goals as goal
 

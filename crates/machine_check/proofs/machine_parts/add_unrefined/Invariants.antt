@@ -1,6 +1,6 @@
 use Rattle.std.proofs.Common.{◌≡◌, ◌++◌, map, not, take}
 use Rattle.std.specs.List.{filter}
-use Rattle.context_check.specs.Texts.{has}
+use Rattle.model_core.specs.Borrowed.{has}
 use Rattle.machine_check.proofs.machine_parts.add_unrefined.Given as goal
 
 abbrev pub invariant-loop-event : goal.invariant-loop-event

@@ -1,7 +1,7 @@
 use Rattle.std.proofs.Common.{◌∙◌, ◌||◌, ap, map, false}
 use Rattle.formula_core.specs.Formulas.{joined}
 use Rattle.model_core.specs.Each.{is_among}
-use Rattle.context_check.specs.Texts.{has}
+use Rattle.model_core.specs.Borrowed.{has}
 use Rattle.machine_check.proofs.Machines.{joined_refines, texts_grow}
 use Rattle.context_check.proofs.Repeated.{has_none}
 use Rattle.context_check.proofs.Views.{append_none}

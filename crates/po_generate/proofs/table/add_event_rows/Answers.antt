@@ -2,7 +2,8 @@ use Rattle.std.proofs.Common.{◌≡◌, ◌∙◌, ap, map}
 use Rattle.std.specs.Option.{option_copied}
 use Rattle.model_core.specs.Each.{for_each}
 use Rattle.po_rules.specs.Gathering.{gathered}
-use Rattle.po_rules.specs.Parts.{parts_of, refined_by}
+use Rattle.po_rules.specs.Parts.{parts_of}
+use Rattle.model_core.specs.Refined.{refined_by}
 use Rattle.po_rules.specs.Tables.{row_of_event}
 use Rattle.po_machine.specs.Shared.{view, parts_in}
 use Rattle.po_generate.specs.Private.{event_rows_in, rows_in}

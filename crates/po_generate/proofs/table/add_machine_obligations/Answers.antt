@@ -3,7 +3,7 @@ use Rattle.std.specs.Option.{option_copied}
 use Rattle.model_core.specs.declared.checked.CheckedEvent.{CheckedEvent}
 use Rattle.model_core.specs.Each.{for_each}
 use Rattle.po_rules.specs.Gathering.{gathered}
-use Rattle.po_rules.specs.Parts.{refined_by}
+use Rattle.model_core.specs.Refined.{refined_by}
 use Rattle.po_rules.specs.Rows.{own_invariant_rows}
 use Rattle.po_rules.specs.Tables.{event_rows}
 use Rattle.po_machine.specs.Shared.{view}

@@ -1,5 +1,5 @@
 use Rattle.std.proofs.Common.{◌≡◌, ◌∙◌, IfOk, ap, map, subst, sym}
-use Rattle.po_rules.specs.Parts.{with_prime}
+use Rattle.formula_core.specs.Names.{with_prime}
 use Rattle.po_rules.specs.Rows.{action_condition, for_every_of}
 use Rattle.po_machine.proofs.actions.action_condition.Goals as goal
 

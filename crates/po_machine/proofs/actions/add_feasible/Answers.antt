@@ -2,7 +2,7 @@ use Rattle.std.proofs.Common.{◌≡◌, ◌∙◌, OnOk, ap, map, subst, sym}
 use Rattle.std.specs.Prelude.{codes}
 use Rattle.model_core.specs.Each.{for_each}
 use Rattle.po_rules.specs.Gathering.{gathered}
-use Rattle.po_rules.specs.Parts.{with_prime}
+use Rattle.formula_core.specs.Names.{with_prime}
 use Rattle.po_rules.specs.Rows.{feasible, for_some_of, from_base, of_kind}
 use Rattle.po_machine.specs.Shared.{parts_in, view}
 use Rattle.po_machine.proofs.Gathering.{just_one}

@@ -1,5 +1,6 @@
 use Rattle.std.proofs.Common.{◌≡◌, ◌++◌, map, take}
-use Rattle.po_rules.specs.Parts.{as_term, with_prime}
+use Rattle.po_rules.specs.Parts.{as_term}
+use Rattle.formula_core.specs.Names.{with_prime}
 use Rattle.po_machine.specs.Private.{wanted_of}
 use Rattle.po_machine.proofs.changes.add_open_values.Given as goal
 

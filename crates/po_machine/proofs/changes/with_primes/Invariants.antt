@@ -1,5 +1,5 @@
 use Rattle.std.proofs.Common.{◌≡◌, map, take}
-use Rattle.po_rules.specs.Parts.{with_prime}
+use Rattle.formula_core.specs.Names.{with_prime}
 use Rattle.po_machine.proofs.changes.with_primes.Given as goal
 
 abbrev pub invariant-loop-identifier : goal.invariant-loop-identifier

@@ -1,6 +1,6 @@
 use Rattle.std.proofs.Common.{◌≡◌, ◌++◌, take}
 use Rattle.std.specs.Map.{keys_of}
-use Rattle.po_machine.specs.PrivateNames.{texts}
+use Rattle.model_core.specs.Borrowed.{texts}
 use Rattle.po_machine.proofs.names.add_keys.Given as goal
 
 abbrev pub invariant-loop-pair : goal.invariant-loop-pair

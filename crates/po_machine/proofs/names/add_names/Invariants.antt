@@ -1,5 +1,5 @@
 use Rattle.std.proofs.Common.{◌≡◌, ◌++◌, take}
-use Rattle.po_machine.specs.PrivateNames.{texts}
+use Rattle.model_core.specs.Borrowed.{texts}
 use Rattle.po_machine.proofs.names.add_names.Given as goal
 
 abbrev pub invariant-loop-name : goal.invariant-loop-name

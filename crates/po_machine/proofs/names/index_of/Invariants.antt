@@ -1,6 +1,6 @@
 use Rattle.std.proofs.Common.{◌≡◌, ℕ, List, take}
 use Rattle.model_core.specs.Each.{is_among}
-use Rattle.po_machine.specs.PrivateNames.{has, texts}
+use Rattle.model_core.specs.Borrowed.{texts, has}
 use Rattle.po_machine.proofs.names.index_of.Given as goal
 
 abbrev pub invariant-loop-name : goal.invariant-loop-name

@@ -1,5 +1,5 @@
 use Rattle.std.proofs.Common.{◌≡◌, ◌++◌, map}
-use Rattle.po_rules.specs.Parts.{with_prime}
+use Rattle.formula_core.specs.Names.{with_prime}
 use Rattle.po_machine.proofs.parts.add_primed.Given as goal
 
 abbrev pub invariant-loop-target : goal.invariant-loop-target

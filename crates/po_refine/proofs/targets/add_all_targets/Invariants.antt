@@ -2,7 +2,7 @@ use Rattle.std.proofs.Common.{◌≡◌, ◌++◌, drop, map}
 use Rattle.std.specs.Map.{keys_of}
 use Rattle.model_core.specs.Each.{for_each}
 use Rattle.po_rules.specs.Parts.{new_values}
-use Rattle.po_machine.specs.PrivateNames.{texts}
+use Rattle.model_core.specs.Borrowed.{texts}
 use Rattle.po_refine.proofs.targets.add_all_targets.Given as goal
 
 abbrev pub invariant-loop-action : goal.invariant-loop-action

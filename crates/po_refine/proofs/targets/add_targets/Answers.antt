@@ -1,7 +1,7 @@
 use Rattle.std.proofs.Common.{◌≡◌, ◌∙◌, ◌++◌, ap, sym, subst, OnOk}
 use Rattle.std.specs.Map.{keys_of}
 use Rattle.po_rules.specs.Parts.{new_values}
-use Rattle.po_machine.specs.PrivateNames.{texts}
+use Rattle.model_core.specs.Borrowed.{texts}
 use Rattle.po_refine.proofs.Named.{targets_named}
 use Rattle.po_refine.proofs.targets.add_targets.Goals as goal
 

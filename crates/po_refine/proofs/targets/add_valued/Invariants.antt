@@ -1,6 +1,6 @@
 use Rattle.std.proofs.Common.{◌≡◌, ◌++◌, take}
 use Rattle.std.specs.Map.{keys_of}
-use Rattle.po_machine.specs.PrivateNames.{texts}
+use Rattle.model_core.specs.Borrowed.{texts}
 use Rattle.po_refine.proofs.targets.add_valued.Given as goal
 
 abbrev pub invariant-loop-value : goal.invariant-loop-value

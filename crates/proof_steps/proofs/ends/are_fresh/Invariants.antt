@@ -1,7 +1,7 @@
 use Rattle.std.proofs.Common.{take}
 use Rattle.std.specs.List.{AllByRecursion}
-use Rattle.sequent_core.specs.Trees.{IsFresh}
-use Rattle.proof_tree.specs.Ways.{antecedents_of, at_end}
+use Rattle.sequent_core.specs.Trees.{IsFresh, at_end}
+use Rattle.proof_tree.specs.Ways.{antecedents_of}
 use Rattle.proof_steps.proofs.ends.are_fresh.Given as goal
 
 abbrev pub invariant-loop-antecedent : goal.invariant-loop-antecedent

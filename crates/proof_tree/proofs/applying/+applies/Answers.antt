@@ -1,4 +1,5 @@
-use Rattle.proof_tree.specs.Ways.{antecedents_of, at_end}
+use Rattle.proof_tree.specs.Ways.{antecedents_of}
+use Rattle.sequent_core.specs.Trees.{at_end}
 use Rattle.proof_tree.proofs.Each.{each_length, each_more, each_not, node_exact}
 use Rattle.proof_tree.proofs.applying.+applies.Goals as goal
 

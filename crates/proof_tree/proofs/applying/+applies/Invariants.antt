@@ -1,6 +1,7 @@
 use Rattle.std.proofs.Common.{take}
 use Rattle.sequent_core.specs.PrivateChildren.{EachApplies}
-use Rattle.proof_tree.specs.Ways.{antecedents_of, at_end}
+use Rattle.proof_tree.specs.Ways.{antecedents_of}
+use Rattle.sequent_core.specs.Trees.{at_end}
 use Rattle.proof_tree.proofs.applying.+applies.Given as goal
 
 abbrev pub invariant-each_applies-loop-i : goal.invariant-each_applies-loop-i

@@ -6,7 +6,7 @@ use Rattle.model_core.specs.declared.fault.FaultKind.TheVariants as kind
 use Rattle.model_core.specs.Each.{is_among}
 use Rattle.model_core.specs.Faults.{first_by_place, fault_at}
 use Rattle.check_rules.specs.Refinements.{inherited_names}
-use Rattle.refine_check.specs.Private.{texts}
+use Rattle.model_core.specs.Borrowed.{texts}
 use Rattle.refine_check.proofs.Placing.{first_told, map_map}
 use Rattle.refine_check.proofs.inherited.first_lost_in_inherited.Goals as goal
 

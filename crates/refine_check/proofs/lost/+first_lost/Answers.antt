@@ -1,5 +1,5 @@
 use Rattle.std.proofs.Common.{rules, ◌∙◌, ap}
-use Rattle.refine_check.specs.Private.{texts}
+use Rattle.model_core.specs.Borrowed.{texts}
 use Rattle.refine_check.proofs.Sets.{cut}
 use Rattle.refine_check.proofs.lost.+first_lost.Goals as goal
 

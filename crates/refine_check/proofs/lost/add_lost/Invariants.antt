@@ -2,7 +2,7 @@ use Rattle.std.proofs.Common.{◌≡◌, ◌&&◌, ◌++◌, not, take}
 use Rattle.std.specs.List.{filter}
 use Rattle.model_core.specs.Each.{is_among}
 use Rattle.check_rules.specs.Visible.{names}
-use Rattle.refine_check.specs.Private.{texts}
+use Rattle.model_core.specs.Borrowed.{texts}
 use Rattle.refine_check.proofs.lost.add_lost.Given as goal
 
 abbrev pub invariant-loop-entry : goal.invariant-loop-entry

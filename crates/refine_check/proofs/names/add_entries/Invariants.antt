@@ -1,6 +1,6 @@
 use Rattle.std.proofs.Common.{◌≡◌, ◌++◌, take}
 use Rattle.check_rules.specs.Visible.{names}
-use Rattle.refine_check.specs.Private.{texts}
+use Rattle.model_core.specs.Borrowed.{texts}
 use Rattle.refine_check.proofs.names.add_entries.Given as goal
 
 abbrev pub invariant-loop-entry : goal.invariant-loop-entry

@@ -1,6 +1,6 @@
 use Rattle.std.proofs.Common.{◌≡◌, ◌++◌, take}
 use Rattle.check_rules.specs.Contexts.{names_of}
-use Rattle.refine_check.specs.Private.{texts}
+use Rattle.model_core.specs.Borrowed.{texts}
 use Rattle.refine_check.proofs.names.add_refs.Given as goal
 
 abbrev pub invariant-loop-name : goal.invariant-loop-name

@@ -1,7 +1,8 @@
 use Rattle.std.proofs.Common.{◌∙◌, [], ap, get_or, arith}
 use Rattle.std.proofs.lemmas.List.{take_all}
 use Rattle.model_core.specs.Each.{is_among}
-use Rattle.refine_check.specs.Private.{first_index, texts}
+use Rattle.refine_check.specs.Private.{first_index}
+use Rattle.model_core.specs.Borrowed.{texts}
 use Rattle.refine_check.proofs.Placing.{none_first, first_more}
 use Rattle.refine_check.proofs.names.place_among.Goals as goal
 

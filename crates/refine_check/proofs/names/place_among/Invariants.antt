@@ -1,6 +1,7 @@
 use Rattle.std.proofs.Common.{◌≡◌, ℕ, List, take, bytes_eq}
 use Rattle.model_core.specs.Each.{is_among}
-use Rattle.refine_check.specs.Private.{first_index, index_in, texts}
+use Rattle.refine_check.specs.Private.{first_index, index_in}
+use Rattle.model_core.specs.Borrowed.{texts}
 use Rattle.refine_check.proofs.names.place_among.Given as goal
 
 abbrev pub invariant-loop-name : goal.invariant-loop-name

@@ -1,6 +1,7 @@
 use Rattle.std.proofs.Common.{◌≡◌, ◌<◌, ◌-◌, ◌+◌, ◌∙◌, ap, ℕ, [], drop, length, bytes_eq}
 use native.Mathlib.Omega.{arith}
-use Rattle.refine_check.specs.Private.{first_index, texts}
+use Rattle.refine_check.specs.Private.{first_index}
+use Rattle.model_core.specs.Borrowed.{texts}
 use Rattle.refine_check.proofs.Placing.{behind, behind_none, one_placed}
 use Rattle.refine_check.proofs.names.places_of.Goals as goal
 

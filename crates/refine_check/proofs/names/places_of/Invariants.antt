@@ -1,5 +1,6 @@
 use Rattle.std.proofs.Common.{◌≡◌, ℕ, List, drop, bytes_eq}
-use Rattle.refine_check.specs.Private.{first_index, index_in, texts}
+use Rattle.refine_check.specs.Private.{first_index, index_in}
+use Rattle.model_core.specs.Borrowed.{texts}
 use Rattle.refine_check.proofs.Placing.{behind}
 use Rattle.refine_check.proofs.names.places_of.Given as goal
 

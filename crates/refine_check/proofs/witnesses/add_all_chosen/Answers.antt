@@ -1,6 +1,6 @@
 use Rattle.std.proofs.Common.{◌∙◌, ◌++◌, ap, append_assoc, take}
 use Rattle.check_rules.specs.Refinements.{chosen, all_chosen, without_labels}
-use Rattle.refine_check.specs.Private.{texts}
+use Rattle.model_core.specs.Borrowed.{texts}
 use Rattle.refine_check.proofs.Wanted.{chosen_more}
 use Rattle.refine_check.proofs.witnesses.add_all_chosen.Goals as goal
 

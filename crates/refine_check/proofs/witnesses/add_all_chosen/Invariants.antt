@@ -1,6 +1,6 @@
 use Rattle.std.proofs.Common.{◌≡◌, ◌++◌, take}
 use Rattle.check_rules.specs.Refinements.{all_chosen, without_labels}
-use Rattle.refine_check.specs.Private.{texts}
+use Rattle.model_core.specs.Borrowed.{texts}
 use Rattle.refine_check.proofs.witnesses.add_all_chosen.Given as goal
 
 abbrev pub invariant-loop-action : goal.invariant-loop-action

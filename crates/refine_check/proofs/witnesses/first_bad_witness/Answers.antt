@@ -7,7 +7,8 @@ use Rattle.model_core.specs.declared.fault.Fault.{Fault}
 use Rattle.model_core.specs.declared.checked.CheckedEvent.{CheckedEvent}
 use Rattle.model_core.specs.Each.{is_among}
 use Rattle.model_core.specs.Faults.{earlier, first_by_place}
-use Rattle.refine_check.specs.Private.{texts, chosen_first, needed_params_of, bad_witnesses_of}
+use Rattle.refine_check.specs.Private.{chosen_first, needed_params_of, bad_witnesses_of}
+use Rattle.model_core.specs.Borrowed.{texts}
 use Rattle.refine_check.proofs.Wanted.{bad_is}
 use Rattle.refine_check.proofs.witnesses.first_bad_witness.Goals as goal
 

@@ -8,7 +8,7 @@ use Rattle.model_core.specs.declared.fault.Fault.{Fault}
 use Rattle.model_core.specs.declared.fault.FaultKind.TheVariants as kind
 use Rattle.model_core.specs.Each.{is_among}
 use Rattle.model_core.specs.Faults.{first_by_place, fault_at}
-use Rattle.refine_check.specs.Private.{texts}
+use Rattle.model_core.specs.Borrowed.{texts}
 use Rattle.refine_check.proofs.Placing.{first_told, map_map}
 use Rattle.refine_check.proofs.Wanted.{lacking_are}
 use Rattle.refine_check.proofs.witnesses.first_missing_primed.Goals as goal

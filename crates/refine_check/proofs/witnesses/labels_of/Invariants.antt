@@ -1,5 +1,5 @@
 use Rattle.std.proofs.Common.{◌≡◌, map, take}
-use Rattle.refine_check.specs.Private.{texts}
+use Rattle.model_core.specs.Borrowed.{texts}
 use Rattle.refine_check.proofs.witnesses.labels_of.Given as goal
 
 abbrev pub invariant-loop-witness : goal.invariant-loop-witness

@@ -1,6 +1,6 @@
 use Rattle.std.proofs.Common.{take}
 use Rattle.std.specs.List.{AllByRecursion}
-use Rattle.rule_table.specs.Rules.{Stands}
+use Rattle.formula_core.specs.Typed.{Stands}
 use Rattle.rule_kernel.proofs.names.have_one_type.Given as goal
 
 abbrev pub invariant-loop-identifier : goal.invariant-loop-identifier

@@ -3,7 +3,8 @@ use Rattle.std.proofs.lemmas.Grind.{common_steps}
 use Rattle.std.specs.List.{AllByRecursion}
 use Rattle.formula_core.specs.declared.Ty.{Ty}
 use Rattle.rule_table.specs.declared.rule.Rule.{Rule}
-use Rattle.rule_table.specs.Rules.{Stands, body_of, formulas_of, sorted_by_name, names_in}
+use Rattle.rule_table.specs.Rules.{body_of, formulas_of, sorted_by_name, names_in}
+use Rattle.formula_core.specs.Typed.{Stands}
 use Rattle.rule_kernel.proofs.SoundParts.{parts_of_sound, sound_of_parts}
 use Rattle.rule_kernel.proofs.table.used_if_sound.Goals as goal
 

@@ -1,11 +1,10 @@
 use Rattle.std.proofs.Common.{◌≡◌, ◌∙◌, sym, ap, subst, refl, [], ◌∷◌}
 use Rattle.rule_table.specs.declared.kind.RuleKind.TheVariants as kind
 use Rattle.rule_table.specs.Rows.{adds, backward, both, forward, proves}
-use Rattle.rule_table.specs.Rules.{IsSound}
+use Rattle.rule_table.specs.Rules.{IsSound, rule_of}
 use Rattle.rule_table.specs.Shapes.{bottom}
 use Rattle.well_defined.specs.Predicates.{top}
 use Rattle.short_proofs.specs.Short.{IsShortProof}
-use Rattle.short_proofs.specs.Private.{rule_of}
 use Rattle.short_proofs.proofs.Built.{weaker, whole_as}
 use Rattle.short_proofs.proofs.Forms.{whole_sound}
 use Rattle.short_proofs.proofs.logic.by_whole.Goals as goal

@@ -1,6 +1,6 @@
 use Rattle.std.proofs.Common.{take}
 use Rattle.std.specs.List.{AllByRecursion}
-use Rattle.writable_entries.specs.Private.{HasFitRules}
+use Rattle.proof_codec.specs.Private.{HasFitRules}
 use Rattle.writable_entries.proofs.tree.+rules.Given as goal
 
 abbrev pub invariant-have_fit_rules-loop-tree : goal.invariant-have_fit_rules-loop-tree

@@ -1,7 +1,8 @@
 use Rattle.std.proofs.Common.{◌≡◌, take, None}
 use Rattle.std.specs.List.{AllByRecursion}
 use Rattle.formula_core.specs.Env.{type_in}
-use Rattle.proof_tree.specs.Ways.{antecedents_of, at_end}
+use Rattle.proof_tree.specs.Ways.{antecedents_of}
+use Rattle.sequent_core.specs.Trees.{at_end}
 use Rattle.proof_tree.proofs.way.Way.lacks_names.Given as goal
 
 abbrev pub invariant-loop-identifier : goal.invariant-loop-identifier

@@ -2,7 +2,7 @@ use Rattle.std.proofs.Common.{◌∙◌}
 use Rattle.std.specs.List.{slice_get}
 use Rattle.std.specs.Option.{option_and_then}
 use Rattle.model_core.specs.Each.{is_among}
-use Rattle.refine_check.specs.Private.{texts}
+use Rattle.model_core.specs.Borrowed.{texts}
 use Rattle.refine_check.proofs.Placing.{first_is}
 use Rattle.refine_check.proofs.names.Names.first_among.Goals as goal
 
