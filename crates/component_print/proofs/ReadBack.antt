@@ -7,7 +7,7 @@ use Rattle.formula_core.specs.declared.raw.RawAction.{RawAction}
 use Rattle.math_tokens.specs.declared.cutting.Token.{Token}
 use Rattle.math_grammar.specs.declared.holes.Hole.{Hole}
 use Rattle.math_grammar.specs.Tokens.{Item}
-use Rattle.math_grammar.specs.Grammar.{item, Spells as SpellsFormula}
+use Rattle.math_grammar.specs.Grammar.{item, Spells}
 use Rattle.math_grammar.specs.Actions.{SpellsAction}
 use Rattle.math_parse.specs.Limits.{most_parts}
 use Rattle.math_places.specs.Places.{unplaced_item, AlikeTokens, unplaced, unplaced_action}
@@ -45,7 +45,7 @@ use Rattle.component_print.proofs.Back.{read_again}
 
 -- some tokens of a text spell it
 abbrev IsGood : Hole → Raw → Type 0
-IsGood h r = (is_whole h ≡ true) × (tokens : List Item) × AllProper tokens × SpellsFormula most_parts h tokens r
+IsGood h r = (is_whole h ≡ true) × (tokens : List Item) × AllProper tokens × Spells most_parts h tokens r
 
 abbrev IsGoodAction : RawAction → Type 0
 IsGoodAction a = (tokens : List Item) × AllProper tokens × SpellsAction most_parts tokens a
@@ -63,8 +63,8 @@ tokens_unplaced (Blank ∷ ps) = tokens_unplaced ps
 tokens_unplaced (TokenPiece x w ∷ ps) = ap (λ s. item x 0 w ∷ s) (tokens_unplaced ps)
 
 module _ (limit : Option ℕ) where
-  formula_elsewhere : (h : Hole) (r : Raw) (tokens : List Item) → is_whole h ≡ true → AllProper tokens → SpellsFormula limit h tokens r → (s : List Item) → map unplaced_item s ≡ raw_tokens r →
-      (again : Raw) × SpellsFormula limit h s again × (unplaced again ≡ unplaced r)
+  formula_elsewhere : (h : Hole) (r : Raw) (tokens : List Item) → is_whole h ≡ true → AllProper tokens → Spells limit h tokens r → (s : List Item) → map unplaced_item s ≡ raw_tokens r →
+      (again : Raw) × Spells limit h s again × (unplaced again ≡ unplaced r)
   formula_elsewhere h r tokens whole all k s e =
       let alike : AlikeTokens (raw_tokens r) s = tokens_unplaced (pieces r) ∙ back e in
       let other = spelled_elsewhere limit h (raw_tokens r) s (unplaced r) alike (spelled_again limit h tokens r whole k all) in

@@ -18,7 +18,7 @@ use Rattle.math_grammar.specs.declared.symbols.Symbol.TheVariants as sym
 use Rattle.math_grammar.specs.declared.operators.Form.{Form}
 use Rattle.math_grammar.specs.declared.operators.Form.TheVariants as form
 use Rattle.math_grammar.specs.Grammar.{item}
-use Rattle.math_grammar.specs.Tokens.{symbol_of as class_of}
+use Rattle.math_grammar.specs.Tokens.{symbol_of}
 use Rattle.component_tokens.specs.Pieces.{at_sign}
 use Rattle.component_text.specs.Marks.{is_structural}
 use Rattle.token_text.specs.Spacing.{is_space, FitsBefore}
@@ -43,11 +43,11 @@ pub record Ready (p : ℕ → Bool) (x : Symbol) (w : List ℕ) : Type 0 where
   pub opens : (t : List ℕ) → Follows opens_set (w ++ t)
 
 spaced : (k : ℕ) (x : Symbol) (b : ℕ) (bs : List ℕ) → starts_word b ≡ false → is_digit b ≡ false → sign_in sign_forms (b ∷ bs) ≡ Some k → ((rest : List ℕ) → blank_length ((b ∷ bs) ++ rest) ≡ 0) →
-    NoneGoesOn sign_forms (b ∷ bs) is_space → class_of (kind.Sign k) (b ∷ bs) ≡ x → IsPlainText (b ∷ bs) → opens_set b ≡ true → Ready is_space x (b ∷ bs)
+    NoneGoesOn sign_forms (b ∷ bs) is_space → symbol_of (kind.Sign k) (b ∷ bs) ≡ x → IsPlainText (b ∷ bs) → opens_set b ≡ true → Ready is_space x (b ∷ bs)
 spaced k x b bs word digit is no_blank none class plain opens = record { fits = passing_sign is_space k x b bs word digit is no_blank none class; plain = plain; opens = λ t. opens }
 
 free : (k : ℕ) (x : Symbol) (b : ℕ) (bs : List ℕ) → starts_word b ≡ false → is_digit b ≡ false → sign_in sign_forms (b ∷ bs) ≡ Some k → ((rest : List ℕ) → blank_length ((b ∷ bs) ++ rest) ≡ 0) →
-    NoneGoesOn sign_forms (b ∷ bs) (λ c. true) → class_of (kind.Sign k) (b ∷ bs) ≡ x → IsPlainText (b ∷ bs) → opens_set b ≡ true → Ready (λ c. true) x (b ∷ bs)
+    NoneGoesOn sign_forms (b ∷ bs) (λ c. true) → symbol_of (kind.Sign k) (b ∷ bs) ≡ x → IsPlainText (b ∷ bs) → opens_set b ≡ true → Ready (λ c. true) x (b ∷ bs)
 free k x b bs word digit is no_blank none class plain opens = record { fits = λ t f. free_fits k x b bs word digit is no_blank none class t; plain = plain; opens = λ t. opens }
 
 -- the same as tests

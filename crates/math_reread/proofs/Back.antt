@@ -30,7 +30,7 @@ use Rattle.formula_core.specs.Identifiers.{carriers, identifiers}
 use Rattle.formula_core.specs.Rows.{row_of}
 use Rattle.formula_core.specs.Schemes.{alpha, power, type_of_scheme, part_schemes, binder_scheme, IsSchemeInstance}
 use Rattle.formula_core.specs.Sizes.{greatest}
-use Rattle.formula_core.specs.TypeTable.{row_fits as is_fit, binder_fits}
+use Rattle.formula_core.specs.TypeTable.{row_fits, binder_fits}
 use Rattle.formula_core.specs.Types.{same_type, is_value_step, is_value_type}
 use Rattle.formula_core.specs.Wellness.{type_of_step, type_of, may_be_bound, is_well_in, is_well}
 use Rattle.formula_core.proofs.Equations.{formula_fold, formula_para, type_fold, identifiers-Free, identifiers-Node, identifiers-Bind}
@@ -172,10 +172,10 @@ module _ (names : List (List ℕ)) (named : (i : ℕ) → i < length names → i
 
   at_node : (o : Op) (parts : List Formula) (t : Ty) → AllByRecursion IsBack parts → IsBack (Node o parts t)
   at_node o parts t all bound values few well ids =
-      let tests : (list_all (λ f. is_well_in f bound) parts && is_fit (row_of o) (map type_of parts) t) ≡ true = back (well-Node o parts t bound) ∙ well in
+      let tests : (list_all (λ f. is_well_in f bound) parts && row_fits (row_of o) (map type_of parts) t) ≡ true = back (well-Node o parts t bound) ∙ well in
       let split : AreNames (joined (map identifiers parts) ++ carriers t) = subst AreNames (identifiers-Node o parts t) ids in
       let inner : AllByRecursion (IsRead names (length bound)) parts
-      = each bound values parts all (omega (arith, deepest-Node o parts t, few)) (first_true _ (is_fit (row_of o) (map type_of parts) t) tests) (all_left (λ x. is_name x.0 ≡ true) (joined (map identifiers parts)) (carriers t) split) in
+      = each bound values parts all (omega (arith, deepest-Node o parts t, few)) (first_true _ (row_fits (row_of o) (map type_of parts) t) tests) (all_left (λ x. is_name x.0 ≡ true) (joined (map identifiers parts)) (carriers t) split) in
       let r : NodeRead names (length bound) o parts t
       = node_reads names (length bound) o parts t inner (λ v. type_reads t v (all_right (λ x. is_name x.0 ≡ true) (joined (map identifiers parts)) (carriers t) split)) (second_true (list_all (λ f. is_well_in f bound) parts) _ tests) in
       to_read (length bound) (Node o parts t) (NodeF o parts t) _ _ _ (outs-Node o parts t) (items-at (NodeF o parts t) (Node o parts t) (rolls-Node o parts t) false (length bound)) (items-at (NodeF o parts t) (Node o parts t) (rolls-Node o parts t) true (length bound)) (written-at (NodeF o parts t) (Node o parts t) (rolls-Node o parts t) (length bound))

@@ -20,7 +20,7 @@ use Rattle.formula_core.specs.Formulas.{joined}
 use Rattle.formula_core.specs.Identifiers.{carriers, identifiers}
 use Rattle.formula_core.specs.Rows.{row_of}
 use Rattle.formula_core.specs.Sizes.{greatest}
-use Rattle.formula_core.specs.TypeTable.{row_fits as is_fit, binder_fits}
+use Rattle.formula_core.specs.TypeTable.{row_fits, binder_fits}
 use Rattle.formula_core.specs.Types.{same_type}
 use Rattle.formula_core.specs.Wellness.{type_of, is_natural, may_be_bound, is_well_in, is_well}
 use Rattle.formula_core.proofs.Equations.{formula_para, identifiers-Free, identifiers-Node, identifiers-Bind}
@@ -158,10 +158,10 @@ module _ (names : List (List ℕ)) (are_names : (i : ℕ) → i < length names �
   at_node : (o : Op) (parts : List Formula) (t : Ty) → AllByRecursion IsTextBack parts → IsTextBack (Node o parts t)
   at_node o parts t all bound few well ids narrow =
       let d : ℕ = length bound in
-      let tests : (list_all (λ f. is_well_in f bound) parts && is_fit (row_of o) (map type_of parts) t) ≡ true = back (well-Node o parts t bound) ∙ well in
+      let tests : (list_all (λ f. is_well_in f bound) parts && row_fits (row_of o) (map type_of parts) t) ≡ true = back (well-Node o parts t bound) ∙ well in
       let split : AreNames (joined (map identifiers parts) ++ carriers t) = subst AreNames (identifiers-Node o parts t) ids in
       let inner : AllByRecursion (IsFormulaPrinted names d) parts
-      = each bound parts all (omega (arith, deepest-Node o parts t, few)) (first_true _ (is_fit (row_of o) (map type_of parts) t) tests) (all_left (λ x. is_name x.0 ≡ true) (joined (map identifiers parts)) (carriers t) split) (subst AreNarrow (literals-Node o parts t) narrow) in
+      = each bound parts all (omega (arith, deepest-Node o parts t, few)) (first_true _ (row_fits (row_of o) (map type_of parts) t) tests) (all_left (λ x. is_name x.0 ≡ true) (joined (map identifiers parts)) (carriers t) split) (subst AreNarrow (literals-Node o parts t) narrow) in
       let r : IsNodePrinted names d o parts t
       = node_printed names d o parts t inner (all_right (λ x. is_name x.0 ≡ true) (joined (map identifiers parts)) (carriers t) split) (second_true (list_all (λ f. is_well_in f bound) parts) _ tests) in
       printed_as d (Node o parts t) _ _ _ _ (items-at (NodeF o parts t) (Node o parts t) (rolls-Node o parts t) false d) (items-at (NodeF o parts t) (Node o parts t) (rolls-Node o parts t) true d) (printed-Node names o parts t false d) (printed-Node names o parts t true d)

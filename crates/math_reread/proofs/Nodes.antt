@@ -27,7 +27,7 @@ use Rattle.formula_core.specs.declared.raw.Raw.TheOpen.{Raw-F, Node as RawNode}
 use Rattle.formula_core.specs.declared.raw.Raw.TheViews.{outs-Node}
 use Rattle.formula_core.specs.Rows.{row_of}
 use Rattle.formula_core.specs.Schemes.{Scheme, alpha, beta, gamma, delta, integer, boolean, truth, power, pair, Letters, AreValues as AreLetters, type_of_scheme, nullary_scheme, unary_scheme, binary_scheme, operand_schemes, result_scheme, IsSchemeInstance}
-use Rattle.formula_core.specs.TypeTable.{row_fits as is_fit}
+use Rattle.formula_core.specs.TypeTable.{row_fits}
 use Rattle.formula_core.specs.Types.{is_value_step, is_value_type}
 use Rattle.formula_core.specs.Wellness.{type_of}
 use Rattle.formula_core.proofs.Equations.{type_fold}
@@ -128,11 +128,11 @@ module _ (names : List (List ℕ)) (d : ℕ) where
       → Whole (quiet (level_of o)) (operator_grade o) (operator_items o (sign_token o) (with_items names parts) t d) (tree o parts t) → NodeRead o parts t
   value_node o parts t g v starts plain = record { sorted = g ∙ back v; starts = starts; plain = plain; denied_too = λ h. let never : true ≡ false = back v ∙ h in cc }
 
-  instance_of : (o : Op) (r : Row) → row_of o ≡ r → (parts : List Formula) (t : Ty) → is_fit (row_of o) (map type_of parts) t ≡ true
+  instance_of : (o : Op) (r : Row) → row_of o ≡ r → (parts : List Formula) (t : Ty) → row_fits (row_of o) (map type_of parts) t ≡ true
       → IsSchemeInstance (operand_schemes r (length (map type_of parts))) (result_scheme r) (map type_of parts) t
-  instance_of o r e parts t h = (fits_exactly r (map type_of parts) t).0 (let P : Row → Type 0 = λ x. is_fit x (map type_of parts) t ≡ true in subst P e h)
+  instance_of o r e parts t h = (fits_exactly r (map type_of parts) t).0 (let P : Row → Type 0 = λ x. row_fits x (map type_of parts) t ≡ true in subst P e h)
 
-  infix_node : (o : Op) → IsInfix o → (parts : List Formula) (t : Ty) → Parts parts → is_fit (row_of o) (map type_of parts) t ≡ true → NodeRead o parts t
+  infix_node : (o : Op) → IsInfix o → (parts : List Formula) (t : Ty) → Parts parts → row_fits (row_of o) (map type_of parts) t ≡ true → NodeRead o parts t
   infix_node o i parts t all h = go parts all (instance_of o (row.Binary i.r) i.its_row parts t h)
     where
       go : (parts : List Formula) → Parts parts → IsSchemeInstance ((binary_scheme i.r).0 ∷ (binary_scheme i.r).1 ∷ []) (binary_scheme i.r).2 (map type_of parts) t → NodeRead o parts t
@@ -196,7 +196,7 @@ module _ (names : List (List ℕ)) (d : ℕ) where
 
   connective_node : (o : Op) → IsConnective o → ((ps : List PartWithItems) (t : Ty) → node_items o ps t true d ≡ not_sign ∷ open_round ∷ (operator_items o (sign_token o) ps t d ++ close_round ∷ []))
       → ((r : Raw) (rs : List Raw) → denied_at r (RawNode (rawop.Plain o) rs 0) ≡ raw.Node (rawop.Plain op.Not) (r ∷ []) 0)
-      → (parts : List Formula) (t : Ty) → Parts parts → is_fit (row_of o) (map type_of parts) t ≡ true → NodeRead o parts t
+      → (parts : List Formula) (t : Ty) → Parts parts → row_fits (row_of o) (map type_of parts) t ≡ true → NodeRead o parts t
   connective_node o i tokens denies parts t all h = with_two (λ ps. NodeRead o ps t) binary.Connective t parts (instance_of o (row.Binary binary.Connective) i.its_row parts t h) all
       (λ l v e a b ra rb ea eb.
       let rs : List Raw = written names a d ∷ written names b d ∷ [] in
@@ -209,7 +209,7 @@ module _ (names : List (List ℕ)) (d : ℕ) where
   function_node : (o : Op) (r : UnaryRow) → row_of o ≡ row.Unary r → is_of_values (unary_scheme r).0 ≡ true → is_of_values (unary_scheme r).1 ≡ true → operator_grade o ≡ grade.Primary
       → ((a : PartWithItems) (t : Ty) → operator_items o (sign_token o) (a ∷ []) t d ≡ item (sym.Call call.Function (rawop.Plain o)) 0 (sign_of o) ∷ open_round ∷ (a.1 false d ++ close_round ∷ []))
       → ((a : Raw) (t : Ty) → operator_raw o (a ∷ []) t ≡ raw.Node (rawop.Plain o) (a ∷ []) 0)
-      → (parts : List Formula) (t : Ty) → Parts parts → is_fit (row_of o) (map type_of parts) t ≡ true → NodeRead o parts t
+      → (parts : List Formula) (t : Ty) → Parts parts → row_fits (row_of o) (map type_of parts) t ≡ true → NodeRead o parts t
   function_node o r is first result graded tokens same parts t all h = with_one (λ ps. NodeRead o ps t) r t parts (instance_of o (row.Unary r) is parts t h) all
       (λ l v e a ra ea.
       value_node o (a ∷ []) t (ap (λ g. nat_lt 3 (rank g)) graded) (value_by l v t (unary_scheme r).1 e result) (ap place_of (same (written names a d) t) ∙ place_node (rawop.Plain o) (written names a d ∷ []))
@@ -225,7 +225,7 @@ module _ (names : List (List ℕ)) (d : ℕ) where
   -- a constant whose sign tells its type
   constant_node : (o : Op) (r : NullaryRow) → row_of o ≡ row.Nullary r → is_of_values (nullary_scheme r) ≡ true → operator_grade o ≡ grade.Primary
       → ((t : Ty) → operator_items o (sign_token o) [] t d ≡ item (sym.Constant o) 0 (sign_of o) ∷ []) → ((t : Ty) → operator_raw o [] t ≡ raw.Node (rawop.Plain o) [] 0)
-      → (parts : List Formula) (t : Ty) → is_fit (row_of o) (map type_of parts) t ≡ true → NodeRead o parts t
+      → (parts : List Formula) (t : Ty) → row_fits (row_of o) (map type_of parts) t ≡ true → NodeRead o parts t
   constant_node o r is result graded tokens same parts t h = with_none (λ ps. NodeRead o ps t) r t parts (instance_of o (row.Nullary r) is parts t h)
       (λ l v e.
       value_node o [] t (ap (λ g. nat_lt 3 (rank g)) graded) (value_by l v t (nullary_scheme r) e result) (ap place_of (same t) ∙ place_node (rawop.Plain o) [])
@@ -239,7 +239,7 @@ module _ (names : List (List ℕ)) (d : ℕ) where
   -- and one with its type
   typed_node : (o : Op) (r : NullaryRow) → row_of o ≡ row.Nullary r → is_of_values (nullary_scheme r) ≡ true → operator_grade o ≡ grade.Primary
       → ((t : Ty) → operator_items o (sign_token o) [] t d ≡ typed_items (item (sym.Constant o) 0 (sign_of o)) t) → ((t : Ty) → operator_raw o [] t ≡ typed_raw o t)
-      → (parts : List Formula) (t : Ty) → (is_value_type t ≡ true → IsTypeRead t) → is_fit (row_of o) (map type_of parts) t ≡ true → NodeRead o parts t
+      → (parts : List Formula) (t : Ty) → (is_value_type t ≡ true → IsTypeRead t) → row_fits (row_of o) (map type_of parts) t ≡ true → NodeRead o parts t
   typed_node o r is result graded tokens same parts t read h = with_none (λ ps. NodeRead o ps t) r t parts (instance_of o (row.Nullary r) is parts t h)
       (λ l v e.
       let value : is_value_type t ≡ true = value_by l v t (nullary_scheme r) e result in
@@ -254,7 +254,7 @@ module _ (names : List (List ℕ)) (d : ℕ) where
   truth_node : (o : Op) → row_of o ≡ row.Nullary nullary.Predicate → operator_grade o ≡ grade.Literal → ((t : Ty) → operator_items o (sign_token o) [] t d ≡ item (sym.Truth o) 0 (sign_of o) ∷ [])
       → ((t : Ty) → node_items o [] t true d ≡ not_sign ∷ item (sym.Truth o) 0 (sign_of o) ∷ []) → ((t : Ty) → operator_raw o [] t ≡ raw.Node (rawop.Plain o) [] 0)
       → ((r : Raw) (rs : List Raw) → denied_at r (RawNode (rawop.Plain o) rs 0) ≡ raw.Node (rawop.Plain op.Not) (r ∷ []) 0)
-      → (parts : List Formula) (t : Ty) → is_fit (row_of o) (map type_of parts) t ≡ true → NodeRead o parts t
+      → (parts : List Formula) (t : Ty) → row_fits (row_of o) (map type_of parts) t ≡ true → NodeRead o parts t
   truth_node o is graded tokens denied_tokens same denies parts t h = with_none (λ ps. NodeRead o ps t) nullary.Predicate t parts (instance_of o (row.Nullary nullary.Predicate) is parts t h)
       (λ l v e.
       let s : List Item = item (sym.Truth o) 0 (sign_of o) ∷ [] in
@@ -279,7 +279,7 @@ module _ (names : List (List ℕ)) (d : ℕ) where
       → ((a b : PartWithItems) (t : Ty) → operator_items o (sign_token o) (a ∷ b ∷ []) t d ≡ a.1 false d ++ (sign_token o ∷ b.1 false d))
       → ((a b : PartWithItems) (t : Ty) → node_items o (a ∷ b ∷ []) t true d ≡ (a.1 false d ++ (denied_sign_token o ∷ b.1 false d)) ++ [])
       → ((a b : Raw) (t : Ty) → operator_raw o (a ∷ b ∷ []) t ≡ raw.Node (rawop.Plain o) (a ∷ b ∷ []) 0) → ((r : Raw) (rs : List Raw) → denied_at r (RawNode (rawop.Plain o) rs 0) ≡ raw.Node n rs 0)
-      → (parts : List Formula) (t : Ty) → Parts parts → is_fit (row_of o) (map type_of parts) t ≡ true → NodeRead o parts t
+      → (parts : List Formula) (t : Ty) → Parts parts → row_fits (row_of o) (map type_of parts) t ≡ true → NodeRead o parts t
   signed_node o r n is first second result graded low sign three denied_sign denied_three tokens denied_tokens same denies parts t all h =
       with_two (λ ps. NodeRead o ps t) r t parts (instance_of o (row.Binary r) is parts t h) all
       (λ l v e a b ra rb ea eb.
@@ -308,7 +308,7 @@ module _ (names : List (List ℕ)) (d : ℕ) where
       → ((ps : List PartWithItems) (t : Ty) → node_items o ps t true d ≡ not_sign ∷ open_round ∷ (operator_items o (sign_token o) ps t d ++ close_round ∷ []))
       → ((a b : Raw) (t : Ty) → operator_raw o (a ∷ b ∷ []) t ≡ raw.Node (rawop.Plain o) (a ∷ b ∷ []) 0)
       → ((r : Raw) (rs : List Raw) → denied_at r (RawNode (rawop.Plain o) rs 0) ≡ raw.Node (rawop.Plain op.Not) (r ∷ []) 0)
-      → (parts : List Formula) (t : Ty) → Parts parts → is_fit (row_of o) (map type_of parts) t ≡ true → NodeRead o parts t
+      → (parts : List Formula) (t : Ty) → Parts parts → row_fits (row_of o) (map type_of parts) t ≡ true → NodeRead o parts t
   compared_node o is graded low sign three tokens denied_tokens same denies parts t all h =
       with_two (λ ps. NodeRead o ps t) binary.Comparison t parts (instance_of o (row.Binary binary.Comparison) is parts t h) all
       (λ l v e a b ra rb ea eb.
@@ -327,12 +327,12 @@ module _ (names : List (List ℕ)) (d : ℕ) where
       (denied_tokens (pa ∷ pb ∷ []) t)
       (ap denied equal ∙ denied_node (rawop.Plain o) rs ∙ denies (raw.Node (rawop.Plain o) rs 0) rs ∙ ap (λ r. raw.Node (rawop.Plain op.Not) (r ∷ []) 0) (back equal)))
 
-  not_node : (parts : List Formula) (t : Ty) → Parts parts → is_fit (row_of op.Not) (map type_of parts) t ≡ true → NodeRead op.Not parts t
+  not_node : (parts : List Formula) (t : Ty) → Parts parts → row_fits (row_of op.Not) (map type_of parts) t ≡ true → NodeRead op.Not parts t
   not_node parts t all h = with_one (λ ps. NodeRead op.Not ps t) unary.Negation t parts (instance_of op.Not (row.Unary unary.Negation) refl parts t h) all
       (λ l v e a ra ea.
       negated_node op.Not (a ∷ []) t refl (truth_by t e) (place_denied (written names a d)) (ra.denied_too (truth_by (type_of a) ea)) refl (twice (written names a d)))
 
-  finite_node : (parts : List Formula) (t : Ty) → Parts parts → is_fit (row_of op.Finite) (map type_of parts) t ≡ true → NodeRead op.Finite parts t
+  finite_node : (parts : List Formula) (t : Ty) → Parts parts → row_fits (row_of op.Finite) (map type_of parts) t ≡ true → NodeRead op.Finite parts t
   finite_node parts t all h = with_one (λ ps. NodeRead op.Finite ps t) unary.Finiteness t parts (instance_of op.Finite (row.Unary unary.Finiteness) refl parts t h) all
       (λ l v e a ra ea.
       let s : List Item = sign_token op.Finite ∷ open_round ∷ (items names a false d ++ close_round ∷ []) in
@@ -347,32 +347,32 @@ module _ (names : List (List ℕ)) (d : ℕ) where
         denied_too = λ x. retokened 2 grade.Literal (not_sign ∷ s) (not_sign ∷ (s ++ [])) (denied r) (ap (λ l. not_sign ∷ l) (append-nil s)) (retreed 2 grade.Literal (not_sign ∷ s) (raw.Node (rawop.Plain op.Not) (r ∷ []) 0) (denied r) (back (denied_node (rawop.Plain op.Finite) (written names a d ∷ []))) (bare_negated_form 2 s r refl (whole 2)));
       })
 
-  bool_node : (parts : List Formula) (t : Ty) → Parts parts → is_fit (row_of op.BoolOf) (map type_of parts) t ≡ true → NodeRead op.BoolOf parts t
+  bool_node : (parts : List Formula) (t : Ty) → Parts parts → row_fits (row_of op.BoolOf) (map type_of parts) t ≡ true → NodeRead op.BoolOf parts t
   bool_node parts t all h = with_one (λ ps. NodeRead op.BoolOf ps t) unary.TruthOf t parts (instance_of op.BoolOf (row.Unary unary.TruthOf) refl parts t h) all
       (λ l v e a ra ea.
       value_node op.BoolOf (a ∷ []) t refl (value_by l v t boolean e refl) (place_node (rawop.Plain op.BoolOf) (written names a d ∷ []))
       (λ rest q. call_form call.Bool (rawop.Plain op.BoolOf) (sign_of op.BoolOf) (quiet (formula_level a)) (grade_of a) (items names a false d) (written names a d)
       (fits_predicate (grade_of a) (ra.sorted ∙ truth_by (type_of a) ea)) ra.plain rest))
 
-  negate_node : (parts : List Formula) (t : Ty) → Parts parts → is_fit (row_of op.Negate) (map type_of parts) t ≡ true → NodeRead op.Negate parts t
+  negate_node : (parts : List Formula) (t : Ty) → Parts parts → row_fits (row_of op.Negate) (map type_of parts) t ≡ true → NodeRead op.Negate parts t
   negate_node parts t all h = with_one (λ ps. NodeRead op.Negate ps t) unary.Opposite t parts (instance_of op.Negate (row.Unary unary.Opposite) refl parts t h) all
       (λ l v e a ra ea.
       value_node op.Negate (a ∷ []) t refl (value_by l v t integer e refl) (place_node (rawop.Plain op.Negate) (written names a d ∷ []))
       (negative_reads names d a ra (value_by l v (type_of a) integer ea refl)))
 
-  converse_node : (parts : List Formula) (t : Ty) → Parts parts → is_fit (row_of op.Converse) (map type_of parts) t ≡ true → NodeRead op.Converse parts t
+  converse_node : (parts : List Formula) (t : Ty) → Parts parts → row_fits (row_of op.Converse) (map type_of parts) t ≡ true → NodeRead op.Converse parts t
   converse_node parts t all h = with_one (λ ps. NodeRead op.Converse ps t) unary.Converse t parts (instance_of op.Converse (row.Unary unary.Converse) refl parts t h) all
       (λ l v e a ra ea.
       value_node op.Converse (a ∷ []) t refl (value_by l v t (unary_scheme unary.Converse).1 e refl) (place_node (rawop.Plain op.Converse) (written names a d ∷ []))
       (converse_reads names d a ra (value_by l v (type_of a) (unary_scheme unary.Converse).0 ea refl)))
 
-  apply_node : (parts : List Formula) (t : Ty) → Parts parts → is_fit (row_of op.Apply) (map type_of parts) t ≡ true → NodeRead op.Apply parts t
+  apply_node : (parts : List Formula) (t : Ty) → Parts parts → row_fits (row_of op.Apply) (map type_of parts) t ≡ true → NodeRead op.Apply parts t
   apply_node parts t all h = with_two (λ ps. NodeRead op.Apply ps t) binary.Application t parts (instance_of op.Apply (row.Binary binary.Application) refl parts t h) all
       (λ l v e a b ra rb ea eb.
       value_node op.Apply (a ∷ b ∷ []) t refl (value_by l v t (binary_scheme binary.Application).2 e refl) (place_node (rawop.Plain op.Apply) (written names a d ∷ written names b d ∷ []))
       (apply_reads names d a b ra rb (value_by l v (type_of a) (binary_scheme binary.Application).0 ea refl) (value_by l v (type_of b) (binary_scheme binary.Application).1 eb refl)))
 
-  image_node : (parts : List Formula) (t : Ty) → Parts parts → is_fit (row_of op.Image) (map type_of parts) t ≡ true → NodeRead op.Image parts t
+  image_node : (parts : List Formula) (t : Ty) → Parts parts → row_fits (row_of op.Image) (map type_of parts) t ≡ true → NodeRead op.Image parts t
   image_node parts t all h = with_two (λ ps. NodeRead op.Image ps t) binary.Image t parts (instance_of op.Image (row.Binary binary.Image) refl parts t h) all
       (λ l v e a b ra rb ea eb.
       value_node op.Image (a ∷ b ∷ []) t refl (value_by l v t (binary_scheme binary.Image).2 e refl) (place_node (rawop.Plain op.Image) (written names a d ∷ written names b d ∷ []))
@@ -393,7 +393,7 @@ module _ (names : List (List ℕ)) (d : ℕ) where
       is_value : (l : Letters) → AreLetters l → (a : Formula) → IsRead names d a → type_of a ≡ l.alpha → IsValue (items names a false d) (written names a d)
       is_value l v a ra ea = record { least = quiet (formula_level a); g = grade_of a; whole = ra.plain; fit = fits_value (grade_of a) (ra.sorted ∙ ap is_value_type ea ∙ v.alpha) }
 
-  set_node : (parts : List Formula) (t : Ty) → Parts parts → is_fit (row_of op.SetExtension) (map type_of parts) t ≡ true → NodeRead op.SetExtension parts t
+  set_node : (parts : List Formula) (t : Ty) → Parts parts → row_fits (row_of op.SetExtension) (map type_of parts) t ≡ true → NodeRead op.SetExtension parts t
   set_node parts t all h = go parts all (instance_of op.SetExtension row.SetExtension refl parts t h)
     where
       go : (parts : List Formula) → Parts parts → IsSchemeInstance (alpha ∷ replicate (length (map type_of parts) - 1) alpha) (power alpha) (map type_of parts) t → NodeRead op.SetExtension parts t
@@ -409,7 +409,7 @@ module _ (names : List (List ℕ)) (d : ℕ) where
           (λ rest q. set_form [] (items names a false d) (written names a d) (map (λ (p : PartWithItems). p.1 false d) (with_items names parts)) (map (λ (p : ℕ → Raw). p d) (map (written names) parts)) value
           (are_values is.letters is.values k parts later all.1) rest)
 
-  pub node_reads : (o : Op) (parts : List Formula) (t : Ty) → Parts parts → (is_value_type t ≡ true → IsTypeRead t) → is_fit (row_of o) (map type_of parts) t ≡ true → NodeRead o parts t
+  pub node_reads : (o : Op) (parts : List Formula) (t : Ty) → Parts parts → (is_value_type t ≡ true → IsTypeRead t) → row_fits (row_of o) (map type_of parts) t ≡ true → NodeRead o parts t
   node_reads op.Top parts t all read h = truth_node op.Top refl refl (λ t. refl) (λ t. refl) (λ t. refl) (λ r rs. refl) parts t h
   node_reads op.Bottom parts t all read h = truth_node op.Bottom refl refl (λ t. refl) (λ t. refl) (λ t. refl) (λ r rs. refl) parts t h
   node_reads op.Not parts t all read h = not_node parts t all h

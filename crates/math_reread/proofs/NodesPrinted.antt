@@ -17,7 +17,7 @@ use Rattle.formula_core.specs.declared.formula.Formula.{Formula}
 use Rattle.formula_core.specs.Identifiers.{carriers}
 use Rattle.formula_core.specs.Rows.{row_of}
 use Rattle.formula_core.specs.Schemes.{alpha, power, type_of_scheme, operand_schemes, result_scheme, IsSchemeInstance}
-use Rattle.formula_core.specs.TypeTable.{row_fits as is_fit}
+use Rattle.formula_core.specs.TypeTable.{row_fits}
 use Rattle.formula_core.specs.Wellness.{type_of}
 use Rattle.formula_core.proofs.Schemes.{fits_exactly}
 use Rattle.math_grammar.specs.Tokens.{Item}
@@ -27,7 +27,7 @@ use Rattle.math_print.specs.declared.levels.Side.TheVariants as side
 use Rattle.math_print.specs.Characters.{bytes, separated_texts}
 use Rattle.math_print.specs.Levels.{needs_parentheses}
 use Rattle.math_print.specs.Signs.{opening_of, closing_of}
-use Rattle.math_print.specs.Printing.{PartWithText as TextPart, operand_text, typed_text, operator_text, printed}
+use Rattle.math_print.specs.Printing.{PartWithText, operand_text, typed_text, operator_text, printed}
 use Rattle.math_print.specs.Private.{with_texts}
 use Rattle.token_text.specs.Spacing.{FitsBefore}
 use Rattle.token_text.proofs.Following.{stops, Follows}
@@ -85,19 +85,19 @@ module _ (names : List (List ℕ)) (d : ℕ) where
   abbrev Parts : List Formula → Type 0
   Parts parts = AllByRecursion (IsFormulaPrinted names d) parts
 
-  instance_of : (o : Op) (r : Row) → row_of o ≡ r → (parts : List Formula) (t : Ty) → is_fit (row_of o) (map type_of parts) t ≡ true
+  instance_of : (o : Op) (r : Row) → row_of o ≡ r → (parts : List Formula) (t : Ty) → row_fits (row_of o) (map type_of parts) t ≡ true
       → IsSchemeInstance (operand_schemes r (length (map type_of parts))) (result_scheme r) (map type_of parts) t
-  instance_of o r e parts t h = (fits_exactly r (map type_of parts) t).0 (let P : Row → Type 0 = λ x. is_fit x (map type_of parts) t ≡ true in subst P e h)
+  instance_of o r e parts t h = (fits_exactly r (map type_of parts) t).0 (let P : Row → Type 0 = λ x. row_fits x (map type_of parts) t ≡ true in subst P e h)
 
   -- the operands of a row
-  with_none : (P : List Formula → Type 0) (o : Op) (r : NullaryRow) → row_of o ≡ row.Nullary r → (parts : List Formula) (t : Ty) → is_fit (row_of o) (map type_of parts) t ≡ true → P [] → P parts
+  with_none : (P : List Formula → Type 0) (o : Op) (r : NullaryRow) → row_of o ≡ row.Nullary r → (parts : List Formula) (t : Ty) → row_fits (row_of o) (map type_of parts) t ≡ true → P [] → P parts
   with_none P o r e parts t h p = go parts (instance_of o (row.Nullary r) e parts t h).operands_are
     where
       go : (parts : List Formula) → map type_of parts ≡ [] → P parts
       go [] e = p
       go (a ∷ more) e = let never : type_of a ∷ map type_of more ≡ [] = e in cc
 
-  with_one : (P : List Formula → Type 0) (o : Op) (r : UnaryRow) → row_of o ≡ row.Unary r → (parts : List Formula) (t : Ty) → is_fit (row_of o) (map type_of parts) t ≡ true → Parts parts
+  with_one : (P : List Formula → Type 0) (o : Op) (r : UnaryRow) → row_of o ≡ row.Unary r → (parts : List Formula) (t : Ty) → row_fits (row_of o) (map type_of parts) t ≡ true → Parts parts
       → ((a : Formula) → IsFormulaPrinted names d a → P (a ∷ [])) → P parts
   with_one P o r e parts t h all p = go _ parts all (instance_of o (row.Unary r) e parts t h).operands_are
     where
@@ -106,7 +106,7 @@ module _ (names : List (List ℕ)) (d : ℕ) where
       go u (a ∷ []) all e = p a all.0
       go u (a ∷ b ∷ more) all e = let never : type_of a ∷ type_of b ∷ map type_of more ≡ u ∷ [] = e in cc
 
-  with_two : (P : List Formula → Type 0) (o : Op) (r : BinaryRow) → row_of o ≡ row.Binary r → (parts : List Formula) (t : Ty) → is_fit (row_of o) (map type_of parts) t ≡ true → Parts parts
+  with_two : (P : List Formula → Type 0) (o : Op) (r : BinaryRow) → row_of o ≡ row.Binary r → (parts : List Formula) (t : Ty) → row_fits (row_of o) (map type_of parts) t ≡ true → Parts parts
       → ((a b : Formula) → IsFormulaPrinted names d a → IsFormulaPrinted names d b → P (a ∷ b ∷ [])) → P parts
   with_two P o r e parts t h all p = go _ _ parts all (instance_of o (row.Binary r) e parts t h).operands_are
     where
@@ -119,7 +119,7 @@ module _ (names : List (List ℕ)) (d : ℕ) where
   abbrev tokens_of : Formula → PartWithItems
   tokens_of a = (a, items names a)
 
-  abbrev text_of : Formula → TextPart
+  abbrev text_of : Formula → PartWithText
   text_of a = (a, printed names a)
 
   operand_form : (o : Op) (s : Side) (a : Formula) → IsFormulaPrinted names d a → IsPrinted (operand_items o s (tokens_of a) d) (operand_text o s (text_of a) d)
@@ -137,8 +137,8 @@ module _ (names : List (List ℕ)) (d : ℕ) where
 
   infix_node : (o : Op) (x : Item) (r : BinaryRow) → row_of o ≡ row.Binary r
       → ((a b : PartWithItems) (t : Ty) → operator_items o x (a ∷ b ∷ []) t d ≡ operand_items o side.Left a d ++ (x ∷ operand_items o side.Right b d))
-      → ((a b : TextPart) (t : Ty) → operator_text o x.text (a ∷ b ∷ []) t d ≡ operand_text o side.Left a d ++ (bytes " " ++ (x.text ++ (bytes " " ++ operand_text o side.Right b d))))
-      → ((rest : List ℕ) → FitsBefore x (32 ∷ rest)) → (parts : List Formula) (t : Ty) → Parts parts → is_fit (row_of o) (map type_of parts) t ≡ true → IsOperatorPrinted o x parts t
+      → ((a b : PartWithText) (t : Ty) → operator_text o x.text (a ∷ b ∷ []) t d ≡ operand_text o side.Left a d ++ (bytes " " ++ (x.text ++ (bytes " " ++ operand_text o side.Right b d))))
+      → ((rest : List ℕ) → FitsBefore x (32 ∷ rest)) → (parts : List Formula) (t : Ty) → Parts parts → row_fits (row_of o) (map type_of parts) t ≡ true → IsOperatorPrinted o x parts t
   infix_node o x r is tokens text fit parts t all h = with_two (λ ps. IsOperatorPrinted o x ps t) o r is parts t h all
       (λ a b ia ib.
       by o x (a ∷ b ∷ []) t _ _ (tokens (tokens_of a) (tokens_of b) t) (text (text_of a) (text_of b) t)
@@ -147,48 +147,48 @@ module _ (names : List (List ℕ)) (d : ℕ) where
 
   call_node : (o : Op) (x : Item) (r : UnaryRow) → row_of o ≡ row.Unary r
       → ((a : PartWithItems) (t : Ty) → operator_items o x (a ∷ []) t d ≡ x ∷ open_round ∷ (a.1 false d ++ close_round ∷ []))
-      → ((a : TextPart) (t : Ty) → operator_text o x.text (a ∷ []) t d ≡ x.text ++ (bytes "(" ++ (a.1 false d ++ bytes ")")))
-      → ((rest : List ℕ) → FitsBefore x (40 ∷ rest)) → Opens x.text → (parts : List Formula) (t : Ty) → Parts parts → is_fit (row_of o) (map type_of parts) t ≡ true → IsOperatorPrinted o x parts t
+      → ((a : PartWithText) (t : Ty) → operator_text o x.text (a ∷ []) t d ≡ x.text ++ (bytes "(" ++ (a.1 false d ++ bytes ")")))
+      → ((rest : List ℕ) → FitsBefore x (40 ∷ rest)) → Opens x.text → (parts : List Formula) (t : Ty) → Parts parts → row_fits (row_of o) (map type_of parts) t ≡ true → IsOperatorPrinted o x parts t
   call_node o x r is tokens text fit open_sign parts t all h = with_one (λ ps. IsOperatorPrinted o x ps t) o r is parts t h all
       (λ a ia.
       by o x (a ∷ []) t _ _ (tokens (tokens_of a) t) (text (text_of a) t) (call_form x (items names a false d) (printed names a false d) fit ia.plain) (opens_with x.text _ open_sign))
 
   constant_node : (o : Op) (x : Item) (r : NullaryRow) → row_of o ≡ row.Nullary r
       → ((t : Ty) → operator_items o x [] t d ≡ x ∷ []) → ((t : Ty) → operator_text o x.text [] t d ≡ x.text)
-      → ((rest : List ℕ) → Follows stops rest → FitsBefore x rest) → Opens x.text → (parts : List Formula) (t : Ty) → is_fit (row_of o) (map type_of parts) t ≡ true → IsOperatorPrinted o x parts t
+      → ((rest : List ℕ) → Follows stops rest → FitsBefore x rest) → Opens x.text → (parts : List Formula) (t : Ty) → row_fits (row_of o) (map type_of parts) t ≡ true → IsOperatorPrinted o x parts t
   constant_node o x r is tokens text fit open_sign parts t h = with_none (λ ps. IsOperatorPrinted o x ps t) o r is parts t h (by o x [] t (x ∷ []) x.text (tokens t) (text t) (lone x fit) open_sign)
 
   typed_node : (o : Op) (x : Item) (r : NullaryRow) → row_of o ≡ row.Nullary r
       → ((t : Ty) → operator_items o x [] t d ≡ typed_items x t) → ((t : Ty) → operator_text o x.text [] t d ≡ typed_text x.text t)
-      → ((rest : List ℕ) → Follows stops rest → FitsBefore x rest) → (parts : List Formula) (t : Ty) → AreNames (carriers t) → is_fit (row_of o) (map type_of parts) t ≡ true → IsOperatorPrinted o x parts t
+      → ((rest : List ℕ) → Follows stops rest → FitsBefore x rest) → (parts : List Formula) (t : Ty) → AreNames (carriers t) → row_fits (row_of o) (map type_of parts) t ≡ true → IsOperatorPrinted o x parts t
   typed_node o x r is tokens text fit parts t carried h = with_none (λ ps. IsOperatorPrinted o x ps t) o r is parts t h (by o x [] t (typed_items x t) (typed_text x.text t) (tokens t) (text t) (typed_form x t carried fit) (λ rest. refl))
 
-  not_node : (parts : List Formula) (t : Ty) → Parts parts → is_fit (row_of op.Not) (map type_of parts) t ≡ true → IsNodePrinted op.Not parts t
+  not_node : (parts : List Formula) (t : Ty) → Parts parts → row_fits (row_of op.Not) (map type_of parts) t ≡ true → IsNodePrinted op.Not parts t
   not_node parts t all h = same_sign op.Not parts t refl (with_one (λ ps. IsOperatorPrinted op.Not (sign_token op.Not) ps t) op.Not unary.Negation refl parts t h all
       (λ a ia. record { whole = ia.denied; opens = ia.denied_opens }))
 
-  negate_node : (parts : List Formula) (t : Ty) → Parts parts → is_fit (row_of op.Negate) (map type_of parts) t ≡ true → IsNodePrinted op.Negate parts t
+  negate_node : (parts : List Formula) (t : Ty) → Parts parts → row_fits (row_of op.Negate) (map type_of parts) t ≡ true → IsNodePrinted op.Negate parts t
   negate_node parts t all h = same_sign op.Negate parts t refl (with_one (λ ps. IsOperatorPrinted op.Negate (sign_token op.Negate) ps t) op.Negate unary.Opposite refl parts t h all
       (λ a ia. record {
         whole = token (sign_token op.Negate) (operand_items op.Negate side.Right (tokens_of a) d) (operand_text op.Negate side.Right (text_of a) d) (λ rest h. fits-Negate (operand_text op.Negate side.Right (text_of a) d ++ rest)) (operand_form op.Negate side.Right a ia);
         opens = λ rest. refl;
       }))
 
-  converse_node : (parts : List Formula) (t : Ty) → Parts parts → is_fit (row_of op.Converse) (map type_of parts) t ≡ true → IsNodePrinted op.Converse parts t
+  converse_node : (parts : List Formula) (t : Ty) → Parts parts → row_fits (row_of op.Converse) (map type_of parts) t ≡ true → IsNodePrinted op.Converse parts t
   converse_node parts t all h = same_sign op.Converse parts t refl (with_one (λ ps. IsOperatorPrinted op.Converse (sign_token op.Converse) ps t) op.Converse unary.Converse refl parts t h all
       (λ a ia. record {
         whole = beside (operand_items op.Converse side.Left (tokens_of a) d) (sign_token op.Converse ∷ []) (operand_text op.Converse side.Left (text_of a) d) (sign_of op.Converse) (operand_form op.Converse side.Left a ia) (λ rest h. refl) (lone (sign_token op.Converse) (fits_alone op.Converse refl));
         opens = opens_with (operand_text op.Converse side.Left (text_of a) d) _ (operand_opens op.Converse side.Left a ia);
       }))
 
-  apply_node : (parts : List Formula) (t : Ty) → Parts parts → is_fit (row_of op.Apply) (map type_of parts) t ≡ true → IsNodePrinted op.Apply parts t
+  apply_node : (parts : List Formula) (t : Ty) → Parts parts → row_fits (row_of op.Apply) (map type_of parts) t ≡ true → IsNodePrinted op.Apply parts t
   apply_node parts t all h = same_sign op.Apply parts t refl (with_two (λ ps. IsOperatorPrinted op.Apply (sign_token op.Apply) ps t) op.Apply binary.Application refl parts t h all
       (λ a b ia ib. record {
         whole = beside (operand_items op.Apply side.Left (tokens_of a) d) (open_round ∷ (items names b false d ++ close_round ∷ [])) (operand_text op.Apply side.Left (text_of a) d) (bytes "(" ++ (printed names b false d ++ bytes ")")) (operand_form op.Apply side.Left a ia) (λ rest h. refl) (round (items names b false d) (printed names b false d) ib.plain);
         opens = opens_with (operand_text op.Apply side.Left (text_of a) d) _ (operand_opens op.Apply side.Left a ia);
       }))
 
-  image_node : (parts : List Formula) (t : Ty) → Parts parts → is_fit (row_of op.Image) (map type_of parts) t ≡ true → IsNodePrinted op.Image parts t
+  image_node : (parts : List Formula) (t : Ty) → Parts parts → row_fits (row_of op.Image) (map type_of parts) t ≡ true → IsNodePrinted op.Image parts t
   image_node parts t all h = same_sign op.Image parts t refl (with_two (λ ps. IsOperatorPrinted op.Image (sign_token op.Image) ps t) op.Image binary.Image refl parts t h all
       (λ a b ia ib. record {
         whole = beside (operand_items op.Image side.Left (tokens_of a) d) (open_square ∷ (items names b false d ++ close_square ∷ [])) (operand_text op.Image side.Left (text_of a) d) (bytes "[" ++ (printed names b false d ++ bytes "]")) (operand_form op.Image side.Left a ia) (λ rest h. refl) (square (items names b false d) (printed names b false d) ib.plain);
@@ -196,18 +196,18 @@ module _ (names : List (List ℕ)) (d : ℕ) where
       }))
 
   -- the members of a set
-  members : (parts : List Formula) → Parts parts → ArePrinted (map (λ (p : PartWithItems). p.1 false d) (with_items names parts)) (map (λ (p : TextPart). p.1 false d) (with_texts names parts))
+  members : (parts : List Formula) → Parts parts → ArePrinted (map (λ (p : PartWithItems). p.1 false d) (with_items names parts)) (map (λ (p : PartWithText). p.1 false d) (with_texts names parts))
   members [] all = tt
   members (a ∷ parts) all = (all.0.plain, members parts all.1)
 
-  set_node : (parts : List Formula) (t : Ty) → Parts parts → is_fit (row_of op.SetExtension) (map type_of parts) t ≡ true → IsNodePrinted op.SetExtension parts t
+  set_node : (parts : List Formula) (t : Ty) → Parts parts → row_fits (row_of op.SetExtension) (map type_of parts) t ≡ true → IsNodePrinted op.SetExtension parts t
   set_node parts t all h = same_sign op.SetExtension parts t refl (go parts all (instance_of op.SetExtension row.SetExtension refl parts t h))
     where
       go : (parts : List Formula) → Parts parts → IsSchemeInstance (alpha ∷ replicate (length (map type_of parts) - 1) alpha) (power alpha) (map type_of parts) t → IsOperatorPrinted op.SetExtension (sign_token op.SetExtension) parts t
       go [] all is = let e : [] ≡ is.letters.alpha ∷ map (type_of_scheme is.letters) (replicate (0 - 1) alpha) = is.operands_are in cc
       go (a ∷ parts) all is =
           let ss : List (List Item) = map (λ (p : PartWithItems). p.1 false d) (with_items names (a ∷ parts)) in
-          let ts : List (List ℕ) = map (λ (p : TextPart). p.1 false d) (with_texts names (a ∷ parts)) in
+          let ts : List (List ℕ) = map (λ (p : PartWithText). p.1 false d) (with_texts names (a ∷ parts)) in
           record {
             whole = braces (separated ss) (separated_texts ts) (opens_with (printed names a false d) _ all.0.opens) (separated_form 0 ss ts (members (a ∷ parts) all));
             opens = λ rest. refl;
@@ -220,7 +220,7 @@ module _ (names : List (List ℕ)) (d : ℕ) where
   between_items op.SetExtension f x a b t = cc
   between_items _ f x a b t = refl
 
-  between_text : (o : Op) → is_between (op_form o) ≡ true → (w : List ℕ) (a b : TextPart) (t : Ty) → operator_text o w (a ∷ b ∷ []) t d ≡ operand_text o side.Left a d ++ (bytes " " ++ (w ++ (bytes " " ++ operand_text o side.Right b d)))
+  between_text : (o : Op) → is_between (op_form o) ≡ true → (w : List ℕ) (a b : PartWithText) (t : Ty) → operator_text o w (a ∷ b ∷ []) t d ≡ operand_text o side.Left a d ++ (bytes " " ++ (w ++ (bytes " " ++ operand_text o side.Right b d)))
   between_text op.Apply f w a b t = cc
   between_text op.Image f w a b t = cc
   between_text op.SetExtension f w a b t = cc
@@ -233,7 +233,7 @@ module _ (names : List (List ℕ)) (d : ℕ) where
   call_items op.SetExtension f x a t = cc
   call_items _ f x a t = refl
 
-  call_text : (o : Op) → is_call (op_form o) ≡ true → (w : List ℕ) (a : TextPart) (t : Ty) → operator_text o w (a ∷ []) t d ≡ w ++ (bytes "(" ++ (a.1 false d ++ bytes ")"))
+  call_text : (o : Op) → is_call (op_form o) ≡ true → (w : List ℕ) (a : PartWithText) (t : Ty) → operator_text o w (a ∷ []) t d ≡ w ++ (bytes "(" ++ (a.1 false d ++ bytes ")"))
   call_text op.Not f w a t = cc
   call_text op.Negate f w a t = cc
   call_text op.Converse f w a t = cc
@@ -275,23 +275,23 @@ module _ (names : List (List ℕ)) (d : ℕ) where
       go [] h = cc
       go (c ∷ cs) h = λ rest. h
 
-  between_printed : (o : Op) → is_between (op_form o) ≡ true → (parts : List Formula) (t : Ty) → Parts parts → is_fit (row_of o) (map type_of parts) t ≡ true → IsNodePrinted o parts t
+  between_printed : (o : Op) → is_between (op_form o) ≡ true → (parts : List Formula) (t : Ty) → Parts parts → row_fits (row_of o) (map type_of parts) t ≡ true → IsNodePrinted o parts t
   between_printed o f parts t all h = own_sign o parts t (with_its (sign_token o) (λ rest. fits_spaced o (between_signed o f) (32 ∷ rest) refl)) (with_its (denied_sign_token o) (λ rest. fits_denied o (between_signed o f) (32 ∷ rest) refl))
     where
       with_its : (x : Item) → ((rest : List ℕ) → FitsBefore x (32 ∷ rest)) → IsOperatorPrinted o x parts t
       with_its x fit = infix_node o x (between_row o f).0 (between_row o f).1 (between_items o f x) (between_text o f x.text) fit parts t all h
 
-  call_printed : (o : Op) → is_call (op_form o) ≡ true → (parts : List Formula) (t : Ty) → Parts parts → is_fit (row_of o) (map type_of parts) t ≡ true → IsNodePrinted o parts t
+  call_printed : (o : Op) → is_call (op_form o) ≡ true → (parts : List Formula) (t : Ty) → Parts parts → row_fits (row_of o) (map type_of parts) t ≡ true → IsNodePrinted o parts t
   call_printed o f parts t all h =
       same_sign o parts t (same_denied o (call_alone o f))
       (call_node o (sign_token o) (call_row o f).0 (call_row o f).1 (call_items o f (sign_token o)) (call_text o f (sign_of o)) (λ rest. fits_alone o (call_alone o f) (40 ∷ rest) refl) (sign_opens o (call_alone o f)) parts t all h)
 
-  constant_printed : (o : Op) → is_plain_constant o ≡ true → (parts : List Formula) (t : Ty) → is_fit (row_of o) (map type_of parts) t ≡ true → IsNodePrinted o parts t
+  constant_printed : (o : Op) → is_plain_constant o ≡ true → (parts : List Formula) (t : Ty) → row_fits (row_of o) (map type_of parts) t ≡ true → IsNodePrinted o parts t
   constant_printed o f parts t h =
       same_sign o parts t (same_denied o (constant_alone o f))
       (constant_node o (sign_token o) (constant_row o f).0 (constant_row o f).1 (constant_items o f (sign_token o)) (constant_text o f (sign_of o)) (fits_alone o (constant_alone o f)) (sign_opens o (constant_alone o f)) parts t h)
 
-  regular_printed : (o : Op) → (is_between (op_form o) || (is_call (op_form o) || is_plain_constant o)) ≡ true → (parts : List Formula) (t : Ty) → Parts parts → is_fit (row_of o) (map type_of parts) t ≡ true → IsNodePrinted o parts t
+  regular_printed : (o : Op) → (is_between (op_form o) || (is_call (op_form o) || is_plain_constant o)) ≡ true → (parts : List Formula) (t : Ty) → Parts parts → row_fits (row_of o) (map type_of parts) t ≡ true → IsNodePrinted o parts t
   regular_printed o k parts t all h = go (is_between (op_form o)) refl (is_call (op_form o)) refl k
     where
       go : (a : Bool) → is_between (op_form o) ≡ a → (b : Bool) → is_call (op_form o) ≡ b → (a || (b || is_plain_constant o)) ≡ true → IsNodePrinted o parts t
@@ -299,7 +299,7 @@ module _ (names : List (List ℕ)) (d : ℕ) where
       go false e true f k = call_printed o f parts t all h
       go false e false f k = constant_printed o k parts t h
 
-  pub node_printed : (o : Op) (parts : List Formula) (t : Ty) → Parts parts → AreNames (carriers t) → is_fit (row_of o) (map type_of parts) t ≡ true → IsNodePrinted o parts t
+  pub node_printed : (o : Op) (parts : List Formula) (t : Ty) → Parts parts → AreNames (carriers t) → row_fits (row_of o) (map type_of parts) t ≡ true → IsNodePrinted o parts t
   node_printed op.Not parts t all carried h = not_node parts t all h
   node_printed op.Negate parts t all carried h = negate_node parts t all h
   node_printed op.Converse parts t all carried h = converse_node parts t all h

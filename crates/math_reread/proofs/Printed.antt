@@ -1,7 +1,7 @@
 -- How tokens and the text of a form go together.
 use Rattle.std.proofs.Common.{◌≡◌, sym as back, subst, refl, ap, ℕ, zero, suc, ◌+◌, Bool, true, false, List, [], ◌∷◌, ◌++◌, append_assoc, arith}
 use Rattle.math_grammar.specs.Tokens.{Item}
-use Rattle.math_print.specs.Characters.{bytes, comma_text, texts_behind as separated_text}
+use Rattle.math_print.specs.Characters.{bytes, comma_text, texts_behind}
 use Rattle.math_print.specs.Printing.{in_parentheses}
 use Rattle.token_text.specs.Spacing.{FitsBefore, Spaced, a_blank, a_token}
 use Rattle.token_text.proofs.Following.{stops, Follows}
@@ -83,18 +83,18 @@ ArePrinted _ _ = ⊥
 later_comma : (before : ℕ) → comma_text (before + 1) ≡ bytes ", "
 later_comma before = let e : before + 1 ≡ suc before = omega arith in ap comma_text e
 
-separated_stops : (before : ℕ) (ts : List (List ℕ)) → Stops (separated_text (before + 1) ts)
+separated_stops : (before : ℕ) (ts : List (List ℕ)) → Stops (texts_behind (before + 1) ts)
 separated_stops before [] rest h = h
-separated_stops before (t ∷ ts) rest h = subst (λ c. Follows stops ((c ++ (t ++ separated_text (before + 1 + 1) ts)) ++ rest)) (back (later_comma before)) refl
+separated_stops before (t ∷ ts) rest h = subst (λ c. Follows stops ((c ++ (t ++ texts_behind (before + 1 + 1) ts)) ++ rest)) (back (later_comma before)) refl
 
 behind_comma : (before : ℕ) (s : List Item) (t : List ℕ) → IsPrinted s t → IsPrinted (comma_after before ++ s) (comma_text before ++ t)
 behind_comma zero s t is = is
 behind_comma (suc before) s t is = token comma s (32 ∷ t) (λ rest h. fits-comma ((32 ∷ t) ++ rest)) (blank s t is)
 
-pub separated_form : (before : ℕ) (ss : List (List Item)) (ts : List (List ℕ)) → ArePrinted ss ts → IsPrinted (separated_after before ss) (separated_text before ts)
+pub separated_form : (before : ℕ) (ss : List (List Item)) (ts : List (List ℕ)) → ArePrinted ss ts → IsPrinted (separated_after before ss) (texts_behind before ts)
 separated_form before [] [] all = nothing
 separated_form before [] (t ∷ ts) all = absurd all
 separated_form before (s ∷ ss) [] all = absurd all
 separated_form before (s ∷ ss) (t ∷ ts) all =
-    behind_comma before (s ++ separated_after (before + 1) ss) (t ++ separated_text (before + 1) ts)
-    (beside s (separated_after (before + 1) ss) t (separated_text (before + 1) ts) all.0 (separated_stops before ts) (separated_form (before + 1) ss ts all.1))
+    behind_comma before (s ++ separated_after (before + 1) ss) (t ++ texts_behind (before + 1) ts)
+    (beside s (separated_after (before + 1) ss) t (texts_behind (before + 1) ts) all.0 (separated_stops before ts) (separated_form (before + 1) ss ts all.1))

@@ -12,7 +12,7 @@ use Rattle.core_steps.specs.Step.{Does}
 use Rattle.core_steps.specs.StateEntries.{state_entries}
 use Rattle.project_store.specs.Records.{IsBody, IsSmall, after_all, Leads, Recovers, RecoversAt, or_build, checkpoint_entries}
 use Rattle.project_store.specs.Private.{IsEither}
-use Rattle.project_store.specs.Store.{IsBeforeOrAfter as IsBeforeOrAfterEvent}
+use Rattle.project_store.specs.Store.{IsBeforeOrAfter}
 
 pub leads_on : (d : Durable) (bodies : List (List ℕ)) (e : Durable) (body : List ℕ) (entries : List Entry) → Leads d bodies e → IsBody body entries → IsSmall (after_all e entries)
     → Leads d (bodies ++ body ∷ []) (after_all e entries)
@@ -52,6 +52,6 @@ module _ (side : Side) (generation : ℕ) (d : Durable) (bodies : List (List ℕ
       ⊎_elim (λ old. (side, generation, record { bodies = bodies; stands = old; leads = leads })) (λ new. (other side, generation + 1, the_state again d (other side) (generation + 1) state is small c new)) stands
 
 -- what a stop leaves, by the entry of the event, if it adds one
-pub as_event : (s : State) (event : Event) (reply : Reply) (entry : Option Entry) (new : State) → Does s event reply entry new → new.durable ≡ entered_if s.durable entry → (c : Sides) → IsEither s.durable entry c → IsBeforeOrAfterEvent s event c
+pub as_event : (s : State) (event : Event) (reply : Reply) (entry : Option Entry) (new : State) → Does s event reply entry new → new.durable ≡ entered_if s.durable entry → (c : Sides) → IsEither s.durable entry c → IsBeforeOrAfter s event c
 as_event s event reply None new does is c either = inl either
 as_event s event reply (Some entry) new does is c either = ⊎_elim (λ old. inl old) (λ further. inr (reply, entry, new, does, subst (Recovers c) (sym is) further)) either

@@ -33,7 +33,7 @@ use Rattle.math_grammar.specs.declared.symbols.Symbol.TheVariants as sym
 use Rattle.math_grammar.specs.declared.shapes.Shape.{Shape}
 use Rattle.math_grammar.specs.Levels.{level, right_of, infix_of, fits, grouped, opens, binder_of, implicit_of, binding_grade, takes_names, takes_shape, is_quantified, call_hole, call_grade, call_parts, has_room}
 use Rattle.math_grammar.specs.Tokens.{Item}
-use Rattle.math_grammar.specs.Grammar.{item, place_at, place_of, bound, lone, joined_shape, type_with, between as node_between, Reads, a_name, a_number, a_truth, a_constant, prefixed, two_sides, in_parentheses, called, applied, converted, set_by_members, by_names, by_shape, lambda, Parts, last_one, next_one, TypeOf, last_side, first_side, Bound, bare, of_type, Declares, last_name, next_name, Body, a_predicate, a_value, LastPart, up_to_brace, reaching, Pattern, last_atom, next_atom, Atom, bare_atom, typed_atom, grouped_atom, Spells}
+use Rattle.math_grammar.specs.Grammar.{item, place_at, place_of, bound, lone, joined_shape, type_with, between, Reads, a_name, a_number, a_truth, a_constant, prefixed, two_sides, in_parentheses, called, applied, converted, set_by_members, by_names, by_shape, lambda, Parts, last_one, next_one, TypeOf, last_side, first_side, Bound, bare, of_type, Declares, last_name, next_name, Body, a_predicate, a_value, LastPart, up_to_brace, reaching, Pattern, last_atom, next_atom, Atom, bare_atom, typed_atom, grouped_atom, Spells}
 use Rattle.math_places.specs.Places.{unplaced}
 use Rattle.math_places.proofs.Equations.{unplaced-Int, unplaced-Name, unplaced-Node, unplaced-Bind, unplaced_bound}
 use Rattle.math_grammar.specs.Characters.{bytes}
@@ -226,7 +226,7 @@ module _ (limit : Option ℕ) where
       let mine : Item = item x 0 (raw_sign_of o) in
       let second : Reads limit right.grade_closed (tokens_of (operand_pieces (b, pieces b)) ++ rest) right.tree rest = right.as_operand rest in
       let first : Reads limit left.grade_closed (tokens_of (operand_pieces (a, pieces a)) ++ (mine ∷ (tokens_of (operand_pieces (b, pieces b)) ++ rest))) left.tree (mine ∷ (tokens_of (operand_pieces (b, pieces b)) ++ rest)) = left.as_operand _ in
-      let both : Reads limit (level l left.grade_closed) (tokens_of (operand_pieces (a, pieces a)) ++ (mine ∷ (tokens_of (operand_pieces (b, pieces b)) ++ rest))) (node_between o left.tree right.tree) rest =
+      let both : Reads limit (level l left.grade_closed) (tokens_of (operand_pieces (a, pieces a)) ++ (mine ∷ (tokens_of (operand_pieces (b, pieces b)) ++ rest))) (between o left.tree right.tree) rest =
       two_sides first ix (left_closed l left.grade_closed left.closed) second
       (place_closed (right_of l) right.grade_closed (right_operand l) (subst (λ v. Closed v right.grade_closed) (back (right_sort l)) right.closed)) (ends_there (right_of l) right.grade_closed rest c) refl in
       let placed : Reads limit (level l left.grade_closed) (tokens_of (operand_pieces (a, pieces a)) ++ (mine ∷ (tokens_of (operand_pieces (b, pieces b)) ++ rest))) tree rest =
@@ -274,7 +274,7 @@ module _ (limit : Option ℕ) where
       alone false (raw.Node (rawop.Plain op.Apply) (f ∷ a ∷ []) p) tree (unplaced-Node (rawop.Plain op.Apply) (f ∷ a ∷ []) p ∙ (λ i. raw.Node (rawop.Plain op.Apply) (left.is i ∷ right.is i ∷ []) 0)) (place-Node (rawop.Plain op.Apply) (left.tree ∷ right.tree ∷ [])) (alone-Node (rawop.Plain op.Apply) (f ∷ a ∷ []) p) grade.Suffixed as_suffixed
       (λ rest.
       let inner : Reads limit right.bare_grade (tokens_of (pieces a) ++ (item (sym.Close bracket.Round) 0 (bytes ")") ∷ rest)) right.tree (item (sym.Close bracket.Round) 0 (bytes ")") ∷ rest) = right.bare _ (closing refl) in
-      let both : Reads limit grade.Suffixed (tokens_of (operand_pieces (f, pieces f)) ++ (item (sym.Open bracket.Round) 0 (bytes "(") ∷ (tokens_of (pieces a) ++ (item (sym.Close bracket.Round) 0 (bytes ")") ∷ rest)))) (node_between (rawop.Plain op.Apply) left.tree right.tree) rest =
+      let both : Reads limit grade.Suffixed (tokens_of (operand_pieces (f, pieces f)) ++ (item (sym.Open bracket.Round) 0 (bytes "(") ∷ (tokens_of (pieces a) ++ (item (sym.Close bracket.Round) 0 (bytes ")") ∷ rest)))) (between (rawop.Plain op.Apply) left.tree right.tree) rest =
       applied {x = sym.Open bracket.Round} (left.as_operand _) refl (suffix_closed left.grade_closed left.closed) inner (fits_expression right.bare_grade right.sort) in
       let placed = subst (λ q. Reads limit grade.Suffixed (tokens_of (operand_pieces (f, pieces f)) ++ (item (sym.Open bracket.Round) 0 (bytes "(") ∷ (tokens_of (pieces a) ++ (item (sym.Close bracket.Round) 0 (bytes ")") ∷ rest)))) (raw.Node (rawop.Plain op.Apply) (left.tree ∷ right.tree ∷ []) q) rest) left.starts both in
       let text = behind (operand_pieces (f, pieces f)) (in_round (pieces a)) rest ∙ ap (λ u. tokens_of (operand_pieces (f, pieces f)) ++ (item (sym.Open bracket.Round) 0 (bytes "(") ∷ u)) (behind (pieces a) (close_round_piece ∷ []) rest) in
@@ -286,7 +286,7 @@ module _ (limit : Option ℕ) where
       alone false (raw.Node (rawop.Plain op.Image) (f ∷ a ∷ []) p) tree (unplaced-Node (rawop.Plain op.Image) (f ∷ a ∷ []) p ∙ (λ i. raw.Node (rawop.Plain op.Image) (left.is i ∷ right.is i ∷ []) 0)) (place-Node (rawop.Plain op.Image) (left.tree ∷ right.tree ∷ [])) (alone-Node (rawop.Plain op.Image) (f ∷ a ∷ []) p) grade.Suffixed as_suffixed
       (λ rest.
       let inner : Reads limit right.bare_grade (tokens_of (pieces a) ++ (item (sym.Close bracket.Square) 0 (bytes "]") ∷ rest)) right.tree (item (sym.Close bracket.Square) 0 (bytes "]") ∷ rest) = right.bare _ (closing refl) in
-      let both : Reads limit grade.Suffixed (tokens_of (operand_pieces (f, pieces f)) ++ (item (sym.Open bracket.Square) 0 (bytes "[") ∷ (tokens_of (pieces a) ++ (item (sym.Close bracket.Square) 0 (bytes "]") ∷ rest)))) (node_between (rawop.Plain op.Image) left.tree right.tree) rest =
+      let both : Reads limit grade.Suffixed (tokens_of (operand_pieces (f, pieces f)) ++ (item (sym.Open bracket.Square) 0 (bytes "[") ∷ (tokens_of (pieces a) ++ (item (sym.Close bracket.Square) 0 (bytes "]") ∷ rest)))) (between (rawop.Plain op.Image) left.tree right.tree) rest =
       applied {x = sym.Open bracket.Square} (left.as_operand _) refl (suffix_closed left.grade_closed left.closed) inner (fits_expression right.bare_grade right.sort) in
       let placed = subst (λ q. Reads limit grade.Suffixed (tokens_of (operand_pieces (f, pieces f)) ++ (item (sym.Open bracket.Square) 0 (bytes "[") ∷ (tokens_of (pieces a) ++ (item (sym.Close bracket.Square) 0 (bytes "]") ∷ rest)))) (raw.Node (rawop.Plain op.Image) (left.tree ∷ right.tree ∷ []) q) rest) left.starts both in
       let text = behind (operand_pieces (f, pieces f)) (in_square (pieces a)) rest ∙ ap (λ u. tokens_of (operand_pieces (f, pieces f)) ++ (item (sym.Open bracket.Square) 0 (bytes "[") ∷ u)) (behind (pieces a) (close_square_piece ∷ []) rest) in

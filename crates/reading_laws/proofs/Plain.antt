@@ -10,7 +10,7 @@ use Rattle.model_core.specs.declared.component.Convergence.TheVariants.{Ordinary
 use Rattle.model_core.specs.declared.component.RawLabelled.{RawLabelled}
 use Rattle.model_core.specs.declared.component.RawStep.{RawStep}
 use Rattle.model_core.specs.declared.component.RawComponent.{RawComponent}
-use Rattle.component_text.specs.Marks.{Mark, word, label, plain, marks_of, is_word_mark as marked}
+use Rattle.component_text.specs.Marks.{Mark, word, label, plain, marks_of, is_word_mark}
 use Rattle.component_text.specs.Forms.{Bounds, limits, One, Nothing, Choice, taken, other, Many, no_more, one_more, Of}
 use Rattle.component_text.specs.Grammar.{reference, label_at, is_reference, is_a_label, begins_line, context_of, Names, Labelled, Line, Lines, NamesBehind, LinesBehind, ContextBody}
 use Rattle.component_text.specs.Machines.{either, begins_event, event_of, machine_of, Witnesses, Step, ManySteps, Guards, With, Actions, EventBody, Event, EventList, Events, MachineBody, IsComponent, a_context, a_machine}
@@ -84,16 +84,16 @@ name_plain : Gives (One reference) HasPlainName
 name_plain = one_gives reference HasPlainName reference_plain
 
 names_plain : (w : List ℕ) → Gives (NamesBehind w) (AllByRecursion HasPlainName)
-names_plain w = choice_gives (marked w) Names (Nothing []) (AllByRecursion HasPlainName) (many_gives is_reference (One reference) HasPlainName name_plain) (nothing_gives [] (AllByRecursion HasPlainName) tt)
+names_plain w = choice_gives (is_word_mark w) Names (Nothing []) (AllByRecursion HasPlainName) (many_gives is_reference (One reference) HasPlainName name_plain) (nothing_gives [] (AllByRecursion HasPlainName) tt)
 
 labelled_plain : (theorem : Bool) → Gives (Labelled theorem) HasPlainLabel
 labelled_plain theorem b s l rest o = subst HasPlainLabel o.is (label_plain o.part.first.mark o.from.0 o.part.first.is)
 
 lines_plain : Gives Lines (AllByRecursion HasPlainLabel)
-lines_plain = many_gives begins_line Line HasPlainLabel (choice_gives (marked (codes "theorem")) (Labelled true) (Labelled false) HasPlainLabel (labelled_plain true) (labelled_plain false))
+lines_plain = many_gives begins_line Line HasPlainLabel (choice_gives (is_word_mark (codes "theorem")) (Labelled true) (Labelled false) HasPlainLabel (labelled_plain true) (labelled_plain false))
 
 lines_behind_plain : (w : List ℕ) → Gives (LinesBehind w) (AllByRecursion HasPlainLabel)
-lines_behind_plain w = choice_gives (marked w) Lines (Nothing []) (AllByRecursion HasPlainLabel) lines_plain (nothing_gives [] (AllByRecursion HasPlainLabel) tt)
+lines_behind_plain w = choice_gives (is_word_mark w) Lines (Nothing []) (AllByRecursion HasPlainLabel) lines_plain (nothing_gives [] (AllByRecursion HasPlainLabel) tt)
 
 step_plain : Gives Step HasPlainStep
 step_plain b s x rest o = subst HasPlainStep o.is (label_plain o.part.first.mark o.from.0 o.part.first.is)
@@ -104,7 +104,7 @@ guards_plain : Gives Guards (AllByRecursion HasPlainLabel)
 guards_plain = choice_gives (either (codes "where") (codes "when")) Lines (Nothing []) (AllByRecursion HasPlainLabel) lines_plain (nothing_gives [] (AllByRecursion HasPlainLabel) tt)
 
 witnesses_plain : Gives With (AllByRecursion HasPlainLabel)
-witnesses_plain = choice_gives (marked (codes "with")) Witnesses (Nothing []) (AllByRecursion HasPlainLabel)
+witnesses_plain = choice_gives (is_word_mark (codes "with")) Witnesses (Nothing []) (AllByRecursion HasPlainLabel)
     (many_gives is_a_label (Labelled false) HasPlainLabel (labelled_plain false)) (nothing_gives [] (AllByRecursion HasPlainLabel) tt)
 
 actions_plain : Gives Actions (AllByRecursion HasPlainStep)
@@ -129,13 +129,13 @@ event_body_plain c b s e rest o =
 
 event_plain : Gives Event IsPlainlyWrittenEvent
 event_plain =
-    choice_gives (marked (codes "ordinary")) (EventBody Ordinary) (Choice (marked (codes "convergent")) (EventBody Convergent) (Choice (marked (codes "anticipated")) (EventBody Anticipated) (EventBody Ordinary))) IsPlainlyWrittenEvent
+    choice_gives (is_word_mark (codes "ordinary")) (EventBody Ordinary) (Choice (is_word_mark (codes "convergent")) (EventBody Convergent) (Choice (is_word_mark (codes "anticipated")) (EventBody Anticipated) (EventBody Ordinary))) IsPlainlyWrittenEvent
     (event_body_plain Ordinary)
-    (choice_gives (marked (codes "convergent")) (EventBody Convergent) (Choice (marked (codes "anticipated")) (EventBody Anticipated) (EventBody Ordinary)) IsPlainlyWrittenEvent (event_body_plain Convergent)
-    (choice_gives (marked (codes "anticipated")) (EventBody Anticipated) (EventBody Ordinary) IsPlainlyWrittenEvent (event_body_plain Anticipated) (event_body_plain Ordinary)))
+    (choice_gives (is_word_mark (codes "convergent")) (EventBody Convergent) (Choice (is_word_mark (codes "anticipated")) (EventBody Anticipated) (EventBody Ordinary)) IsPlainlyWrittenEvent (event_body_plain Convergent)
+    (choice_gives (is_word_mark (codes "anticipated")) (EventBody Anticipated) (EventBody Ordinary) IsPlainlyWrittenEvent (event_body_plain Anticipated) (event_body_plain Ordinary)))
 
 events_plain : Gives Events (AllByRecursion IsPlainlyWrittenEvent)
-events_plain = choice_gives (marked (codes "events")) EventList (Nothing []) (AllByRecursion IsPlainlyWrittenEvent)
+events_plain = choice_gives (is_word_mark (codes "events")) EventList (Nothing []) (AllByRecursion IsPlainlyWrittenEvent)
     (many_gives begins_event Event IsPlainlyWrittenEvent event_plain) (nothing_gives [] (AllByRecursion IsPlainlyWrittenEvent) tt)
 
 -- Components.

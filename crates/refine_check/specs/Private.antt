@@ -73,7 +73,7 @@ needed_params_of abstract kept e = if length e.refines == 1 && not e.extended th
 abbrev pub needed_of : List CheckedEvent → List (List ℕ) → List (List ℕ) → RawEvent → List (List ℕ)
 needed_of abstract kept lost e = needed_params_of abstract kept e ++ map primed (filter (is_among (chosen_first abstract)) lost)
 
--- what `differs` gives, by references to events
+-- what `differs_in_merge` gives, by references to events
 abbrev pub found_at : List (Bor Ref × Bor CheckedEvent) → List RefinedAt
 found_at found = map (λ x. (x.0.now, x.1.now)) found
 

@@ -3,7 +3,7 @@ ghost use Rattle.std.specs.Prelude.{◌≡◌, ◌&&◌, ◌++◌, ◌∷◌, []
 ghost use Rattle.std.specs.List.{filter, list_any};
 ghost use Rattle.std.specs.Option.{option_copied};
 ghost use Rattle.formula_core.specs.Formulas.{joined};
-ghost use Rattle.type_core.specs.Unknowns.{unknowns, all_unknowns, type_unknowns, bound_names_in as bound_in};
+ghost use Rattle.type_core.specs.Unknowns.{unknowns, all_unknowns, type_unknowns, bound_names_in};
 ghost use Rattle.type_core.specs.Views.{bare_of, bares_of, bounds_of};
 ghost use Rattle.type_action.specs.CoreActions.{core_action, unknowns_of};
 ghost use Rattle.model_core.specs.Each.{is_among};
@@ -189,7 +189,7 @@ fn first_lost_in_types<'a>(
 }
 
 fn add_bound<'a>(bound: &mut Vec<&'a str>, names: &'a BoundNames) -> Result<(), OutOfMemory>
-    ensures { OnOk result (texts bound.new.items ≡ texts bound.old.items ++ bound_in (bounds_of names.entry.now)) }
+    ensures { OnOk result (texts bound.new.items ≡ texts bound.old.items ++ bound_names_in (bounds_of names.entry.now)) }
 {
     match names {
         BoundNames::End => Ok(()),

@@ -6,7 +6,7 @@ use Rattle.std.specs.Prelude.{Option, Result, Ok, Err, IfErr, IsErrAnd}
 use Rattle.std.specs.List.{AllZip}
 use Rattle.std.specs.Option.{option_to_list}
 use Rattle.std.specs.Io.KnownBytes.{Consumes, IsAtEnd, Keeps}
-use Rattle.outside.specs.Cause.{next_count as one_more, Rose}
+use Rattle.outside.specs.Cause.{next_count, Rose}
 use Rattle.std.proofs.Math.Nat.{min-le_left, min-le_right, le-min}
 use Rattle.session_lines.specs.declared.command.Command.{Command}
 use Rattle.session_lines.specs.Commands.{commands_in, commands_of, text_lines}
@@ -27,7 +27,7 @@ use Rattle.session_streams.proofs.Known.{Consumes-both, Consumes-keeps, Consumes
 pub rose_later : (a b c : ℕ) → a ≤ b → Rose b c → Rose a c
 rose_later a b c low rose =
     let first : min (a + 1) (2 ^ 64 - 1) ≤ b + 1 = omega (arith, min-le_left (a + 1) (2 ^ 64 - 1), low) in
-    let one : one_more a ≤ one_more b = le-min first (min-le_right (a + 1) (2 ^ 64 - 1)) in
+    let one : next_count a ≤ next_count b = le-min first (min-le_right (a + 1) (2 ^ 64 - 1)) in
     omega (arith, one, rose)
 
 pub read_end_later : (end : ReadEnd) (a b c : ℕ) (taken : List ℕ) (ended : Bool) (left : List Command) → a ≤ b → IsReadEnd end b c taken ended left → IsReadEnd end a c taken ended left

@@ -16,13 +16,13 @@ use Rattle.formula_core.specs.Wellness.{type_of}
 use Rattle.formula_core.proofs.TypedIn.{predicate_more}
 use Rattle.type_core.proofs.Named.{all_each, sooner, later}
 use Rattle.type_action.specs.CoreActions.{primed, with_all}
-use Rattle.type_action.specs.Laws.{IsActionIn as IsActionOver}
+use Rattle.type_action.specs.Laws.{IsActionIn}
 use Rattle.model_core.specs.declared.checked.Checked.{Checked}
 use Rattle.model_core.specs.declared.checked.Checked.TheVariants.{Context, Machine}
 use Rattle.model_core.specs.declared.checked.CheckedEvent.{CheckedEvent}
 use Rattle.model_core.specs.declared.checked.CheckedMachine.{CheckedMachine}
 use Rattle.model_core.specs.Each.{for_each, is_among}
-use Rattle.check_rules.specs.Assignments.{assigned, all_assigned as all_assigned_by}
+use Rattle.check_rules.specs.Assignments.{assigned, all_assigned}
 use Rattle.check_rules.specs.Refinements.{chosen, all_chosen}
 use Rattle.check_rules.specs.Typed.{Entries, LabelledAction}
 use Rattle.check_rules.specs.Visible.{names}
@@ -47,7 +47,7 @@ with_all_within env xs x e = elim (some_or (type_in env x.0)) [
   | inr h ↦ later env xs x.0 h ∙ sym (with_all_new env xs x.0 h) ∙ e
 ]
 
-action_typed : (env : Entries) (a : Action) → IsActionOver env a × HasTargets a → IsTypedActionIn env a
+action_typed : (env : Entries) (a : Action) → IsActionIn env a × HasTargets a → IsTypedActionIn env a
 action_typed env (Assign pairs) h =
     all_each (λ p. Stands env (p.0, type_of p.1) × IsTypedIn env p.1) (IsNewValueIn env) pairs (λ p k. (k.1, k.0)) h.0
 action_typed env (ChooseIn x s) h = (h.0.3, (h.0.0, h.0.2, h.0.1))
@@ -71,18 +71,18 @@ values_keys : (ts : Entries) → keys_of (map (λ y. (y.0, as_term (with_prime y
 values_keys [] = refl
 values_keys (t ∷ ts) = ap (λ ks. t.0 ∷ ks) (values_keys ts)
 
-new_keys : (env : Entries) (a : Action) → IsActionOver env a → keys_of (new_values a) ≡ assigned a
+new_keys : (env : Entries) (a : Action) → IsActionIn env a → keys_of (new_values a) ≡ assigned a
 new_keys env (Assign pairs) h = refl
 new_keys env (ChooseIn x s) h =
     ap (λ o. keys_of (map (λ y. (y.0, as_term (with_prime y))) (map (λ t. (x, t)) (option_to_list o)))) (member_of s h.0 h.2)
 new_keys env (ChooseSuch targets q) h = values_keys targets
 
-open_keys : (env : Entries) (a : Action) → IsActionOver env a → keys_of (open_targets a) ≡ chosen a
+open_keys : (env : Entries) (a : Action) → IsActionIn env a → keys_of (open_targets a) ≡ chosen a
 open_keys env (Assign pairs) h = refl
 open_keys env (ChooseIn x s) h = ap (λ o. keys_of (map (λ t. (x, t)) (option_to_list o))) (member_of s h.0 h.2)
 open_keys env (ChooseSuch targets q) h = refl
 
-assigned_same : (env : Entries) (actions : List LabelledAction) → AreActionsIn env actions → all_assigned_by actions ≡ targets_of_all (map (λ a. a.1) actions)
+assigned_same : (env : Entries) (actions : List LabelledAction) → AreActionsIn env actions → all_assigned actions ≡ targets_of_all (map (λ a. a.1) actions)
 assigned_same env [] h = refl
 assigned_same env (a ∷ actions) h =
     ap₂ (λ ns ms. ns ++ ms) (sym (new_keys env a.1 h.0.0)) (assigned_same env actions h.1) ∙ sym (keys_append (new_values a.1) (for_each new_values (map (λ b. b.1) actions)))
@@ -147,7 +147,7 @@ chosen_first env [] h = refl
 chosen_first env (r ∷ refined) h = chosen_same env r.actions h.0.actions
 
 first_assigned : (P : List (List ℕ) → Type 0) (variables : List (List ℕ)) (env : Entries) (refined : List CheckedEvent) → AllByRecursion (IsEventIn env) refined
-    → AllByRecursion (AssignsVariables variables) refined → P [] → ((e : CheckedEvent) → AssignsVariables variables e → P (all_assigned_by e.actions)) → P (targets_of_all (actions_of_first refined))
+    → AllByRecursion (AssignsVariables variables) refined → P [] → ((e : CheckedEvent) → AssignsVariables variables e → P (all_assigned e.actions)) → P (targets_of_all (actions_of_first refined))
 first_assigned P variables env [] h k none some = none
 first_assigned P variables env (r ∷ refined) h k none some = subst P (assigned_same env r.actions h.0.actions) (some r k.0)
 
@@ -183,7 +183,7 @@ module _ (m : CheckedMachine) (above : List (List ℕ)) (kept : AllByRecursion (
   abbrev params : Entries
   params = params_env m e refined
 
-  own_same : all_assigned_by e.actions ≡ targets_of_all (actions_of e)
+  own_same : all_assigned e.actions ≡ targets_of_all (actions_of e)
   own_same = assigned_same (m.env ++ e.params) e.actions sound.actions
 
   still_variable : (n : List ℕ) → is_among above n ≡ true → is_among (m.variables ++ m.lost) n ≡ true
@@ -229,7 +229,7 @@ module _ (m : CheckedMachine) (above : List (List ℕ)) (kept : AllByRecursion (
     refined_guards = all_each (IsEventIn params) (λ r. AllByRecursion (λ l. IsPredicateIn params l.formula) r.guards) refined (λ r h. h.guards) beside.abstract;
     refined_actions = first_actions params refined beside.abstract;
     refined_targets = first_assigned (λ ns. AreAmong ns (m.variables ++ m.lost)) above params refined beside.abstract refined_assign tt
-        (λ r h. all_each (λ n. is_among above n ≡ true) (λ n. is_among (m.variables ++ m.lost) n ≡ true) (all_assigned_by r.actions) still_variable h.targets);
+        (λ r h. all_each (λ n. is_among above n ≡ true) (λ n. is_among (m.variables ++ m.lost) n ≡ true) (all_assigned r.actions) still_variable h.targets);
     refined_once = first_assigned (IsDistinct bytes_eq) above params refined beside.abstract refined_assign distinct_none (λ r h. h.once);
   }
 

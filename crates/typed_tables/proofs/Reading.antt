@@ -14,7 +14,7 @@ use Rattle.model_core.specs.declared.component.Convergence.TheVariants.{Ordinary
 use Rattle.model_core.specs.declared.component.RawEvent.{RawEvent}
 use Rattle.model_core.specs.declared.component.RawStep.{RawStep}
 use Rattle.model_core.specs.declared.component.RawComponent.{RawComponent}
-use Rattle.component_text.specs.Marks.{Mark, word, label, plain, marks_of, is_word_mark as marked}
+use Rattle.component_text.specs.Marks.{Mark, word, label, plain, marks_of, is_word_mark}
 use Rattle.component_text.specs.Forms.{Bounds, limits, parts, none, One, Nothing, Choice, taken, other, Many, no_more, one_more}
 use Rattle.component_text.specs.Grammar.{reference, is_reference, is_a_label, context_of, Names, NamesBehind, ContextBody}
 use Rattle.component_text.specs.Machines.{IsActionWithin, either, begins_event, event_of, machine_of, Step, ManySteps, Actions, EventBody, Event, EventList, Events, MachineBody, IsComponent, a_context, a_machine}
@@ -54,7 +54,7 @@ reference_named (word w p) r e = let no : ⊥ = cc in absurd no
 reference_named (label l p) r e = let no : ⊥ = cc in absurd no
 
 names_named : (w : List ℕ) → Gives (NamesBehind w) (AllByRecursion IsNamed)
-names_named w = list_gives (marked w) Names IsNamed (many_gives is_reference (One reference) IsNamed (λ b s r rest o. reference_named o.mark r o.is))
+names_named w = list_gives (is_word_mark w) Names IsNamed (many_gives is_reference (One reference) IsNamed (λ b s r rest o. reference_named o.mark r o.is))
 
 -- Actions.
 
@@ -109,13 +109,13 @@ event_body_written c b s e rest o =
 
 event_written : Gives Event IsWritten
 event_written =
-    choice_gives (marked (codes "ordinary")) (EventBody Ordinary) (Choice (marked (codes "convergent")) (EventBody Convergent) (Choice (marked (codes "anticipated")) (EventBody Anticipated) (EventBody Ordinary))) IsWritten
+    choice_gives (is_word_mark (codes "ordinary")) (EventBody Ordinary) (Choice (is_word_mark (codes "convergent")) (EventBody Convergent) (Choice (is_word_mark (codes "anticipated")) (EventBody Anticipated) (EventBody Ordinary))) IsWritten
     (event_body_written Ordinary)
-    (choice_gives (marked (codes "convergent")) (EventBody Convergent) (Choice (marked (codes "anticipated")) (EventBody Anticipated) (EventBody Ordinary)) IsWritten (event_body_written Convergent)
-    (choice_gives (marked (codes "anticipated")) (EventBody Anticipated) (EventBody Ordinary) IsWritten (event_body_written Anticipated) (event_body_written Ordinary)))
+    (choice_gives (is_word_mark (codes "convergent")) (EventBody Convergent) (Choice (is_word_mark (codes "anticipated")) (EventBody Anticipated) (EventBody Ordinary)) IsWritten (event_body_written Convergent)
+    (choice_gives (is_word_mark (codes "anticipated")) (EventBody Anticipated) (EventBody Ordinary) IsWritten (event_body_written Anticipated) (event_body_written Ordinary)))
 
 events_written : Gives Events (AllByRecursion IsWritten)
-events_written = list_gives (marked (codes "events")) EventList IsWritten (many_gives begins_event Event IsWritten event_written)
+events_written = list_gives (is_word_mark (codes "events")) EventList IsWritten (many_gives begins_event Event IsWritten event_written)
 
 -- Components.
 
