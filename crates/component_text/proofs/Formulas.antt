@@ -11,7 +11,7 @@ use Rattle.component_text.specs.Marks.{Mark, word, label, plain, token_run, behi
 use Rattle.component_text.specs.Forms.{Bounds, limits, parts, none, One, Run, Then}
 use Rattle.component_text.specs.Grammar.{label_at}
 use Rattle.component_text.specs.Faults.{opens_formula}
-use Rattle.component_text.specs.PrivateReading.{end_mark, BeginsIn, NoneHasIn, NoneHas, RefusesAt, IsLargeIn, is_long, is_wide, Passes, from_token, bounded, FailsBy, is_plain, AreShort, Placed, not_plain, in_formula}
+use Rattle.component_text.specs.PrivateReading.{end_mark, BeginsIn, NoneHasIn, NoneHas, RefusesAt, IsLargeIn, is_long, is_wide, Passes, from_token, within_bound, FailsBy, is_plain, AreShort, Placed, not_plain, in_formula}
 use Rattle.component_text.proofs.Refusing.{one_begins, one_then_nowhere, one_then_wrong}
 use Rattle.component_text.proofs.Shorts.{taken_fewer, short_append, formula_short}
 use Rattle.component_text.proofs.Parts.{Ended, nothing_there, at_word, at_label, run_ends, run_of, behind_of}
@@ -149,7 +149,7 @@ module _ {X Z : Type 0} (F : Bounds → List Item → X → Type 0) (R : Bounds 
   }
 
   large_there : (i : ℕ) (x : Item) (later : List Mark) → m ≡ map plain (take i (token_run m)) ++ plain x ∷ later → take (i + 1) (token_run m) ≡ take i (token_run m) ++ x ∷ [] → length (take i (token_run m)) ≡ i →
-      IsTooLargeIn (bounded F) (token_run m) i →
+      IsTooLargeIn (within_bound F) (token_run m) i →
       IsLargeIn R (lead ++ y ∷ map plain (take i (token_run m))) (plain x) later
   large_there i x later is e n (inl a) =
       is_long (record { lead = lead; opening = y; formula = take i (token_run m); item = x; is = refl; opens = opens; token = refl; large = ap first_large (sym e) ∙ a ∙ ap Some (sym n) })

@@ -20,7 +20,7 @@ use Rattle.math_tokens.specs.declared.cutting.Token.{Token}
 use Rattle.math_grammar.specs.Tokens.{Item, bytes_of, item_of, items_of}
 use Rattle.component_tokens.specs.Pieces.{at_sign}
 use Rattle.component_text.specs.Marks.{Mark, word, label, plain, is_structural, mark_by, token_mark, marks_of, token_run, behind_run, is_word_mark, is_at}
-use Rattle.component_text.specs.PrivateReading.{Takes, from_token, bounded, FailsBy, ReadsFormula}
+use Rattle.component_text.specs.PrivateReading.{Takes, from_token, within_bound, FailsBy, ReadsFormula}
 use Rattle.component_text.specs.PrivateTexts.{is_plain_text, plain_length}
 
 -- it ends a formula
@@ -181,7 +181,7 @@ module _ {X : Type 0} (F : Bounds → List Item → X → Type 0) (text : List �
 starts_placed : (h : Hole) (b : Bounds) (f : List Item) → BeginsOne (IsFormula h b) f → BeginsOne (IsPlaced h b) f
 starts_placed h b f c = (c.0, (c.1, first_place (f ++ c.0)), (c.2, refl))
 
-placed_fault : (h : Hole) (f : List Item) (e : ParseFault) → IsFault h f e → IsFaultOf (bounded (IsPlaced h)) f e
+placed_fault : (h : Hole) (f : List Item) (e : ParseFault) → IsFault h f e → IsFaultOf (within_bound (IsPlaced h)) f e
 placed_fault h f (fault.Unexpected i) k = (
   k.0,
   starts_placed h parts (take i f) k.1,
@@ -199,7 +199,7 @@ placed_fault h f fault.OutOfMemory k = tt
 pub formula_fails : (h : Hole) (f : List Item) (e : ParseFault) → IsFault h f e → ((t : Raw) → IsSentence h f t → ⊥) → FailsBy (IsPlaced h) f e
 formula_fails h f e k isnt = record { first = placed_fault h f e k; wrong = λ p s. isnt p.0 s.0 }
 
-action_fault : (f : List Item) (e : ParseFault) → IsActionFault f e → IsFaultOf (bounded IsActionWithin) f e
+action_fault : (f : List Item) (e : ParseFault) → IsActionFault f e → IsFaultOf (within_bound IsActionWithin) f e
 action_fault f (fault.Unexpected i) k = k
 action_fault f (fault.TooLarge i) k = k
 action_fault f fault.OutOfMemory k = tt

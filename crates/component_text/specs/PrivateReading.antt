@@ -105,13 +105,13 @@ abbrev pub from_token : ℕ → List Mark → List Mark
 from_token i s = map plain (drop i (token_run s)) ++ behind_run s
 
 -- a formula with at most so many parts of a partition as the limit says, if there is one
-abbrev pub bounded : {X : Type 0} → (Bounds → List Item → X → Type 0) → Option ℕ → List Item → X → Type 0
-bounded F None = F none
-bounded F (Some n) = F parts
+abbrev pub within_bound : {X : Type 0} → (Bounds → List Item → X → Type 0) → Option ℕ → List Item → X → Type 0
+within_bound F None = F none
+within_bound F (Some n) = F parts
 
 -- the first fault of tokens that are no formula within the limits
 pub record FailsBy {X : Type 0} (F : Bounds → List Item → X → Type 0) (s : List Item) (f : ParseFault) : Type 0 where
-  pub first : IsFaultOf (bounded F) s f
+  pub first : IsFaultOf (within_bound F) s f
   pub wrong : (x : X) → F limits s x → ⊥
 
 -- a formula was read, or it is refused at a token

@@ -7,15 +7,15 @@ use Rattle.math_parse.specs.declared.fault.ParseFault.{ParseFault}
 use Rattle.math_parse.specs.declared.fault.ParseFault.TheVariants as fault
 use Rattle.math_parse.specs.Faults.{BeginsOne}
 use Rattle.math_parse.specs.Limits.{most_parts, passes, open_after, first_large_from, SpellsWithin, FindsFormula, IsFaultOf}
-use Rattle.math_parse.specs.PrivateReaders.{TokenReader, found, refused, outcome_by, LimitedReading, read_whole, stopped, passed, at_end, next_reading, reading, ReadsTokens}
+use Rattle.math_parse.specs.PrivateReaders.{TokenReader, found, refused, outcome_by, LimitedReading, read_whole, stopped, passed, reading_at_end, next_reading, limited_reading, ReadsTokens}
 use Rattle.math_parse.proofs.Basics.{chosen}
 use Rattle.math_parse.proofs.Readers.{unless_full, ReadsGrammar, found_one, unexpected}
 
-ended_at : {T : Type 0} (i : ℕ) (o : Option T) (t : T) → at_end i o ≡ read_whole t → o ≡ Some t
+ended_at : {T : Type 0} (i : ℕ) (o : Option T) (t : T) → reading_at_end i o ≡ read_whole t → o ≡ Some t
 ended_at i (Some u) t e = cc
 ended_at i None t e = cc
 
-stopped_at : {T : Type 0} (i j : ℕ) (o : Option T) → at_end i o ≡ stopped j → (o ≡ None) × (j ≡ i)
+stopped_at : {T : Type 0} (i j : ℕ) (o : Option T) → reading_at_end i o ≡ stopped j → (o ≡ None) × (j ≡ i)
 stopped_at i j (Some t) e = cc
 stopped_at i j None e = (refl, cc)
 
@@ -42,7 +42,7 @@ module _ {S T : Type 0} (r : TokenReader S T) where
     large : passes i n x.symbol ≡ true → passed i ≡ z → Turn text i n start x rest z
     refuses : passes i n x.symbol ≡ false → r.step None start x ≡ None → stopped i ≡ z → Turn text i n start x rest z
     full : (next : S) → passes i n x.symbol ≡ false → r.step None start x ≡ Some next → r.is_full next ≡ true → passed i ≡ z → Turn text i n start x rest z
-    on : (next : S) → passes i n x.symbol ≡ false → Goes start x next → reading r text (i + 1) (open_after n x.symbol) next rest ≡ z → Turn text i n start x rest z
+    on : (next : S) → passes i n x.symbol ≡ false → Goes start x next → limited_reading r text (i + 1) (open_after n x.symbol) next rest ≡ z → Turn text i n start x rest z
 
   -- a whole reading
   record Whole (i n : ℕ) (start : S) (s : List Item) (t : T) : Type 0 where
@@ -86,7 +86,7 @@ module _ {S T : Type 0} {r : TokenReader S T} {IsOne : Option ℕ → List Item 
   stops_plain : (start : S) (x : Item) → r.step None start x ≡ None → r.step most_parts start x ≡ None
   stops_plain start x e = d.limited start x ∙ ap (unless_full r.is_full) e
 
-  turn : (text : List ℕ) (i n : ℕ) (start : S) (token : Token) (rest : List Token) (z : LimitedReading T) → reading r text i n start (token ∷ rest) ≡ z → Turn r text i n start (item_of text token) rest z
+  turn : (text : List ℕ) (i n : ℕ) (start : S) (token : Token) (rest : List Token) (z : LimitedReading T) → limited_reading r text i n start (token ∷ rest) ≡ z → Turn r text i n start (item_of text token) rest z
   turn text i n start token rest z e =
       elim (chosen (passes i n (item_of text token).symbol) e) [
         | inl w ↦ large w.0 w.1
@@ -94,11 +94,11 @@ module _ {S T : Type 0} {r : TokenReader S T} {IsOne : Option ℕ → List Item 
       ]
     where
       go : passes i n (item_of text token).symbol ≡ false → (o : Option S) → r.step None start (item_of text token) ≡ o →
-          next_reading r.is_full i o (λ after. reading r text (i + 1) (open_after n (item_of text token).symbol) after rest) ≡ z → Turn r text i n start (item_of text token) rest z
+          next_reading r.is_full i o (λ after. limited_reading r text (i + 1) (open_after n (item_of text token).symbol) after rest) ≡ z → Turn r text i n start (item_of text token) rest z
       go c None b e = refuses c b e
       go c (Some next) b e = elim (chosen (r.is_full next) e) [ inl f ↦ full next c b f.0 f.1 | inr f ↦ on next c (goes_on_step start (item_of text token) next b f.0) f.1 ]
 
-  whole_reading : (text : List ℕ) (i n : ℕ) (start : S) (tokens : List Token) (t : T) → reading r text i n start tokens ≡ read_whole t → Whole r i n start (items_of text tokens) t
+  whole_reading : (text : List ℕ) (i n : ℕ) (start : S) (tokens : List Token) (t : T) → limited_reading r text i n start tokens ≡ read_whole t → Whole r i n start (items_of text tokens) t
   whole_reading text i n start [] t e = let f : r.ended start ≡ Some t = ended_at i (r.ended start) t e in record { runs = rw f refl; clear = refl }
   whole_reading text i n start (token ∷ rest) t e =
       elim (turn text i n start token rest (read_whole t) e) [
@@ -110,7 +110,7 @@ module _ {S T : Type 0} {r : TokenReader S T} {IsOne : Option ℕ → List Item 
             record { runs = rw g.within w.runs; clear = rw c w.clear })
       ]
 
-  halted : (text : List ℕ) (i n : ℕ) (start : S) (tokens : List Token) (j : ℕ) → reading r text i n start tokens ≡ stopped j → Stopped r i n start (items_of text tokens) j
+  halted : (text : List ℕ) (i n : ℕ) (start : S) (tokens : List Token) (j : ℕ) → limited_reading r text i n start tokens ≡ stopped j → Stopped r i n start (items_of text tokens) j
   halted text i n start [] j e =
       let f = stopped_at i j (r.ended start) e in
       record { k = 0; is = omega (arith, f.1); short = omega arith; plain = rw f.0 refl; within = rw f.0 refl; clear = refl }
@@ -145,10 +145,10 @@ module _ {S T : Type 0} {r : TokenReader S T} {IsOne : Option ℕ → List Item 
 
   passing : (text : List ℕ) (s0 : List Item) (i n : ℕ) (start : S) (tokens : List Token) (j : ℕ) →
       d.IsRight most_parts s0 start (items_of text tokens) → d.IsRight None s0 start (items_of text tokens) →
-      reading r text i n start tokens ≡ passed j → Passed s0 i n start (items_of text tokens) j
+      limited_reading r text i n start tokens ≡ passed j → Passed s0 i n start (items_of text tokens) j
   passing text s0 i n start [] j ok plain e = go (r.ended start) e
     where
-      go : (o : Option T) → at_end i o ≡ passed j → Passed s0 i n start [] j
+      go : (o : Option T) → reading_at_end i o ≡ passed j → Passed s0 i n start [] j
       go (Some t) e = cc
       go None e = cc
   passing text s0 i n start (token ∷ rest) j ok plain e =
@@ -199,10 +199,10 @@ module _ {S T : Type 0} {r : TokenReader S T} {IsOne : Option ℕ → List Item 
     abbrev items : List Item
     items = items_of text tokens
 
-    whole_now : (t : T) → reading r text 0 0 r.start tokens ≡ read_whole t → SpellsWithin IsOne items t
+    whole_now : (t : T) → limited_reading r text 0 0 r.start tokens ≡ read_whole t → SpellsWithin IsOne items t
     whole_now t e = let w = whole_reading text 0 0 r.start tokens t e in (found_one d most_parts items t w.runs, w.clear)
 
-    passed_now : (j : ℕ) → reading r text 0 0 r.start tokens ≡ passed j → Passed items 0 0 r.start items j
+    passed_now : (j : ℕ) → limited_reading r text 0 0 r.start tokens ≡ passed j → Passed items 0 0 r.start items j
     passed_now j e = passing text items 0 0 r.start tokens j (d.at_start most_parts items) (d.at_start None items) e
 
     pub answer_found : (z : Result T ParseFault) → ReadsTokens r text tokens z → IfOk z (λ t. SpellsWithin IsOne items t)

@@ -33,26 +33,26 @@ pub data LimitedReading (T : Type 0) : Type 0 where
   stopped : (i : ℕ) → LimitedReading T
   passed : (i : ℕ) → LimitedReading T
 
-abbrev pub at_end : {T : Type 0} → ℕ → Option T → LimitedReading T
-at_end i (Some t) = read_whole t
-at_end i None = stopped i
+abbrev pub reading_at_end : {T : Type 0} → ℕ → Option T → LimitedReading T
+reading_at_end i (Some t) = read_whole t
+reading_at_end i None = stopped i
 
 abbrev pub next_reading : {S T : Type 0} → (S → Bool) → ℕ → Option S → (S → LimitedReading T) → LimitedReading T
 next_reading is_full i None go = stopped i
 next_reading is_full i (Some st) go = cond (is_full st) (passed i) (go st)
 
 -- the tokens from the one at i on, with so many brackets open before it
-abbrev pub reading : {S T : Type 0} → TokenReader S T → List ℕ → ℕ → ℕ → S → List Token → LimitedReading T
-reading r text i n st [] = at_end i (r.ended st)
-reading r text i n st (token ∷ rest) =
+abbrev pub limited_reading : {S T : Type 0} → TokenReader S T → List ℕ → ℕ → ℕ → S → List Token → LimitedReading T
+limited_reading r text i n st [] = reading_at_end i (r.ended st)
+limited_reading r text i n st (token ∷ rest) =
     let x = item_of text token in
-    cond (passes i n x.symbol) (passed i) (next_reading r.is_full i (r.step None st x) (λ after. reading r text (i + 1) (open_after n x.symbol) after rest))
+    cond (passes i n x.symbol) (passed i) (next_reading r.is_full i (r.step None st x) (λ after. limited_reading r text (i + 1) (open_after n x.symbol) after rest))
 
 -- what is answered, unless memory ran out
 abbrev pub ReadsTokens : {S T : Type 0} → TokenReader S T → List ℕ → List Token → Result T ParseFault → Type 0
-ReadsTokens r text tokens (Ok t) = reading r text 0 0 r.start tokens ≡ read_whole t
-ReadsTokens r text tokens (Err (fault.Unexpected i)) = reading r text 0 0 r.start tokens ≡ stopped i
-ReadsTokens r text tokens (Err (fault.TooLarge i)) = reading r text 0 0 r.start tokens ≡ passed i
+ReadsTokens r text tokens (Ok t) = limited_reading r text 0 0 r.start tokens ≡ read_whole t
+ReadsTokens r text tokens (Err (fault.Unexpected i)) = limited_reading r text 0 0 r.start tokens ≡ stopped i
+ReadsTokens r text tokens (Err (fault.TooLarge i)) = limited_reading r text 0 0 r.start tokens ≡ passed i
 ReadsTokens r text tokens (Err fault.OutOfMemory) = Unit {0}
 
 -- the parser of formulas is one
