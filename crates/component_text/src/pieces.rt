@@ -125,7 +125,8 @@ pub fn read_pieces(
 ) -> Result<RawComponent, ReadFault>
     requires fits { length text.now < 2 ^ 32 }
     requires texts { AllByRecursion HasText (marks_of text.now pieces.now.tokens.items) }
-    ensures { ReadsPieces IsComponent name.now text.now (marks_of text.now pieces.now.tokens.items) pieces.now.fault result }
+    ensures { ReadsPieces IsComponent name.now text.now
+        (marks_of text.now pieces.now.tokens.items) pieces.now.fault result }
 {
     if let Some(place) = misnamed(alloc, &mut Cursor::new(text, &pieces.tokens), name)? {
         return Err(fault(alloc, name, FaultKind::WrongName, place, ""));

@@ -353,7 +353,8 @@ impl Formula {
         depth: u64,
         out: &mut Vec<Formula>,
     ) -> Result<(), OutOfMemory>
-        ensures { (d : ℕ) → depth ≡ min d (2 ^ 32) → OnOk result (out.new.items ≡ out.old.items ++ instantiated terms.now d self.now ∷ []) }
+        ensures { (d : ℕ) → depth ≡ min d (2 ^ 32)
+            → OnOk result (out.new.items ≡ out.old.items ++ instantiated terms.now d self.now ∷ []) }
     {
         match self {
             Formula::Int(n) => add_number(*n, out),
@@ -384,7 +385,8 @@ fn instantiate_all(
     depth: u64,
     out: &mut Vec<Formula>,
 ) -> Result<(), OutOfMemory>
-    ensures { (d : ℕ) → depth ≡ min d (2 ^ 32) → OnOk result (out.new.items ≡ out.old.items ++ map (instantiated terms.now d) items.now) }
+    ensures { (d : ℕ) → depth ≡ min d (2 ^ 32)
+        → OnOk result (out.new.items ≡ out.old.items ++ map (instantiated terms.now d) items.now) }
 {
     for item in items {
         item.instantiate_onto(alloc, terms, depth, out)?;
@@ -400,7 +402,8 @@ fn instantiate_index(
     depth: u64,
     out: &mut Vec<Formula>,
 ) -> Result<(), OutOfMemory>
-    ensures { OnOk result (out.new.items ≡ out.old.items ++ instantiated_step terms.now (IndexStep at ty.now) depth ∷ []) }
+    ensures { OnOk result (out.new.items
+        ≡ out.old.items ++ instantiated_step terms.now (IndexStep at ty.now) depth ∷ []) }
 {
     if (at as u64) < depth {
         return add_index(alloc, at, ty, out);

@@ -44,7 +44,8 @@ impl Formula {
     #[cycle(free)]
     fn collect(&self, alloc: Global, found: &mut Found) -> Result<(), OutOfMemory>
         requires { HasPlaces found.old.identifiers.items found.old.places.entries }
-        ensures found { OnOk result (found.new.identifiers.items ≡ fold with_identifier found.old.identifiers.items (occurrences self.now)) }
+        ensures found { OnOk result (found.new.identifiers.items
+            ≡ fold with_identifier found.old.identifiers.items (occurrences self.now)) }
         ensures places { OnOk result (HasPlaces found.new.identifiers.items found.new.places.entries) }
     {
         match self {
@@ -60,7 +61,8 @@ impl Formula {
 #[cycle(free)]
 fn collect_all(alloc: Global, items: &[Formula], found: &mut Found) -> Result<(), OutOfMemory>
     requires { HasPlaces found.old.identifiers.items found.old.places.entries }
-    ensures found { OnOk result (found.new.identifiers.items ≡ fold with_identifier found.old.identifiers.items (joined (map occurrences items.now))) }
+    ensures found { OnOk result (found.new.identifiers.items
+        ≡ fold with_identifier found.old.identifiers.items (joined (map occurrences items.now))) }
     ensures places { OnOk result (HasPlaces found.new.identifiers.items found.new.places.entries) }
 {
     for item in items {
@@ -72,7 +74,8 @@ fn collect_all(alloc: Global, items: &[Formula], found: &mut Found) -> Result<()
 /// Adds an identifier that is not there yet.
 fn add_new(alloc: Global, found: &mut Found, name: &Name, ty: &Ty) -> Result<(), OutOfMemory>
     requires { HasPlaces found.old.identifiers.items found.old.places.entries }
-    ensures found { OnOk result (found.new.identifiers.items ≡ with_identifier found.old.identifiers.items (name.now, ty.now)) }
+    ensures found { OnOk result (found.new.identifiers.items
+        ≡ with_identifier found.old.identifiers.items (name.now, ty.now)) }
     ensures places { OnOk result (HasPlaces found.new.identifiers.items found.new.places.entries) }
 {
     let place = place_of(&found.places, name);

@@ -61,7 +61,8 @@ pub fn shifting_keeps_well(f: &Formula)
 /// Operands of these types fit an operator, which then has the type `whole`, exactly where this is an instance of its line in the table of types.
 pub fn fits_by_schemes(op: Op, types: &[Ty], whole: &Ty)
     ensures { IsTrue (row_fits (row_of op) types.now whole.now)
-        ↔ IsSchemeInstance (operand_schemes (row_of op) (length types.now)) (result_scheme (row_of op)) types.now whole.now }
+        ↔ IsSchemeInstance
+        (operand_schemes (row_of op) (length types.now)) (result_scheme (row_of op)) types.now whole.now }
 {
     let _ = op;
     let _ = types;

@@ -111,7 +111,8 @@ impl<'a> Scope<'a> {
 fn jump_from<'a>(types: &[Ty], outer: Option<&'a Scope<'a>>) -> Option<Jump<'a>>
     requires { 0 < length types.now }
     ensures further { IfSome result (λ to. 0 < to.skipped) }
-    ensures scope { IfSome result (λ to. to.scope.now ≡ drop to.skipped (reverse types.now ++ types_below (option_copied outer.entry))) }
+    ensures scope { IfSome result (λ to.
+        to.scope.now ≡ drop to.skipped (reverse types.now ++ types_below (option_copied outer.entry))) }
 {
     let near = outer?;
     match jump_over_two(types, near) {

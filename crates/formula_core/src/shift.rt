@@ -40,7 +40,8 @@ impl Formula {
         depth: u64,
         out: &mut Vec<Formula>,
     ) -> Result<(), OutOfMemory>
-        ensures { (d : ℕ) → depth ≡ min d (2 ^ 32) → OnOk result (out.new.items ≡ out.old.items ++ shifted by d self.now ∷ []) }
+        ensures { (d : ℕ) → depth ≡ min d (2 ^ 32)
+            → OnOk result (out.new.items ≡ out.old.items ++ shifted by d self.now ∷ []) }
     {
         match self {
             Formula::Int(n) => add_number(*n, out),
@@ -75,7 +76,8 @@ fn shift_all(
     depth: u64,
     out: &mut Vec<Formula>,
 ) -> Result<(), OutOfMemory>
-    ensures { (d : ℕ) → depth ≡ min d (2 ^ 32) → OnOk result (out.new.items ≡ out.old.items ++ map (shifted by d) items.now) }
+    ensures { (d : ℕ) → depth ≡ min d (2 ^ 32)
+        → OnOk result (out.new.items ≡ out.old.items ++ map (shifted by d) items.now) }
 {
     for item in items {
         item.shift_onto(alloc, by, depth, out)?;
@@ -115,7 +117,8 @@ impl Formula {
         identifiers: &[(Name, Ty)],
     ) -> Result<Formula, OutOfMemory>
         ensures value { IfOk result (λ f. f ≡ abstracted identifiers.now 0 self.now) }
-        ensures well { IsTrue (is_well self.now) → IfOk result (λ f. IsTrue (is_well_in f (scope_types identifiers.now))) }
+        ensures well { IsTrue (is_well self.now)
+            → IfOk result (λ f. IsTrue (is_well_in f (scope_types identifiers.now))) }
         ensures typed { IfOk result (λ f. type_of f ≡ type_of self.now) }
     {
         self.bind_any(alloc, identifiers)
@@ -137,7 +140,8 @@ impl Formula {
         depth: u64,
         out: &mut Vec<Formula>,
     ) -> Result<(), OutOfMemory>
-        ensures { (d : ℕ) → depth ≡ min d (2 ^ 32) → OnOk result (out.new.items ≡ out.old.items ++ abstracted identifiers.now d self.now ∷ []) }
+        ensures { (d : ℕ) → depth ≡ min d (2 ^ 32)
+            → OnOk result (out.new.items ≡ out.old.items ++ abstracted identifiers.now d self.now ∷ []) }
     {
         match self {
             Formula::Int(n) => add_number(*n, out),
@@ -175,7 +179,8 @@ fn bind_all(
     depth: u64,
     out: &mut Vec<Formula>,
 ) -> Result<(), OutOfMemory>
-    ensures { (d : ℕ) → depth ≡ min d (2 ^ 32) → OnOk result (out.new.items ≡ out.old.items ++ map (abstracted identifiers.now d) items.now) }
+    ensures { (d : ℕ) → depth ≡ min d (2 ^ 32)
+        → OnOk result (out.new.items ≡ out.old.items ++ map (abstracted identifiers.now d) items.now) }
 {
     for item in items {
         item.bind_onto(alloc, identifiers, depth, out)?;
@@ -191,7 +196,8 @@ fn bind_identifier(
     depth: u64,
     out: &mut Vec<Formula>,
 ) -> Result<(), OutOfMemory>
-    ensures { (d : ℕ) → depth ≡ min d (2 ^ 32) → OnOk result (out.new.items ≡ out.old.items ++ abstracted_step identifiers.now (FreeStep name.now ty.now) d ∷ []) }
+    ensures { (d : ℕ) → depth ≡ min d (2 ^ 32) → OnOk result (out.new.items
+        ≡ out.old.items ++ abstracted_step identifiers.now (FreeStep name.now ty.now) d ∷ []) }
 {
     match place_from_last(identifiers, name, ty) {
         Some(place) => {

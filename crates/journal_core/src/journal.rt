@@ -86,7 +86,8 @@ impl<D: Disk> Journal<D> {
             (λ opened. StandsAt (D.bytes_of disk) opened.0.side opened.0.generation (bodies_of opened.1.items))
             (λ refused. IsJournalCause (D.bytes_of disk) refused.1) }
         // Sides stand for one thing at most, so a start answers exactly that, if the disk doesn't fail and memory is there.
-        ensures exactly { D.told → (meaning : JournalMeaning) → JournalStandsFor (D.bytes_of disk) meaning → MatchResult result
+        ensures exactly { D.told → (meaning : JournalMeaning) → JournalStandsFor (D.bytes_of disk) meaning
+            → MatchResult result
             (λ opened. meaning ≡ meaning_of opened.0.side opened.0.generation (bodies_of opened.1.items))
             (λ refused. IsJournalAnswerFor meaning refused.1) }
         ensures placed { D.told → IfOk result (λ opened. ArePlaced opened.0.side 16 opened.1.items) }

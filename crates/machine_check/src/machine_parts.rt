@@ -291,7 +291,8 @@ pub fn machine_of(
 ) -> Result<CheckedMachine, OutOfMemory>
     requires new { new.now ≡ new_variables (option_copied abstraction) (written_of written.now) }
     requires variables { (visible view.now).variables ≡ (abstract_view (option_copied abstraction)).variables }
-    ensures { IfOk result (λ typed. typed ≡ checked_machine_of (option_copied abstraction.entry) (written_of written.now)
+    ensures { IfOk result (λ typed.
+        typed ≡ checked_machine_of (option_copied abstraction.entry) (written_of written.now)
         (visible view.now) env.now invariants.items variant events.items) }
 {
     let component = &written.name.name;

@@ -136,7 +136,8 @@ fn names_next(
     place: u32,
     symbol: Symbol,
 ) -> Result<Phase, StepFault>
-    ensures { Steps result (cond are_names (names_next (forms stack.items) binding (bounds_from all) place symbol) None) }
+    ensures { Steps result
+        (cond are_names (names_next (forms stack.items) binding (bounds_from all) place symbol) None) }
 {
     if !are_names {
         return Err(StepFault::Refused);
@@ -157,7 +158,8 @@ fn type_next(
     place: u32,
 ) -> Result<Phase, StepFault>
     ensures { Steps result
-        (cond are_names (type_next (forms stack.items) binding (bounds_from before) (typed_name_of formula) place) None) }
+        (cond are_names
+        (type_next (forms stack.items) binding (bounds_from before) (typed_name_of formula) place) None) }
 {
     if !are_names {
         return Err(StepFault::Refused);

@@ -38,7 +38,8 @@ fn copied(alloc: Global, name: &Name) -> Result<Name, OutOfMemory>
 
 /// The set of the names of identifiers.
 fn names_of(alloc: Global, identifiers: &[(Name, Ty)]) -> Result<BTreeSet<Name>, OutOfMemory>
-    ensures has { IfOk result (λ names. (name : List ℕ) → contains_by (slice_cmp nat_cmp name) names ≡ list_any (bytes_eq name) (keys_of identifiers.now)) }
+    ensures has { IfOk result (λ names. (name : List ℕ)
+        → contains_by (slice_cmp nat_cmp name) names ≡ list_any (bytes_eq name) (keys_of identifiers.now)) }
     ensures are { OnOk result (AllByRecursion (λ x. is_name x.0 ≡ true) identifiers.now) }
 {
     let mut names = BTreeSet::new(alloc);
@@ -55,7 +56,8 @@ fn first_allowed(
     many: usize,
     tries: usize,
 ) -> Result<Vec<Name>, OutOfMemory>
-    ensures { IfOk result (λ names. names.items ≡ first_allowed (λ name. not (contains_by (slice_cmp nat_cmp name) taken.now)) many tries) }
+    ensures { IfOk result (λ names.
+        names.items ≡ first_allowed (λ name. not (contains_by (slice_cmp nat_cmp name) taken.now)) many tries) }
 {
     let mut names = Vec::new(alloc);
     for index in 0..tries {

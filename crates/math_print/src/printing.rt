@@ -103,7 +103,8 @@ fn print_node(
     depth: usize,
     out: &mut String,
 ) -> Result<(), OutOfMemory>
-    ensures { OnOk result (string_bytes out.new ≡ string_bytes out.old ++ node_text op (with_texts names.now parts.now) ty.now denied depth) }
+    ensures { OnOk result (string_bytes out.new
+        ≡ string_bytes out.old ++ node_text op (with_texts names.now parts.now) ty.now denied depth) }
 {
     if denied {
         out.push_str(opening_of(op))?;
@@ -126,7 +127,8 @@ fn print_operator(
     depth: usize,
     out: &mut String,
 ) -> Result<(), OutOfMemory>
-    ensures { OnOk result (string_bytes out.new ≡ string_bytes out.old ++ operator_text op sign.now (with_texts names.now parts.now) ty.now depth) }
+    ensures { OnOk result (string_bytes out.new
+        ≡ string_bytes out.old ++ operator_text op sign.now (with_texts names.now parts.now) ty.now depth) }
 {
     match op {
         Op::SetExtension => print_members(parts, names, depth, out),
@@ -174,7 +176,8 @@ fn print_unary(
     depth: usize,
     out: &mut String,
 ) -> Result<(), OutOfMemory>
-    ensures { OnOk result (string_bytes out.new ≡ string_bytes out.old ++ unary_text op sign.now (a.now, printed names.now a.now) depth) }
+    ensures { OnOk result (string_bytes out.new
+        ≡ string_bytes out.old ++ unary_text op sign.now (a.now, printed names.now a.now) depth) }
 {
     match op {
         Op::Not => print(a, true, names, depth, out),
@@ -203,7 +206,8 @@ fn print_second(
     depth: usize,
     out: &mut String,
 ) -> Result<(), OutOfMemory>
-    ensures { OnOk result (string_bytes out.new ≡ string_bytes out.old ++ second_text op sign.now (b.now, printed names.now b.now) depth) }
+    ensures { OnOk result (string_bytes out.new
+        ≡ string_bytes out.old ++ second_text op sign.now (b.now, printed names.now b.now) depth) }
 {
     match op {
         Op::Apply => print_inside(b, "(", ")", names, depth, out),
@@ -227,7 +231,8 @@ fn print_operand(
     depth: usize,
     out: &mut String,
 ) -> Result<(), OutOfMemory>
-    ensures { OnOk result (string_bytes out.new ≡ string_bytes out.old ++ operand_text op side (part.now, printed names.now part.now) depth) }
+    ensures { OnOk result (string_bytes out.new
+        ≡ string_bytes out.old ++ operand_text op side (part.now, printed names.now part.now) depth) }
 {
     if needs_parentheses(op, side, part) {
         print_inside(part, "(", ")", names, depth, out)
@@ -246,7 +251,8 @@ fn print_inside(
     depth: usize,
     out: &mut String,
 ) -> Result<(), OutOfMemory>
-    ensures { OnOk result (string_bytes out.new ≡ string_bytes out.old ++ (opening.now ++ (printed names.now formula.now false depth ++ closing.now))) }
+    ensures { OnOk result (string_bytes out.new
+        ≡ string_bytes out.old ++ (opening.now ++ (printed names.now formula.now false depth ++ closing.now))) }
 {
     out.push_str(opening)?;
     print(formula, false, names, depth, out)?;
@@ -261,7 +267,8 @@ fn print_members(
     depth: usize,
     out: &mut String,
 ) -> Result<(), OutOfMemory>
-    ensures { OnOk result (string_bytes out.new ≡ string_bytes out.old ++ members_text (with_texts names.now parts.now) depth) }
+    ensures { OnOk result (string_bytes out.new
+        ≡ string_bytes out.old ++ members_text (with_texts names.now parts.now) depth) }
 {
     out.push_str("{")?;
     print_separated(parts, names, depth, out)?;
@@ -277,7 +284,8 @@ fn print_separated(
     depth: usize,
     out: &mut String,
 ) -> Result<(), OutOfMemory>
-    ensures { OnOk result (string_bytes out.new ≡ string_bytes out.old ++ separated_texts (map (λ f. printed names.now f false depth) items.now)) }
+    ensures { OnOk result (string_bytes out.new
+        ≡ string_bytes out.old ++ separated_texts (map (λ f. printed names.now f false depth) items.now)) }
 {
     for (index, item) in items.iter().enumerate() {
         print_comma(index, out)?;
@@ -315,7 +323,8 @@ fn print_bind(
     depth: usize,
     out: &mut String,
 ) -> Result<(), OutOfMemory>
-    ensures { OnOk result (string_bytes out.new ≡ string_bytes out.old ++ bind_text names.now binder types.now (with_texts names.now parts.now) denied depth) }
+    ensures { OnOk result (string_bytes out.new
+        ≡ string_bytes out.old ++ bind_text names.now binder types.now (with_texts names.now parts.now) denied depth) }
 {
     if denied {
         out.push_str("¬(")?;
@@ -336,7 +345,8 @@ fn print_binder(
     depth: usize,
     out: &mut String,
 ) -> Result<(), OutOfMemory>
-    ensures { OnOk result (string_bytes out.new ≡ string_bytes out.old ++ binder_text names.now binder types.now (with_texts names.now parts.now) depth) }
+    ensures { OnOk result (string_bytes out.new
+        ≡ string_bytes out.old ++ binder_text names.now binder types.now (with_texts names.now parts.now) depth) }
 {
     match depth.checked_add(types.len()) {
         Some(inside) => {
@@ -359,7 +369,8 @@ fn print_body(
     depth: usize,
     out: &mut String,
 ) -> Result<(), OutOfMemory>
-    ensures { OnOk result (string_bytes out.new ≡ string_bytes out.old ++ body_text (with_texts names.now parts.now) depth) }
+    ensures { OnOk result (string_bytes out.new
+        ≡ string_bytes out.old ++ body_text (with_texts names.now parts.now) depth) }
 {
     match parts {
         [p] => print(p, false, names, depth, out),
@@ -380,7 +391,8 @@ fn print_declarations(
     out: &mut String,
 ) -> Result<(), OutOfMemory>
     requires { depth + length types.now < 2 ^ 64 }
-    ensures { OnOk result (string_bytes out.new ≡ string_bytes out.old ++ separated_texts (declaration_texts names.now types.now depth)) }
+    ensures { OnOk result (string_bytes out.new
+        ≡ string_bytes out.old ++ separated_texts (declaration_texts names.now types.now depth)) }
 {
     for (index, ty) in types.iter().enumerate() {
         print_comma(index, out)?;
@@ -395,7 +407,8 @@ fn print_declaration(
     depth: usize,
     out: &mut String,
 ) -> Result<(), OutOfMemory>
-    ensures { OnOk result (string_bytes out.new ≡ string_bytes out.old ++ (name_at names.now depth ++ (bytes "⦂" ++ type_text ty.now))) }
+    ensures { OnOk result (string_bytes out.new
+        ≡ string_bytes out.old ++ (name_at names.now depth ++ (bytes "⦂" ++ type_text ty.now))) }
 {
     print_name(names, depth, out)?;
     out.push_str("⦂")?;

@@ -44,8 +44,10 @@ pub fn read_back()
 /// Two written formulas that are the same but for their places have the same typings, and if one has a single typing, it is
 /// the only one of the other too.
 pub fn typed_at_other_places()
-    ensures typings { (r s : Raw) → unplaced r ≡ unplaced s → (env : List (List ℕ × Ty)) (wanted : List (List ℕ)) (expected : Option Ty) (f : Formula)
+    ensures typings { (r s : Raw) → unplaced r ≡ unplaced s
+        → (env : List (List ℕ × Ty)) (wanted : List (List ℕ)) (expected : Option Ty) (f : Formula)
         → IsTypedAs env wanted (core_form r) expected f → IsTypedAs env wanted (core_form s) expected f }
-    ensures the_formula { (r s : Raw) → unplaced r ≡ unplaced s → (env : List (List ℕ × Ty)) (wanted : List (List ℕ)) (expected : Option Ty) (f : Formula)
+    ensures the_formula { (r s : Raw) → unplaced r ≡ unplaced s
+        → (env : List (List ℕ × Ty)) (wanted : List (List ℕ)) (expected : Option Ty) (f : Formula)
         → IsTheFormula env wanted (core_form r) expected f → IsTheFormula env wanted (core_form s) expected f }
 {}

@@ -38,7 +38,9 @@ fn add_all_rows(
     abstraction: Option<&CheckedMachine>,
     refined: &[&CheckedEvent],
 ) -> Result<(), OutOfMemory>
-    ensures { OnOk result (view out.new ≡ gathered (view out.old) (for_each (row_of_event parts.now.machine.now (option_copied abstraction.entry) parts.now.event.now (map (λ x. x.now) refined.now) (parts_in parts.now)) all_rows)) }
+    ensures { OnOk result (view out.new ≡ gathered (view out.old)
+        (for_each (row_of_event parts.now.machine.now (option_copied abstraction.entry) parts.now.event.now
+        (map (λ x. x.now) refined.now) (parts_in parts.now)) all_rows)) }
 {
     add_guard_rows(alloc, out, parts)?;
     add_witness_rows(alloc, out, parts)?;
@@ -60,7 +62,9 @@ fn add_rows_alone(
     abstraction: Option<&CheckedMachine>,
     refined: &[&CheckedEvent],
 ) -> Result<(), OutOfMemory>
-    ensures { OnOk result (view out.new ≡ gathered (view out.old) (for_each (row_of_event parts.now.machine.now (option_copied abstraction.entry) parts.now.event.now (map (λ x. x.now) refined.now) (parts_in parts.now)) (rows_alone (map (λ x. x.now) refined.now)))) }
+    ensures { OnOk result (view out.new ≡ gathered (view out.old)
+        (for_each (row_of_event parts.now.machine.now (option_copied abstraction.entry) parts.now.event.now
+        (map (λ x. x.now) refined.now) (parts_in parts.now)) (rows_alone (map (λ x. x.now) refined.now)))) }
 {
     add_guard_rows(alloc, out, parts)?;
     add_action_rows(alloc, out, parts)?;
@@ -78,7 +82,8 @@ fn add_invariants_beside(
     parts: &SharedParts<'_>,
     refined: &[&CheckedEvent],
 ) -> Result<(), OutOfMemory>
-    ensures { OnOk result (view out.new ≡ gathered (view out.old) (invariants_beside parts.now.machine.now parts.now.event.now (map (λ x. x.now) refined.now) (parts_in parts.now))) }
+    ensures { OnOk result (view out.new ≡ gathered (view out.old) (invariants_beside
+        parts.now.machine.now parts.now.event.now (map (λ x. x.now) refined.now) (parts_in parts.now))) }
 {
     if refined.is_empty() {
         return Ok(());
@@ -95,7 +100,9 @@ fn add_rows_beside(
     abstraction: Option<&CheckedMachine>,
     refined: &[&CheckedEvent],
 ) -> Result<(), OutOfMemory>
-    ensures { OnOk result (view out.new ≡ gathered (view out.old) (for_each (row_of_event parts.now.machine.now (option_copied abstraction.entry) parts.now.event.now (map (λ x. x.now) refined.now) (parts_in parts.now)) (rows_beside (map (λ x. x.now) refined.now)))) }
+    ensures { OnOk result (view out.new ≡ gathered (view out.old)
+        (for_each (row_of_event parts.now.machine.now (option_copied abstraction.entry) parts.now.event.now
+        (map (λ x. x.now) refined.now) (parts_in parts.now)) (rows_beside (map (λ x. x.now) refined.now)))) }
 {
     add_witness_rows(alloc, out, parts)?;
     add_strengthening_rows(alloc, out, parts, refined)?;
@@ -115,7 +122,9 @@ fn add_rows(
     abstraction: Option<&CheckedMachine>,
     refined: &[&CheckedEvent],
 ) -> Result<(), OutOfMemory>
-    ensures { OnOk result (view out.new ≡ gathered (view out.old) (for_each (row_of_event parts.now.machine.now (option_copied abstraction.entry) parts.now.event.now (map (λ x. x.now) refined.now) (parts_in parts.now)) (rows_in part (map (λ x. x.now) refined.now)))) }
+    ensures { OnOk result (view out.new ≡ gathered (view out.old)
+        (for_each (row_of_event parts.now.machine.now (option_copied abstraction.entry) parts.now.event.now
+        (map (λ x. x.now) refined.now) (parts_in parts.now)) (rows_in part (map (λ x. x.now) refined.now)))) }
 {
     match part {
         Part::Whole => add_all_rows(alloc, out, parts, abstraction, refined),
@@ -133,7 +142,8 @@ fn add_event_rows(
     abstraction: Option<&CheckedMachine>,
     event: &CheckedEvent,
 ) -> Result<(), OutOfMemory>
-    ensures { OnOk result (view out.new ≡ gathered (view out.old) (event_rows_in part machine.now (option_copied abstraction.entry) event.now)) }
+    ensures { OnOk result (view out.new
+        ≡ gathered (view out.old) (event_rows_in part machine.now (option_copied abstraction.entry) event.now)) }
 {
     if out.nodes > TABLE_LIMIT {
         return Ok(());
@@ -152,7 +162,8 @@ fn add_each_event(
     abstraction: Option<&CheckedMachine>,
     events: &[CheckedEvent],
 ) -> Result<(), OutOfMemory>
-    ensures { OnOk result (view out.new ≡ gathered (view out.old) (for_each (event_rows_in part machine.now (option_copied abstraction.entry)) events.now)) }
+    ensures { OnOk result (view out.new ≡ gathered
+        (view out.old) (for_each (event_rows_in part machine.now (option_copied abstraction.entry)) events.now)) }
 {
     for event in events {
         add_event_rows(alloc, out, part, machine, abstraction, event)?;
@@ -166,7 +177,8 @@ fn add_machine_rows(
     machine: &CheckedMachine,
     abstraction: Option<&CheckedMachine>,
 ) -> Result<(), OutOfMemory>
-    ensures { OnOk result (view out.new ≡ gathered (view out.old) (machine_rows machine.now (option_copied abstraction.entry))) }
+    ensures { OnOk result (view out.new
+        ≡ gathered (view out.old) (machine_rows machine.now (option_copied abstraction.entry))) }
 {
     add_own_invariant_rows(alloc, out, machine)?;
     add_variant_rows(alloc, out, machine)?;
@@ -222,7 +234,8 @@ fn add_machine_obligations(
     machine: &CheckedMachine,
     abstraction: Option<&CheckedMachine>,
 ) -> Result<(), OutOfMemory>
-    ensures { OnOk result (view out.new ≡ gathered (view out.old) (machine_obligations_of (Machine machine.now) (option_copied abstraction.entry))) }
+    ensures { OnOk result (view out.new
+        ≡ gathered (view out.old) (machine_obligations_of (Machine machine.now) (option_copied abstraction.entry))) }
 {
     add_own_invariant_rows(alloc, out, machine)?;
     let events = machine.events.items();
@@ -236,7 +249,8 @@ fn add_obligations_alone(
     checked: &Checked,
     abstraction: Option<&CheckedMachine>,
 ) -> Result<(), OutOfMemory>
-    ensures { OnOk result (view out.new ≡ gathered (view out.old) (machine_obligations_of checked.now (option_copied abstraction.entry))) }
+    ensures { OnOk result (view out.new
+        ≡ gathered (view out.old) (machine_obligations_of checked.now (option_copied abstraction.entry))) }
 {
     match checked {
         Checked::Context(context) => add_axiom_rows(alloc, out, context),
@@ -265,7 +279,8 @@ fn add_refine_obligations(
     machine: &CheckedMachine,
     abstraction: Option<&CheckedMachine>,
 ) -> Result<(), OutOfMemory>
-    ensures { OnOk result (view out.new ≡ gathered (view out.old) (refine_obligations_of (Machine machine.now) (option_copied abstraction.entry))) }
+    ensures { OnOk result (view out.new
+        ≡ gathered (view out.old) (refine_obligations_of (Machine machine.now) (option_copied abstraction.entry))) }
 {
     add_variant_rows(alloc, out, machine)?;
     let events = machine.events.items();
@@ -279,7 +294,8 @@ fn add_obligations_beside(
     checked: &Checked,
     abstraction: Option<&CheckedMachine>,
 ) -> Result<(), OutOfMemory>
-    ensures { OnOk result (view out.new ≡ gathered (view out.old) (refine_obligations_of checked.now (option_copied abstraction.entry))) }
+    ensures { OnOk result (view out.new
+        ≡ gathered (view out.old) (refine_obligations_of checked.now (option_copied abstraction.entry))) }
 {
     match checked {
         Checked::Context(_) => Ok(()),

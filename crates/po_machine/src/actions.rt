@@ -71,7 +71,8 @@ fn add_feasible(
     action: &Action,
 ) -> Result<(), OutOfMemory>
     requires { IsTrue (is_part label.now) }
-    ensures { OnOk result (view out.new ≡ gathered (view out.old) (for_each (from_base (parts_in parts.now) (of_kind label.now (codes "FIS"))) (feasible action.now))) }
+    ensures { OnOk result (view out.new ≡ gathered (view out.old)
+        (for_each (from_base (parts_in parts.now) (of_kind label.now (codes "FIS"))) (feasible action.now))) }
 {
     match action {
         Action::Assign(_) => Ok(()),

@@ -41,7 +41,8 @@ fn add_witnesses<'a>(
     witnesses: &'a [(Name, Formula)],
     found: &mut Vec<&'a Formula>,
 ) -> Result<(), OutOfMemory>
-    ensures { OnOk result (referenced found.new.items ≡ referenced found.old.items ++ map (λ w. w.1) witnesses.entry.now) }
+    ensures { OnOk result (referenced found.new.items
+        ≡ referenced found.old.items ++ map (λ w. w.1) witnesses.entry.now) }
 {
     for witness in witnesses {
         found.push(&witness.1)?;

@@ -64,7 +64,8 @@ fn add_invariant_row(
     invariant: &Labelled,
 ) -> Result<(), OutOfMemory>
     requires { changed.now ≡ keys_of parts.now.after.items }
-    ensures { OnOk result (view out.new ≡ gathered (view out.old) (invariant_row parts.now.event.now (parts_in parts.now) invariant.now)) }
+    ensures { OnOk result (view out.new
+        ≡ gathered (view out.old) (invariant_row parts.now.event.now (parts_in parts.now) invariant.now)) }
 {
     if is_full(out) {
         return Ok(());

@@ -66,7 +66,8 @@ fn add_at(
     goal: Formula,
 ) -> Result<(), OutOfMemory>
     requires { IsTrue (is_kind kind.now) }
-    ensures { OnOk result (view out.new ≡ gathered (view out.old) (needed_at site.entry.now (referenced hyps.entry.now) label.entry.now kind.entry.now goal)) }
+    ensures { OnOk result (view out.new ≡ gathered
+        (view out.old) (needed_at site.entry.now (referenced hyps.entry.now) label.entry.now kind.entry.now goal)) }
 {
     if is_idle(out, &goal) {
         return instead_of(goal, Ok(()));
@@ -85,7 +86,8 @@ fn add_theorem(
     hyps: &[&Formula],
     labelled: &Labelled,
 ) -> Result<(), OutOfMemory>
-    ensures { OnOk result (view out.new ≡ gathered (view out.old) (theorem_at site.entry.now (referenced hyps.entry.now) labelled.entry.now)) }
+    ensures { OnOk result (view out.new
+        ≡ gathered (view out.old) (theorem_at site.entry.now (referenced hyps.entry.now) labelled.entry.now)) }
 {
     if !labelled.theorem {
         return Ok(());
@@ -102,7 +104,8 @@ fn add_row(
     hyps: &[&Formula],
     labelled: &Labelled,
 ) -> Result<(), OutOfMemory>
-    ensures { OnOk result (view out.new ≡ gathered (view out.old) (row_at site.entry.now (referenced hyps.entry.now) labelled.entry.now)) }
+    ensures { OnOk result (view out.new
+        ≡ gathered (view out.old) (row_at site.entry.now (referenced hyps.entry.now) labelled.entry.now)) }
 {
     if is_full(out) {
         return Ok(());
@@ -120,7 +123,8 @@ fn add_rows<'a>(
     hyps: Vec<&'a Formula>,
     own: &'a [Labelled],
 ) -> Result<(), OutOfMemory>
-    ensures { OnOk result (view out.new ≡ gathered (view out.old) (rows_at site.entry.now (referenced hyps.entry.items) own.entry.now)) }
+    ensures { OnOk result (view out.new
+        ≡ gathered (view out.old) (rows_at site.entry.now (referenced hyps.entry.items) own.entry.now)) }
 {
     let mut hyps = hyps;
     for labelled in own {
@@ -139,7 +143,8 @@ fn add_own_rows<'a>(
     all: &'a [Labelled],
     own_from: u32,
 ) -> Result<(), OutOfMemory>
-    ensures { OnOk result (view out.new ≡ gathered (view out.old) (own_rows_at site.entry.now (referenced hyps.entry.items) all.entry.now own_from)) }
+    ensures { OnOk result (view out.new
+        ≡ gathered (view out.old) (own_rows_at site.entry.now (referenced hyps.entry.items) all.entry.now own_from)) }
 {
     let mut hyps = hyps;
     add_labelled(first_items(all, own_from), &mut hyps)?;

@@ -45,7 +45,8 @@ fn nodes_of_all(formulas: &[&Formula]) -> u64
 
 /// The nodes that were counted before, with those of one sequent more.
 fn nodes_with(before: u64, hyps: &[&Formula], goal: &Formula) -> u64
-    ensures { result ≡ min (before + (sum (map formula_nodes (referenced hyps.now)) + formula_nodes goal.now)) (2 ^ 64 - 1) }
+    ensures { result
+        ≡ min (before + (sum (map formula_nodes (referenced hyps.now)) + formula_nodes goal.now)) (2 ^ 64 - 1) }
 {
     before
         .saturating_add(nodes_of_all(hyps))
@@ -70,7 +71,8 @@ fn add_obligation(
     hyps: &[&Formula],
     goal: Formula,
 ) -> Result<(), OutOfMemory>
-    ensures { OnOk result (obligations.new.items ≡ obligations.old.items ++ obligation_of name env.now (referenced hyps.now) goal ∷ []) }
+    ensures { OnOk result (obligations.new.items
+        ≡ obligations.old.items ++ obligation_of name env.now (referenced hyps.now) goal ∷ []) }
 {
     let Ok(env) = env.copy(alloc) else {
         return instead_of(goal, Err(OutOfMemory));
@@ -93,7 +95,8 @@ fn add_within(
     hyps: &[&Formula],
     goal: Formula,
 ) -> Result<(), OutOfMemory>
-    ensures { OnOk result (obligations.new.items ≡ added_within nodes obligations.old.items (obligation_of name env.now (referenced hyps.now) goal)) }
+    ensures { OnOk result (obligations.new.items
+        ≡ added_within nodes obligations.old.items (obligation_of name env.now (referenced hyps.now) goal)) }
 {
     if nodes > TABLE_LIMIT {
         return instead_of(goal, Ok(()));

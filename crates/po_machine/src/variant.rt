@@ -41,7 +41,8 @@ fn add_of_machine(
     goal: Formula,
 ) -> Result<(), OutOfMemory>
     requires { IsTrue (is_kind kind.now) }
-    ensures { OnOk result (view out.new ≡ gathered (view out.old) (needed (path_with machine.now.name kind.now) machine.now.env (machine_hyps machine.now) goal)) }
+    ensures { OnOk result (view out.new ≡ gathered
+        (view out.old) (needed (path_with machine.now.name kind.now) machine.now.env (machine_hyps machine.now) goal)) }
 {
     if is_idle(out, &goal) {
         return instead_of(goal, Ok(()));
@@ -147,7 +148,8 @@ fn is_free(event: &CheckedEvent, refined: &[&CheckedEvent]) -> bool
 
 /// The relation between the variant after an event and before it.
 fn relation(integer: bool, convergent: bool) -> Op
-    ensures { (after before : Formula) → predicate result (after ∷ before ∷ []) ≡ decrease integer convergent after before }
+    ensures { (after before : Formula)
+        → predicate result (after ∷ before ∷ []) ≡ decrease integer convergent after before }
 {
     if integer {
         if convergent {
@@ -202,7 +204,8 @@ fn add_decrease(
     parts: &SharedParts<'_>,
     variant: &Formula,
 ) -> Result<(), OutOfMemory>
-    ensures { OnOk result (view out.new ≡ gathered (view out.old) (decrease_row parts.now.event.now (parts_in parts.now) variant.now)) }
+    ensures { OnOk result (view out.new
+        ≡ gathered (view out.old) (decrease_row parts.now.event.now (parts_in parts.now) variant.now)) }
 {
     let after = variant.substitute_any(alloc, &parts.after)?;
     let goal = decrease(alloc, is_convergent(parts.event), after, variant)?;
@@ -215,7 +218,8 @@ fn add_both(
     parts: &SharedParts<'_>,
     variant: &Formula,
 ) -> Result<(), OutOfMemory>
-    ensures { OnOk result (view out.new ≡ gathered (view out.old) (natural_row (parts_in parts.now) variant.now ++ decrease_row parts.now.event.now (parts_in parts.now) variant.now)) }
+    ensures { OnOk result (view out.new ≡ gathered (view out.old) (natural_row (parts_in parts.now) variant.now
+        ++ decrease_row parts.now.event.now (parts_in parts.now) variant.now)) }
 {
     if is_full(out) {
         return Ok(());
@@ -231,7 +235,8 @@ fn add_decrease_row(
     refined: &[&CheckedEvent],
     variant: &Formula,
 ) -> Result<(), OutOfMemory>
-    ensures { OnOk result (view out.new ≡ gathered (view out.old) (decrease_rows parts.now.event.now (map (λ x. x.now) refined.now) (parts_in parts.now) variant.now)) }
+    ensures { OnOk result (view out.new ≡ gathered (view out.old)
+        (decrease_rows parts.now.event.now (map (λ x. x.now) refined.now) (parts_in parts.now) variant.now)) }
 {
     if is_free(parts.event, refined) {
         return Ok(());

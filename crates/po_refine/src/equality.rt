@@ -57,7 +57,8 @@ fn changes_of<'a>(
 ) -> Result<Changes<'a>, OutOfMemory>
     ensures kept { IfOk result (λ c. c.kept ≡ kept_variables (option_copied abstraction.entry)) }
     ensures changed { IfOk result (λ c. c.changed ≡ keys_of values.entry.now) }
-    ensures abstractly { IfOk result (λ c. c.abstractly ≡ keys_of (for_each new_values (actions_of_first (map (λ x. x.now) refined.entry.now)))) }
+    ensures abstractly { IfOk result (λ c.
+        c.abstractly ≡ keys_of (for_each new_values (actions_of_first (map (λ x. x.now) refined.entry.now)))) }
 {
     let kept = kept_variables(alloc, abstraction)?;
     let changed = Names::of_pairs(alloc, values)?;
@@ -71,7 +72,8 @@ fn changes_of<'a>(
 
 /// Whether a variable that was there before is changed here, and not by the abstract event.
 fn is_changed_here(changes: &Changes<'_>, name: &Name) -> bool
-    ensures { result ≡ (is_among changes.now.kept name.now && is_among changes.now.changed name.now && not (is_among changes.now.abstractly name.now)) }
+    ensures { result ≡ (is_among changes.now.kept name.now
+        && is_among changes.now.changed name.now && not (is_among changes.now.abstractly name.now)) }
 {
     changes.kept.has(name) && changes.changed.has(name) && !changes.abstractly.has(name)
 }
@@ -83,7 +85,8 @@ fn add_equality(
     variable: &Name,
     ty: &Ty,
 ) -> Result<(), OutOfMemory>
-    ensures { OnOk result (view out.new ≡ gathered (view out.old) (equality_of (parts_in parts.now) variable.now ty.now)) }
+    ensures { OnOk result (view out.new
+        ≡ gathered (view out.old) (equality_of (parts_in parts.now) variable.now ty.now)) }
 {
     let before = Formula::Free(variable.copy(alloc)?, ty.copy(alloc)?);
     let after = before.substitute_any(alloc, &parts.after)?;
@@ -98,7 +101,8 @@ fn add_equality_row(
     changes: &Changes<'_>,
     variable: &Name,
 ) -> Result<(), OutOfMemory>
-    ensures { OnOk result (view out.new ≡ gathered (view out.old) (equality_at changes.now (parts_in parts.now) variable.now)) }
+    ensures { OnOk result (view out.new
+        ≡ gathered (view out.old) (equality_at changes.now (parts_in parts.now) variable.now)) }
 {
     if is_full(out) {
         return Ok(());
@@ -119,7 +123,8 @@ fn add_each_equality(
     changes: &Changes<'_>,
     variables: &[Name],
 ) -> Result<(), OutOfMemory>
-    ensures { OnOk result (view out.new ≡ gathered (view out.old) (for_each (equality_at changes.now (parts_in parts.now)) variables.now)) }
+    ensures { OnOk result (view out.new
+        ≡ gathered (view out.old) (for_each (equality_at changes.now (parts_in parts.now)) variables.now)) }
 {
     for variable in variables {
         add_equality_row(alloc, out, parts, changes, variable)?;

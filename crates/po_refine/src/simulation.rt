@@ -54,7 +54,8 @@ fn add_value(
     pair: &(Name, Formula),
 ) -> Result<(), OutOfMemory>
     requires { lost.now ≡ parts.now.machine.now.lost }
-    ensures { OnOk result (values.new.items ≡ values.old.items ++ simulated_value parts.now.machine.now (parts_in parts.now) pair.now) }
+    ensures { OnOk result (values.new.items
+        ≡ values.old.items ++ simulated_value parts.now.machine.now (parts_in parts.now) pair.now) }
 {
     if lost.has(&pair.0) {
         return Ok(());
@@ -73,7 +74,8 @@ fn values_of(
     pairs: &[(Name, Formula)],
 ) -> Result<Vec<Formula>, OutOfMemory>
     requires { lost.now ≡ parts.now.machine.now.lost }
-    ensures { IfOk result (λ fs. fs.items ≡ for_each (simulated_value parts.now.machine.now (parts_in parts.now)) pairs.now) }
+    ensures { IfOk result (λ fs.
+        fs.items ≡ for_each (simulated_value parts.now.machine.now (parts_in parts.now)) pairs.now) }
 {
     let mut values = Vec::new(alloc);
     for pair in pairs {
@@ -136,7 +138,8 @@ fn simulated_choice(
     ty: &Ty,
     set: &Formula,
 ) -> Result<Formula, OutOfMemory>
-    ensures { IfOk result (λ f. f ≡ substituted (value_of_primed (parts_in parts.now) (name.now, ty.now) ∷ []) (member (as_term (with_prime (name.now, ty.now))) set.now)) }
+    ensures { IfOk result (λ f. f ≡ substituted (value_of_primed (parts_in parts.now) (name.now, ty.now) ∷ [])
+        (member (as_term (with_prime (name.now, ty.now))) set.now)) }
 {
     let mut pairs = Vec::new(alloc);
     pairs.push(value_of_primed(alloc, parts, name, ty)?)?;
@@ -150,7 +153,8 @@ fn simulated_in(
     name: &Name,
     set: &Formula,
 ) -> Result<Formula, OutOfMemory>
-    ensures { IfOk result (λ f. f ≡ simulated parts.now.machine.now (parts_in parts.now) (Action.ChooseIn name.now set.now)) }
+    ensures { IfOk result (λ f.
+        f ≡ simulated parts.now.machine.now (parts_in parts.now) (Action.ChooseIn name.now set.now)) }
 {
     let integer = Ty::Int;
     match set.type_of(&integer).members() {
@@ -190,7 +194,8 @@ fn add_simulation_row(
     action: &(Label, Action),
 ) -> Result<(), OutOfMemory>
     requires { lost.now ≡ parts.now.machine.now.lost }
-    ensures { OnOk result (view out.new ≡ gathered (view out.old) (simulation_row parts.now.machine.now parts.now.event.now (parts_in parts.now) action.now)) }
+    ensures { OnOk result (view out.new ≡ gathered
+        (view out.old) (simulation_row parts.now.machine.now parts.now.event.now (parts_in parts.now) action.now)) }
 {
     if is_full(out) {
         return Ok(());
@@ -208,7 +213,8 @@ fn add_each_action(
     parts: &SharedParts<'_>,
     actions: &[(Label, Action)],
 ) -> Result<(), OutOfMemory>
-    ensures { OnOk result (view out.new ≡ gathered (view out.old) (for_each (simulation_row parts.now.machine.now parts.now.event.now (parts_in parts.now)) actions.now)) }
+    ensures { OnOk result (view out.new ≡ gathered (view out.old)
+        (for_each (simulation_row parts.now.machine.now parts.now.event.now (parts_in parts.now)) actions.now)) }
 {
     let lost = Names::of_list(alloc, parts.machine.lost.items())?;
     for action in actions {

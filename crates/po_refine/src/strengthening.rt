@@ -37,7 +37,8 @@ fn add_each_guard(
     parts: &SharedParts<'_>,
     guards: &[Labelled],
 ) -> Result<(), OutOfMemory>
-    ensures { OnOk result (view out.new ≡ gathered (view out.old) (for_each (strengthening_row (parts_in parts.now)) guards.now)) }
+    ensures { OnOk result (view out.new
+        ≡ gathered (view out.old) (for_each (strengthening_row (parts_in parts.now)) guards.now)) }
 {
     for guard in guards {
         add_strengthening_row(alloc, out, parts, guard)?;

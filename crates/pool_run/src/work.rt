@@ -107,7 +107,8 @@ pub fn work_beside<R: Threads + Wait + Sync, P: Prover + Sync, G: Gate + Sync>(
 ) -> Result<Tray, Tray>
     requires { (log_of tray ≡ []) × (workers + 1 < 2 ^ 32) }
     ensures served { IfOk result (λ done. (k : ℕ) → 0 < k → k ≤ workers
-        → WasServed chair_of_entry tray_meaning (fair (P.answers prover.now) (P.sure prover.now)) tray.room k [] (log_of done)) }
+        → WasServed chair_of_entry tray_meaning
+        (fair (P.answers prover.now) (P.sure prover.now)) tray.room k [] (log_of done)) }
     ensures no_other { IfOk result (λ done. NoneFrom chair_of_entry (workers + 1) (log_of done)) }
     ensures refused { IfErr result (λ same. same ≡ tray) }
 {

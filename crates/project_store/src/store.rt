@@ -235,9 +235,11 @@ impl<D: Disk> Store<D> {
             (λ reply. IsActed D.told D.images self.old self.new chair event reply)
             (λ fault. IsStopped D.faults self.old self.new chair event fault) }
         ensures base { (self.new.base ≡ self.old.base) × (self.new.count ≡ self.old.count) }
-        ensures any_moment { D.told → LeavesOnly D.clock D.moments self.old.journal.disk self.new.journal.disk (IsBeforeOrAfter self.old.core event) }
+        ensures any_moment { D.told → LeavesOnly D.clock D.moments self.old.journal.disk self.new.journal.disk
+            (IsBeforeOrAfter self.old.core event) }
         ensures later { D.faults self.old.journal.disk ≤ D.faults self.new.journal.disk }
-        ensures build { event ≡ Event.Build → HasFewSteps (map.entries self.old.core.durable.built) (map.entries self.old.core.durable.texts) steps.old steps.new }
+        ensures build { event ≡ Event.Build → HasFewSteps
+            (map.entries self.old.core.durable.built) (map.entries self.old.core.durable.texts) steps.old steps.new }
         ensures steps { (event ≡ Event.Build → ⊥) → steps.new ≡ steps.old }
     {
         let room = MOST_WEIGHT - self.weight;

@@ -12,10 +12,12 @@ ghost use Rattle.raw_print.specs.Back.{AllProper, is_whole};
 
 /// The printed tokens of each predicate or expression that some tokens spell, spell it again, without its places.
 pub fn printed_is_spelled()
-    ensures { (limit : Option ℕ) (h : Hole) (s : List Item) (r : Raw) → is_whole h ≡ true → AllProper s → Spells limit h s r → Spells limit h (raw_tokens r) (unplaced r) }
+    ensures { (limit : Option ℕ) (h : Hole) (s : List Item) (r : Raw) → is_whole h ≡ true → AllProper s
+        → Spells limit h s r → Spells limit h (raw_tokens r) (unplaced r) }
 {}
 
 /// So it is with an action.
 pub fn printed_action_is_spelled()
-    ensures { (limit : Option ℕ) (s : List Item) (a : RawAction) → AllProper s → SpellsAction limit s a → SpellsAction limit (action_tokens a) (unplaced_action a) }
+    ensures { (limit : Option ℕ) (s : List Item) (a : RawAction) → AllProper s → SpellsAction limit s a
+        → SpellsAction limit (action_tokens a) (unplaced_action a) }
 {}

@@ -76,7 +76,8 @@ fn stands_alone(formula: &Raw) -> bool
 
 #[cycle(printing)]
 fn print_node(out: &mut String, op: RawOp, parts: &[Raw]) -> Result<(), OutOfMemory>
-    ensures { OnOk result (string_bytes out.new ≡ string_bytes out.old ++ text_of (node_pieces op (map with_pieces parts.now))) }
+    ensures { OnOk result (string_bytes out.new
+        ≡ string_bytes out.old ++ text_of (node_pieces op (map with_pieces parts.now))) }
 {
     match raw_class_of(op) {
         Symbol::Call(_, _) => {
@@ -96,7 +97,8 @@ fn print_operands(
     sign: &str,
     parts: &[Raw],
 ) -> Result<(), OutOfMemory>
-    ensures { OnOk result (string_bytes out.new ≡ string_bytes out.old ++ text_of (operation_pieces symbol (Token symbol sign.now) (map with_pieces parts.now))) }
+    ensures { OnOk result (string_bytes out.new ≡ string_bytes out.old
+        ++ text_of (operation_pieces symbol (Token symbol sign.now) (map with_pieces parts.now))) }
 {
     match parts {
         [] => print_text(out, sign),
@@ -112,7 +114,8 @@ fn print_operands(
 /// Adds an operator with one operand.
 #[cycle(printing)]
 fn print_unary(out: &mut String, symbol: Symbol, sign: &str, a: &Raw) -> Result<(), OutOfMemory>
-    ensures { OnOk result (string_bytes out.new ≡ string_bytes out.old ++ text_of (unary symbol (Token symbol sign.now) (with_pieces a.now))) }
+    ensures { OnOk result (string_bytes out.new
+        ≡ string_bytes out.old ++ text_of (unary symbol (Token symbol sign.now) (with_pieces a.now))) }
 {
     match symbol {
         Symbol::Converse => {
@@ -129,7 +132,8 @@ fn print_unary(out: &mut String, symbol: Symbol, sign: &str, a: &Raw) -> Result<
 /// Adds what follows the first of two operands.
 #[cycle(printing)]
 fn print_second(out: &mut String, symbol: Symbol, sign: &str, b: &Raw) -> Result<(), OutOfMemory>
-    ensures { OnOk result (string_bytes out.new ≡ string_bytes out.old ++ text_of (second symbol (Token symbol sign.now) (with_pieces b.now))) }
+    ensures { OnOk result (string_bytes out.new
+        ≡ string_bytes out.old ++ text_of (second symbol (Token symbol sign.now) (with_pieces b.now))) }
 {
     match symbol {
         Symbol::Open(Bracket::Round) => print_inside(out, "(", b, ")"),
@@ -146,7 +150,8 @@ fn print_second(out: &mut String, symbol: Symbol, sign: &str, b: &Raw) -> Result
 /// Adds an operand, in parentheses unless it stands alone.
 #[cycle(printing)]
 fn print_operand(out: &mut String, part: &Raw) -> Result<(), OutOfMemory>
-    ensures { OnOk result (string_bytes out.new ≡ string_bytes out.old ++ text_of (operand_pieces (with_pieces part.now))) }
+    ensures { OnOk result (string_bytes out.new
+        ≡ string_bytes out.old ++ text_of (operand_pieces (with_pieces part.now))) }
 {
     if stands_alone(part) {
         print_formula(out, part)
@@ -163,7 +168,8 @@ fn print_inside(
     formula: &Raw,
     closing: &str,
 ) -> Result<(), OutOfMemory>
-    ensures { OnOk result (string_bytes out.new ≡ string_bytes out.old ++ (opening.now ++ (raw_text formula.now ++ closing.now))) }
+    ensures { OnOk result (string_bytes out.new
+        ≡ string_bytes out.old ++ (opening.now ++ (raw_text formula.now ++ closing.now))) }
 {
     out.push_str(opening)?;
     print_formula(out, formula)?;
@@ -179,7 +185,8 @@ fn print_list(
     parts: &[Raw],
     closing: &str,
 ) -> Result<(), OutOfMemory>
-    ensures { OnOk result (string_bytes out.new ≡ string_bytes out.old ++ (opening.now ++ (text_of (separated_pieces (map pieces parts.now)) ++ closing.now))) }
+    ensures { OnOk result (string_bytes out.new
+        ≡ string_bytes out.old ++ (opening.now ++ (text_of (separated_pieces (map pieces parts.now)) ++ closing.now))) }
 {
     out.push_str(opening)?;
     print_separated(out, parts)?;
@@ -190,7 +197,8 @@ fn print_list(
 /// Adds formulas with commas between them.
 #[cycle(printing)]
 pub(crate) fn print_separated(out: &mut String, parts: &[Raw]) -> Result<(), OutOfMemory>
-    ensures { OnOk result (string_bytes out.new ≡ string_bytes out.old ++ text_of (separated_pieces (map pieces parts.now))) }
+    ensures { OnOk result (string_bytes out.new
+        ≡ string_bytes out.old ++ text_of (separated_pieces (map pieces parts.now))) }
 {
     if let Some((first, rest)) = parts.split_first() {
         print_formula(out, first)?;
@@ -210,7 +218,8 @@ fn print_scope(
     names: &[RawBound],
     parts: &[Raw],
 ) -> Result<(), OutOfMemory>
-    ensures { OnOk result (string_bytes out.new ≡ string_bytes out.old ++ text_of (scope binder (map declared names.now) (map with_pieces parts.now))) }
+    ensures { OnOk result (string_bytes out.new
+        ≡ string_bytes out.old ++ text_of (scope binder (map declared names.now) (map with_pieces parts.now))) }
 {
     match binder {
         RawBinder::Plain(_) => {
@@ -233,7 +242,8 @@ fn print_scope(
 /// Adds a predicate, or two parts with a bar between them.
 #[cycle(printing)]
 fn print_body(out: &mut String, parts: &[Raw]) -> Result<(), OutOfMemory>
-    ensures { OnOk result (string_bytes out.new ≡ string_bytes out.old ++ text_of (body_pieces (map with_pieces parts.now))) }
+    ensures { OnOk result (string_bytes out.new
+        ≡ string_bytes out.old ++ text_of (body_pieces (map with_pieces parts.now))) }
 {
     match parts {
         [p] => print_formula(out, p),
@@ -249,7 +259,8 @@ fn print_body(out: &mut String, parts: &[Raw]) -> Result<(), OutOfMemory>
 /// Adds names with their types, with commas between them.
 #[cycle(printing)]
 fn print_declarations(out: &mut String, names: &[RawBound]) -> Result<(), OutOfMemory>
-    ensures { OnOk result (string_bytes out.new ≡ string_bytes out.old ++ text_of (separated_pieces (map declared names.now))) }
+    ensures { OnOk result (string_bytes out.new
+        ≡ string_bytes out.old ++ text_of (separated_pieces (map declared names.now))) }
 {
     if let Some((first, rest)) = names.split_first() {
         print_declaration(out, first)?;
@@ -281,7 +292,8 @@ fn print_pattern<'a>(
     tree: &Raw,
     names: &'a [RawBound],
 ) -> Result<&'a [RawBound], OutOfMemory>
-    ensures text { OnOk result (string_bytes out.new ≡ string_bytes out.old ++ text_of (pattern tree.now (map declared names.now))) }
+    ensures text { OnOk result (string_bytes out.new
+        ≡ string_bytes out.old ++ text_of (pattern tree.now (map declared names.now))) }
     ensures left { IfOk result (λ rest. rest.now ≡ drop (pattern_name_count tree.now) names.now) }
 {
     match tree {
@@ -313,7 +325,8 @@ fn print_side<'a>(
     tree: &Raw,
     names: &'a [RawBound],
 ) -> Result<&'a [RawBound], OutOfMemory>
-    ensures text { OnOk result (string_bytes out.new ≡ string_bytes out.old ++ text_of (side (with_pattern tree.now) (map declared names.now))) }
+    ensures text { OnOk result (string_bytes out.new
+        ≡ string_bytes out.old ++ text_of (side (with_pattern tree.now) (map declared names.now))) }
     ensures left { IfOk result (λ rest. rest.now ≡ drop (pattern_name_count tree.now) names.now) }
 {
     if stands_alone(tree) {

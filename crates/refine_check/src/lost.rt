@@ -189,7 +189,8 @@ fn first_lost_in_types<'a>(
 }
 
 fn add_bound<'a>(bound: &mut Vec<&'a str>, names: &'a BoundNames) -> Result<(), OutOfMemory>
-    ensures { OnOk result (texts bound.new.items ≡ texts bound.old.items ++ bound_names_in (bounds_of names.entry.now)) }
+    ensures { OnOk result (texts bound.new.items
+        ≡ texts bound.old.items ++ bound_names_in (bounds_of names.entry.now)) }
 {
     match names {
         BoundNames::End => Ok(()),
@@ -210,7 +211,8 @@ fn first_lost_in_formula(
     lost: &Names,
     formula: &Raw,
 ) -> Result<Option<Fault>, OutOfMemory>
-    ensures { IfOk result (λ first. first ≡ first_by_place (lost_among component.now lost.now (unknowns_in formula.now))) }
+    ensures { IfOk result (λ first.
+        first ≡ first_by_place (lost_among component.now lost.now (unknowns_in formula.now))) }
 {
     let tree = read(alloc, formula)?;
     let mut bound = Vec::new(alloc);

@@ -71,7 +71,8 @@ fn is_any(same: bool, kept: bool, other: bool) -> bool
 /// Whether an event can't be merged with those before it, whose parameters have these types.
 fn differs(kept: &Names, before: &[Found], types: &Types<'_>, event: &CheckedEvent) -> bool
     requires { HasTypesOf types.now (found_at before.now) }
-    ensures { (reference : Reference) → result ≡ differs_in_merge kept.now (found_at before.now) (reference, event.now) }
+    ensures { (reference : Reference)
+        → result ≡ differs_in_merge kept.now (found_at before.now) (reference, event.now) }
 {
     let params = event.params.items();
     let same = have_same_actions(before, event);

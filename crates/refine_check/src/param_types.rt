@@ -23,7 +23,8 @@ pub(crate) type Types<'a> = BTreeMap<&'a str, Known<'a>>;
 #[tactic(auto, using(crate::proofs::OtherTypes::known_same, crate::proofs::OtherTypes::known_apart))]
 fn with_type<'a>(known: Option<&Known<'a>>, ty: &'a Ty) -> Known<'a>
     ensures { (t : Ty)
-        → is_other_type (Some result) t ≡ (is_other_type (option_copied known.entry) t || not (same_type ty.entry.now t)) }
+        → is_other_type (Some result) t
+        ≡ (is_other_type (option_copied known.entry) t || not (same_type ty.entry.now t)) }
 {
     match known {
         None => Known::One(ty),

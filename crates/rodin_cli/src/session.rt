@@ -82,7 +82,8 @@ pub fn take<L: Ledger>(
     steps: &mut Steps<L>,
 ) -> Result<Option<Ticket>, OutOfMemory>
     requires { session.old.core.next + 1 < 2 ^ 64 }
-    ensures done { IfOk result (λ taken. PerformsInSession session.old (Event.Take None) (take_reply taken) session.new) }
+    ensures done { IfOk result (λ taken.
+        PerformsInSession session.old (Event.Take None) (take_reply taken) session.new) }
     ensures err { OnErr result (IsUnchanged session.old session.new) }
 {
     match perform(session, Event::Take(None), steps) {

@@ -61,7 +61,8 @@ pub(crate) fn build(
     ensures scope { OnOk result (scope.new.items ≡ scope.old.items) }
     ensures next { OnOk result (next.new ≡ next.old + variable_width (bare_of tree.now)) }
     ensures ok { IfOk result (λ f. known types.now (scope_of scope.old.items) (bare_of tree.now) next.old ≡ Some f) }
-    ensures untyped { IsErrOf result BuildFault.Untyped → known types.now (scope_of scope.old.items) (bare_of tree.now) next.old ≡ None }
+    ensures untyped { IsErrOf result BuildFault.Untyped
+        → known types.now (scope_of scope.old.items) (bare_of tree.now) next.old ≡ None }
 {
     match tree {
         Tree::Number(n) => Ok(Formula::Int(*n)),
@@ -95,8 +96,10 @@ fn build_name(
     name: &Name,
     variable: u32,
 ) -> Result<Formula, BuildFault>
-    ensures ok { IfOk result (λ f. known_name name.now (position_of name.now (scope_of scope.now)) (type_at types.now variable) ≡ Some f) }
-    ensures untyped { IsErrOf result BuildFault.Untyped → known_name name.now (position_of name.now (scope_of scope.now)) (type_at types.now variable) ≡ None }
+    ensures ok { IfOk result (λ f.
+        known_name name.now (position_of name.now (scope_of scope.now)) (type_at types.now variable) ≡ Some f) }
+    ensures untyped { IsErrOf result BuildFault.Untyped
+        → known_name name.now (position_of name.now (scope_of scope.now)) (type_at types.now variable) ≡ None }
 {
     let ty = copy_type(alloc, types, variable)?;
     match find_bound(scope, name) {
@@ -141,8 +144,10 @@ fn build_form(
 ) -> Result<Formula, BuildFault>
     ensures scope { OnOk result (scope.new.items ≡ scope.old.items) }
     ensures next { OnOk result (next.new ≡ next.old + (4 + widths (bares_of parts.now))) }
-    ensures ok { IfOk result (λ f. known types.now (scope_of scope.old.items) (Form op (bares_of parts.now)) next.old ≡ Some f) }
-    ensures untyped { IsErrOf result BuildFault.Untyped → known types.now (scope_of scope.old.items) (Form op (bares_of parts.now)) next.old ≡ None }
+    ensures ok { IfOk result (λ f.
+        known types.now (scope_of scope.old.items) (Form op (bares_of parts.now)) next.old ≡ Some f) }
+    ensures untyped { IsErrOf result BuildFault.Untyped
+        → known types.now (scope_of scope.old.items) (Form op (bares_of parts.now)) next.old ≡ None }
 {
     let first = take_variables(next, 4)?;
     let term = result_term(alloc, op, first)?;
@@ -161,8 +166,10 @@ fn build_partition(
 ) -> Result<Formula, BuildFault>
     ensures scope { OnOk result (scope.new.items ≡ scope.old.items) }
     ensures next { OnOk result (next.new ≡ next.old + (4 + widths (bares_of parts.now))) }
-    ensures ok { IfOk result (λ f. known types.now (scope_of scope.old.items) (Partition (bares_of parts.now)) next.old ≡ Some f) }
-    ensures untyped { IsErrOf result BuildFault.Untyped → known types.now (scope_of scope.old.items) (Partition (bares_of parts.now)) next.old ≡ None }
+    ensures ok { IfOk result (λ f.
+        known types.now (scope_of scope.old.items) (Partition (bares_of parts.now)) next.old ≡ Some f) }
+    ensures untyped { IsErrOf result BuildFault.Untyped
+        → known types.now (scope_of scope.old.items) (Partition (bares_of parts.now)) next.old ≡ None }
 {
     take_variables(next, 4)?;
     let parts = build_all(alloc, types, scope, next, parts)?;
@@ -193,7 +200,8 @@ fn add_name_types(
     found: &mut Vec<Ty>,
 ) -> Result<(), BuildFault>
     requires { first + name_count (bounds_of names.now) < 2 ^ 32 }
-    ensures ok { OnOk result (appended_to found.old.items (known_names types.now first (bounds_of names.now)) ≡ Some found.new.items) }
+    ensures ok { OnOk result (appended_to found.old.items (known_names types.now first (bounds_of names.now))
+        ≡ Some found.new.items) }
     ensures untyped { IsErrOf result BuildFault.Untyped → known_names types.now first (bounds_of names.now) ≡ None }
 {
     match names {
@@ -219,8 +227,10 @@ fn build_all(
 ) -> Result<Vec<Formula>, BuildFault>
     ensures scope { OnOk result (scope.new.items ≡ scope.old.items) }
     ensures next { OnOk result (next.new ≡ next.old + widths (bares_of parts.now)) }
-    ensures ok { IfOk result (λ v. all_known types.now (scope_of scope.old.items) (bares_of parts.now) next.old ≡ Some v.items) }
-    ensures untyped { IsErrOf result BuildFault.Untyped → all_known types.now (scope_of scope.old.items) (bares_of parts.now) next.old ≡ None }
+    ensures ok { IfOk result (λ v.
+        all_known types.now (scope_of scope.old.items) (bares_of parts.now) next.old ≡ Some v.items) }
+    ensures untyped { IsErrOf result BuildFault.Untyped
+        → all_known types.now (scope_of scope.old.items) (bares_of parts.now) next.old ≡ None }
 {
     let mut built = Vec::new(alloc);
     build_onto(alloc, types, scope, next, parts, &mut built)?;
@@ -238,8 +248,10 @@ fn build_onto(
 ) -> Result<(), BuildFault>
     ensures scope { OnOk result (scope.new.items ≡ scope.old.items) }
     ensures next { OnOk result (next.new ≡ next.old + widths (bares_of parts.now)) }
-    ensures ok { OnOk result (appended_to built.old.items (all_known types.now (scope_of scope.old.items) (bares_of parts.now) next.old) ≡ Some built.new.items) }
-    ensures untyped { IsErrOf result BuildFault.Untyped → all_known types.now (scope_of scope.old.items) (bares_of parts.now) next.old ≡ None }
+    ensures ok { OnOk result (appended_to built.old.items
+        (all_known types.now (scope_of scope.old.items) (bares_of parts.now) next.old) ≡ Some built.new.items) }
+    ensures untyped { IsErrOf result BuildFault.Untyped
+        → all_known types.now (scope_of scope.old.items) (bares_of parts.now) next.old ≡ None }
 {
     match parts {
         Trees::End => Ok(()),

@@ -35,7 +35,8 @@ pub(crate) fn take_variables(next: &mut u32, count: u32) -> Result<u32, OutOfMem
 }
 
 fn add(equations: &mut Vec<Equation>, left: Term, right: Term) -> Result<(), OutOfMemory>
-    ensures { OnOk result (equations_of equations.new.items ≡ equations_of equations.old.items ++ (term_of left, term_of right) ∷ []) }
+    ensures { OnOk result (equations_of equations.new.items
+        ≡ equations_of equations.old.items ++ (term_of left, term_of right) ∷ []) }
 {
     equations.push(Equation { left, right })?;
     Ok(())
@@ -66,7 +67,8 @@ fn add_type(
     written: &Tree,
     term: Term,
 ) -> Result<(), OutOfMemory>
-    ensures { OnOk result (equations_of equations.new.items ≡ equations_of equations.old.items ++ type_equations (denoted env.now (scope_of scope.now) (bare_of written.now)) (term_of term)) }
+    ensures { OnOk result (equations_of equations.new.items ≡ equations_of equations.old.items
+        ++ type_equations (denoted env.now (scope_of scope.now) (bare_of written.now)) (term_of term)) }
 {
     match denote(alloc, env, scope, written)? {
         Some(ty) => add(equations, Term::of_type(alloc, &ty)?, term),
@@ -82,7 +84,8 @@ pub(crate) fn bind_names(
     first: u32,
 ) -> Result<(), OutOfMemory>
     requires { first + name_count (bounds_of names.now) < 2 ^ 32 }
-    ensures scope { OnOk result (scope_of scope.new.items ≡ with_variables (bounds_of names.now) first (scope_of scope.old.items)) }
+    ensures scope { OnOk result (scope_of scope.new.items
+        ≡ with_variables (bounds_of names.now) first (scope_of scope.old.items)) }
     ensures kept { OnOk result (take (length scope.old.items) scope.new.items ≡ scope.old.items) }
 {
     match names {
@@ -141,7 +144,8 @@ fn add_bound_types(
     first: u32,
 ) -> Result<(), OutOfMemory>
     requires { first + name_count (bounds_of names.now) < 2 ^ 32 }
-    ensures { OnOk result (equations_of equations.new.items ≡ equations_of equations.old.items ++ bound_equations env.now (scope_of scope.now) (bounds_of names.now) first) }
+    ensures { OnOk result (equations_of equations.new.items ≡ equations_of equations.old.items
+        ++ bound_equations env.now (scope_of scope.now) (bounds_of names.now) first) }
 {
     match names {
         BoundNames::End => Ok(()),
@@ -172,7 +176,9 @@ fn collect_name(
 ) -> Result<(), OutOfMemory>
     requires { length wanted.now < 2 ^ 32 }
     ensures next { OnOk result (next.new ≡ next.old + 1) }
-    ensures equations { OnOk result (equations_of equations.new.items ≡ equations_of equations.old.items ++ name_equations (position_of name.now (scope_of scope.now)) (position_of name.now (free_scope env.now wanted.now)) next.old (term_of expected)) }
+    ensures equations { OnOk result (equations_of equations.new.items
+        ≡ equations_of equations.old.items ++ name_equations (position_of name.now (scope_of scope.now))
+        (position_of name.now (free_scope env.now wanted.now)) next.old (term_of expected)) }
 {
     let variable = take_variables(next, 1)?;
     match name_term(alloc, env, wanted, scope, name)? {
@@ -199,7 +205,9 @@ pub(crate) fn collect(
     requires { length wanted.now < 2 ^ 32 }
     ensures scope { OnOk result (scope.new.items ≡ scope.old.items) }
     ensures next { OnOk result (next.new ≡ next.old + variable_width (bare_of tree.now)) }
-    ensures equations { OnOk result (equations_of equations.new.items ≡ equations_of equations.old.items ++ generated env.now (scope_of scope.old.items) (free_scope env.now wanted.now) (bare_of tree.now) next.old (term_of expected)) }
+    ensures equations { OnOk result (equations_of equations.new.items
+        ≡ equations_of equations.old.items ++ generated env.now
+        (scope_of scope.old.items) (free_scope env.now wanted.now) (bare_of tree.now) next.old (term_of expected)) }
 {
     match tree {
         Tree::Number(n) => {
@@ -249,7 +257,10 @@ fn collect_form(
     requires { length wanted.now < 2 ^ 32 }
     ensures scope { OnOk result (scope.new.items ≡ scope.old.items) }
     ensures next { OnOk result (next.new ≡ next.old + (4 + widths (bares_of parts.now))) }
-    ensures equations { OnOk result (equations_of equations.new.items ≡ equations_of equations.old.items ++ (instance_from next.old (result_scheme (row_of op)), term_of expected) ∷ all_generated env.now (scope_of scope.old.items) (free_scope env.now wanted.now) (bares_of parts.now) (next.old + 4) (map (instance_from next.old) (operand_schemes (row_of op) (part_count (bares_of parts.now))))) }
+    ensures equations { OnOk result (equations_of equations.new.items
+        ≡ equations_of equations.old.items ++ (instance_from next.old (result_scheme (row_of op)), term_of expected)
+        ∷ all_generated env.now (scope_of scope.old.items) (free_scope env.now wanted.now) (bares_of parts.now)
+        (next.old + 4) (map (instance_from next.old) (operand_schemes (row_of op) (part_count (bares_of parts.now))))) }
 {
     let first = take_variables(next, 4)?;
     add(equations, result_term(alloc, op, first)?, expected)?;
@@ -271,7 +282,10 @@ fn collect_partition(
     requires { length wanted.now < 2 ^ 32 }
     ensures scope { OnOk result (scope.new.items ≡ scope.old.items) }
     ensures next { OnOk result (next.new ≡ next.old + (4 + widths (bares_of parts.now))) }
-    ensures equations { OnOk result (equations_of equations.new.items ≡ equations_of equations.old.items ++ (predicates, term_of expected) ∷ all_generated env.now (scope_of scope.old.items) (free_scope env.now wanted.now) (bares_of parts.now) (next.old + 4) (map (instance_from next.old) (partition_schemes (part_count (bares_of parts.now))))) }
+    ensures equations { OnOk result (equations_of equations.new.items
+        ≡ equations_of equations.old.items ++ (predicates, term_of expected)
+        ∷ all_generated env.now (scope_of scope.old.items) (free_scope env.now wanted.now) (bares_of parts.now)
+        (next.old + 4) (map (instance_from next.old) (partition_schemes (part_count (bares_of parts.now))))) }
 {
     let first = take_variables(next, 4)?;
     add(equations, Term::Truth, expected)?;
@@ -290,11 +304,14 @@ fn open_binding(
     names: &BoundNames,
     expected: Term,
 ) -> Result<Vec<Term>, OutOfMemory>
-    ensures scope { OnOk result (scope_of scope.new.items ≡ with_variables (bounds_of names.now) (next.old + 4) (scope_of scope.old.items)) }
+    ensures scope { OnOk result (scope_of scope.new.items
+        ≡ with_variables (bounds_of names.now) (next.old + 4) (scope_of scope.old.items)) }
     ensures kept { OnOk result (take (length scope.old.items) scope.new.items ≡ scope.old.items) }
     ensures next { OnOk result (next.new ≡ next.old + 4 + name_count (bounds_of names.now)) }
     ensures operands { IfOk result (λ v. open_terms v.items ≡ map (instance_from next.old) (part_schemes binder)) }
-    ensures equations { OnOk result (equations_of equations.new.items ≡ equations_of equations.old.items ++ binder_equations env.now (scope_of scope.old.items) binder (bounds_of names.now) next.old (term_of expected)) }
+    ensures equations { OnOk result (equations_of equations.new.items
+        ≡ equations_of equations.old.items ++ binder_equations env.now
+        (scope_of scope.old.items) binder (bounds_of names.now) next.old (term_of expected)) }
 {
     let first = take_variables(next, 4)?;
     add(equations, binder_term(alloc, binder, first)?, expected)?;
@@ -335,7 +352,9 @@ fn collect_all(
     requires { length wanted.now < 2 ^ 32 }
     ensures scope { OnOk result (scope.new.items ≡ scope.old.items) }
     ensures next { OnOk result (next.new ≡ next.old + widths (bares_of parts.now)) }
-    ensures equations { OnOk result (equations_of equations.new.items ≡ equations_of equations.old.items ++ all_generated env.now (scope_of scope.old.items) (free_scope env.now wanted.now) (bares_of parts.now) next.old (open_terms expected.now)) }
+    ensures equations { OnOk result (equations_of equations.new.items
+        ≡ equations_of equations.old.items ++ all_generated env.now (scope_of scope.old.items)
+        (free_scope env.now wanted.now) (bares_of parts.now) next.old (open_terms expected.now)) }
 {
     match parts {
         Trees::End => add_condition(equations, expected.is_empty()),

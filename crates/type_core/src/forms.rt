@@ -125,7 +125,8 @@ fn lambda_of(
     condition: Tree,
     rest: Trees,
 ) -> Result<Tree, OutOfMemory>
-    ensures { IfOk result (λ t. bare_of t ≡ core_of_lambda (bounds_of names) (more (bare_of pattern) (more (bare_of condition) (bares_of rest)))) }
+    ensures { IfOk result (λ t. bare_of t
+        ≡ core_of_lambda (bounds_of names) (more (bare_of pattern) (more (bare_of condition) (bares_of rest)))) }
 {
     match rest {
         Trees::End => {
@@ -151,7 +152,8 @@ fn make_lambda(
     condition: Tree,
     value: Tree,
 ) -> Result<Tree, OutOfMemory>
-    ensures { IfOk result (λ t. bare_of t ≡ core_of_lambda (bounds_of names) (more (bare_of pattern) (two (bare_of condition) (bare_of value)))) }
+    ensures { IfOk result (λ t. bare_of t
+        ≡ core_of_lambda (bounds_of names) (more (bare_of pattern) (two (bare_of condition) (bare_of value)))) }
 {
     let member = form(alloc, Op::Maplet, pair(alloc, pattern, value)?)?;
     binding(

@@ -113,7 +113,8 @@ fn collect_binder(
     parts: &[Raw],
     found: &mut Vec<Name>,
 ) -> Result<(), OutOfMemory>
-    ensures { OnOk result (found.new.items ≡ found.old.items ++ free_in_binder binder bound.now (map free_names parts.now)) }
+    ensures { OnOk result (found.new.items
+        ≡ found.old.items ++ free_in_binder binder bound.now (map free_names parts.now)) }
 {
     match binder {
         RawBinder::Implicit(_) => match parts {

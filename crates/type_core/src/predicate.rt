@@ -118,12 +118,16 @@ fn type_formula(
     raw: &Raw,
     expected: Option<&Ty>,
 ) -> Result<Formula, TypeFault>
-    ensures typed { IfOk result (λ f. IsTheFormula env.now wanted.now (core_form raw.now) (option_copied expected.entry) f) }
+    ensures typed { IfOk result (λ f.
+        IsTheFormula env.now wanted.now (core_form raw.now) (option_copied expected.entry) f) }
     ensures well { IfOk result (λ f. IsTrue (is_well f)) }
     ensures is_of_type { IfOk result (λ f. IsExpected (option_copied expected.entry) (type_of f)) }
-    ensures clash { IsErrOf result TypeFault.Clash → HasNoFormula env.now wanted.now (core_form raw.now) (option_copied expected.entry) }
-    ensures untyped { IsErrOf result TypeFault.Untyped → HasTwoFormulas env.now wanted.now (core_form raw.now) (option_copied expected.entry) }
-    ensures unknown { (name : List ℕ) (place : ℕ) → IsErrOf result (TypeFault.Unknown name place) → unknown_in env.now wanted.now raw.now ≡ Some (name, place) }
+    ensures clash { IsErrOf result TypeFault.Clash
+        → HasNoFormula env.now wanted.now (core_form raw.now) (option_copied expected.entry) }
+    ensures untyped { IsErrOf result TypeFault.Untyped
+        → HasTwoFormulas env.now wanted.now (core_form raw.now) (option_copied expected.entry) }
+    ensures unknown { (name : List ℕ) (place : ℕ) → IsErrOf result (TypeFault.Unknown name place)
+        → unknown_in env.now wanted.now raw.now ≡ Some (name, place) }
     ensures known { IsOk result → unknown_in env.now wanted.now raw.now ≡ None }
     ensures known_clash { IsErrOf result TypeFault.Clash → unknown_in env.now wanted.now raw.now ≡ None }
     ensures known_untyped { IsErrOf result TypeFault.Untyped → unknown_in env.now wanted.now raw.now ≡ None }
@@ -207,7 +211,9 @@ fn equations_of_tree(
     expected: Option<&Ty>,
 ) -> Result<Vec<Equation>, OutOfMemory>
     requires { length wanted.now + 1 < 2 ^ 32 }
-    ensures { IfOk result (λ es. equations_of es.items ≡ generated env.now [] (free_scope env.now wanted.now) (bare_of tree.now) (suc (length wanted.now)) (expected_term (option_copied expected.entry) (length wanted.now))) }
+    ensures { IfOk result (λ es.
+        equations_of es.items ≡ generated env.now [] (free_scope env.now wanted.now) (bare_of tree.now)
+        (suc (length wanted.now)) (expected_term (option_copied expected.entry) (length wanted.now))) }
 {
     let mut equations = Vec::new(alloc);
     let mut scope = Vec::new(alloc);

@@ -83,7 +83,8 @@ pub(crate) fn name_term(
     name: &Name,
 ) -> Result<Option<Term>, OutOfMemory>
     requires { length wanted.now < 2 ^ 32 }
-    ensures { IfOk result (λ t. term_in t ≡ found_of (nearest (position_of name.now (scope_of scope.now)) (position_of name.now (free_scope env.now wanted.now)))) }
+    ensures { IfOk result (λ t. term_in t ≡ found_of
+        (nearest (position_of name.now (scope_of scope.now)) (position_of name.now (free_scope env.now wanted.now)))) }
 {
     match find_bound(scope, name) {
         None => find_free(alloc, env, wanted, name),

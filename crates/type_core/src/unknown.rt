@@ -58,7 +58,8 @@ pub(crate) fn search(
     found: &mut Option<(Name, u32)>,
 ) -> Result<(), OutOfMemory>
     ensures bound { OnOk result (bound.new.items ≡ bound.old.items) }
-    ensures found { OnOk result (found.new ≡ fold earlier_name found.old (unknowns env.now wanted.now bound.old.items (bare_of tree.now))) }
+    ensures found { OnOk result (found.new
+        ≡ fold earlier_name found.old (unknowns env.now wanted.now bound.old.items (bare_of tree.now))) }
 {
     match tree {
         Tree::Number(_) => Ok(()),
@@ -96,7 +97,8 @@ fn search_all(
     found: &mut Option<(Name, u32)>,
 ) -> Result<(), OutOfMemory>
     ensures bound { OnOk result (bound.new.items ≡ bound.old.items) }
-    ensures found { OnOk result (found.new ≡ fold earlier_name found.old (all_unknowns env.now wanted.now bound.old.items (bares_of parts.now))) }
+    ensures found { OnOk result (found.new
+        ≡ fold earlier_name found.old (all_unknowns env.now wanted.now bound.old.items (bares_of parts.now))) }
 {
     match parts {
         Trees::End => Ok(()),
@@ -118,7 +120,8 @@ fn search_types(
     found: &mut Option<(Name, u32)>,
 ) -> Result<(), OutOfMemory>
     ensures bound { OnOk result (bound.new.items ≡ bound.old.items) }
-    ensures found { OnOk result (found.new ≡ fold earlier_name found.old (type_unknowns env.now wanted.now bound.old.items (bounds_of names.now))) }
+    ensures found { OnOk result (found.new
+        ≡ fold earlier_name found.old (type_unknowns env.now wanted.now bound.old.items (bounds_of names.now))) }
 {
     match names {
         BoundNames::End => Ok(()),

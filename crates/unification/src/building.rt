@@ -74,7 +74,8 @@ pub(crate) fn place_equations(
 ) -> Result<Vec<(usize, usize)>, OutOfMemory>
     requires graph { IsGraph nodes.old.items }
     requires room { variables_in (equations_of equations.items) ≤ vec_len nodes.old }
-    ensures { IfOk result (λ pairs. BuildsGraph (equations_of equations.items) nodes.old.items nodes.new.items pairs.items) }
+    ensures { IfOk result (λ pairs.
+        BuildsGraph (equations_of equations.items) nodes.old.items nodes.new.items pairs.items) }
 {
     let mut pending = equations;
     let mut pairs = Vec::new(alloc);
