@@ -15,6 +15,43 @@ use formula_core::{List, Name, Op, Raw, RawBinder, RawBound, RawOp, Ref};
 use math_grammar::{Binding, Bracket, Call, Grade, Hole, Level, Shape, Symbol};
 use std::alloc::Global;
 
+/// A form with bound names, and the byte of its first token.
+#[derive(Clone, Copy)]
+struct Begun {
+    binding: Binding,
+    place: u32,
+}
+
+/// A form of an operator and the parts in its parentheses, and the byte of its first token.
+#[derive(Clone, Copy)]
+struct Called {
+    call: Call,
+    op: RawOp,
+    place: u32,
+}
+
+/// A function or a relation, and the bracket and the operator behind it.
+#[derive(Drop)]
+struct Suffix {
+    bracket: Bracket,
+    op: RawOp,
+    function: Raw,
+}
+
+/// A name whose type is read, and the left side of the type if that is read too.
+#[derive(Drop)]
+struct Named {
+    name: Ref,
+    side: Option<Raw>,
+}
+
+/// A part, and the sign behind it.
+#[derive(Drop)]
+struct Part {
+    formula: Raw,
+    symbol: Symbol,
+}
+
 /// What follows the names of a form.
 fn body_of(binding: Binding, names: List<RawBound>, before: List<Raw>, place: u32) -> Frame
     ensures { result ≡ binding_body binding names before place }
@@ -62,14 +99,15 @@ fn then_want(stack: Vec<Frame>, frame: Option<Frame>) -> Result<Phase, StepFault
 fn close_names(
     alloc: Global,
     stack: Vec<Frame>,
-    binding: Binding,
+    begun: Begun,
     before: List<RawBound>,
-    place: u32,
-    formula: Raw,
-    symbol: Symbol,
+    part: Part,
 ) -> Result<Phase, StepFault>
-    ensures { Steps result (after_name (forms stack.items) binding before place symbol (plain_name_of formula)) }
+    ensures { Steps result (after_name (forms stack.items) begun.binding before
+        begun.place part.symbol (plain_name_of part.formula)) }
 {
+    let Begun { binding, place } = begun;
+    let Part { formula, symbol } = part;
     let Some(Ref { name, place: at }) = name_of(formula) else {
         return Err(StepFault::Refused);
     };
@@ -86,20 +124,22 @@ fn close_names(
 
 fn second_side(
     stack: Vec<Frame>,
-    binding: Binding,
+    begun: Begun,
     before: List<RawBound>,
-    name: Ref,
-    side: Option<Raw>,
+    named: Named,
     formula: Raw,
-    place: u32,
 ) -> Result<Phase, StepFault>
-    ensures { Steps result (second_side (forms stack.items) binding before name.name name.place side formula place) }
+    ensures { Steps result (second_side (forms stack.items) begun.binding before
+        named.name.name named.name.place named.side formula begun.place) }
 {
+    let Begun { binding, place } = begun;
+    let Named { name, side } = named;
+    let Ref { name, place: at } = name;
     match side {
         Some(_) => Err(StepFault::Refused),
         None => open(
             stack,
-            Frame::TypeAfter(binding, before, name.name, name.place, Some(formula), place),
+            Frame::TypeAfter(binding, before, name, at, Some(formula), place),
         ),
     }
 }
@@ -107,22 +147,23 @@ fn second_side(
 fn close_type(
     alloc: Global,
     stack: Vec<Frame>,
-    binding: Binding,
+    begun: Begun,
     before: List<RawBound>,
-    name: Ref,
-    side: Option<Raw>,
-    formula: Raw,
-    place: u32,
-    symbol: Symbol,
+    named: Named,
+    part: Part,
 ) -> Result<Phase, StepFault>
-    ensures { Steps result
-        (after_type (forms stack.items) binding before name.name name.place side formula place symbol) }
+    ensures { Steps result (after_type (forms stack.items) begun.binding before
+        named.name.name named.name.place named.side part.formula begun.place part.symbol) }
 {
+    let Part { formula, symbol } = part;
     if symbol.is_typing() {
-        second_side(stack, binding, before, name, side, formula, place)
+        second_side(stack, begun, before, named, formula)
     } else {
+        let Begun { binding, place } = begun;
+        let Named { name, side } = named;
+        let Ref { name, place: at } = name;
         let ty = type_with(alloc, side, formula)?;
-        let names = with(before, typed(alloc, name.name, name.place, ty)?)?;
+        let names = with(before, typed(alloc, name, at, ty)?)?;
         then_want(stack, after_names(alloc, binding, names, place, symbol))
     }
 }
@@ -131,17 +172,17 @@ fn names_next(
     alloc: Global,
     are_names: bool,
     stack: Vec<Frame>,
-    binding: Binding,
+    begun: Begun,
     all: List<Raw>,
-    place: u32,
     symbol: Symbol,
 ) -> Result<Phase, StepFault>
-    ensures { Steps result
-        (cond are_names (names_next (forms stack.items) binding (bounds_from all) place symbol) None) }
+    ensures { Steps result (cond are_names
+        (names_next (forms stack.items) begun.binding (bounds_from all) begun.place symbol) None) }
 {
     if !are_names {
         return Err(StepFault::Refused);
     }
+    let Begun { binding, place } = begun;
     match bounds_of(alloc, all)? {
         Some(names) => then_want(stack, after_names(alloc, binding, names, place, symbol)),
         None => Err(StepFault::Refused),
@@ -152,18 +193,17 @@ fn type_next(
     alloc: Global,
     are_names: bool,
     stack: Vec<Frame>,
-    binding: Binding,
+    begun: Begun,
     before: List<Raw>,
     formula: Raw,
-    place: u32,
 ) -> Result<Phase, StepFault>
-    ensures { Steps result
-        (cond are_names
-        (type_next (forms stack.items) binding (bounds_from before) (typed_name_of formula) place) None) }
+    ensures { Steps result (cond are_names (type_next (forms stack.items) begun.binding
+        (bounds_from before) (typed_name_of formula) begun.place) None) }
 {
     if !are_names {
         return Err(StepFault::Refused);
     }
+    let Begun { binding, place } = begun;
     match (bounds_of(alloc, before)?, typed_name_of(formula)) {
         (
             Some(before),
@@ -185,13 +225,13 @@ fn type_next(
 fn shape_next(
     alloc: Global,
     stack: Vec<Frame>,
-    binding: Binding,
+    begun: Begun,
     before: List<Raw>,
     formula: Raw,
-    place: u32,
 ) -> Result<Phase, StepFault>
-    ensures { Steps result (shape_next (forms stack.items) binding before formula place) }
+    ensures { Steps result (shape_next (forms stack.items) begun.binding before formula begun.place) }
 {
+    let Begun { binding, place } = begun;
     if !before.items().is_empty() {
         return Err(StepFault::Refused);
     }
@@ -213,22 +253,23 @@ fn shape_next(
 fn close_listed(
     alloc: Global,
     stack: Vec<Frame>,
-    binding: Binding,
+    begun: Begun,
     are_names: bool,
     before: List<Raw>,
-    place: u32,
-    formula: Raw,
-    symbol: Symbol,
+    part: Part,
 ) -> Result<Phase, StepFault>
-    ensures { Steps result (after_member (forms stack.items) binding are_names before place formula symbol) }
+    ensures { Steps result (after_member (forms stack.items) begun.binding are_names
+        before begun.place part.formula part.symbol) }
 {
+    let Begun { binding, place } = begun;
+    let Part { formula, symbol } = part;
     match symbol {
         Symbol::Comma => {
             let all = with(before, formula)?;
             if binding.is_closed() {
                 open(stack, Frame::Listed(binding, are_names, all, place))
             } else {
-                names_next(alloc, are_names, stack, binding, all, place, symbol)
+                names_next(alloc, are_names, stack, begun, all, symbol)
             }
         }
         Symbol::Close(Bracket::Brace) => {
@@ -240,13 +281,13 @@ fn close_listed(
                 node(RawOp::Plain(Op::SetExtension), all, place),
             )
         }
-        Symbol::Bar => shape_next(alloc, stack, binding, before, formula, place),
+        Symbol::Bar => shape_next(alloc, stack, begun, before, formula),
         Symbol::Dot => {
             let all = with(before, formula)?;
-            names_next(alloc, are_names, stack, binding, all, place, symbol)
+            names_next(alloc, are_names, stack, begun, all, symbol)
         }
         Symbol::Infix(Level::Typing, _) => {
-            type_next(alloc, are_names, stack, binding, before, formula, place)
+            type_next(alloc, are_names, stack, begun, before, formula)
         }
         _ => Err(StepFault::Refused),
     }
@@ -254,18 +295,18 @@ fn close_listed(
 
 fn close_given(
     stack: Vec<Frame>,
-    binding: Binding,
+    begun: Begun,
     names: List<RawBound>,
     parts: List<Raw>,
-    place: u32,
     grade: Grade,
-    formula: Raw,
-    symbol: Symbol,
+    part: Part,
 ) -> Result<Phase, StepFault>
-    ensures { Steps result
-        (closed None (forms stack.items) (frame.Given binding names parts place) grade formula symbol) }
+    ensures { Steps result (closed None (forms stack.items)
+        (frame.Given begun.binding names parts begun.place) grade part.formula part.symbol) }
 {
     let _ = grade;
+    let Begun { binding, place } = begun;
+    let Part { formula, symbol } = part;
     match symbol {
         Symbol::Bar => {
             let parts = with(parts, formula)?;
@@ -288,33 +329,33 @@ fn close_given(
 /// A form with bound names, with its last part.
 fn whole(
     stack: Vec<Frame>,
-    binding: Binding,
+    begun: Begun,
     binder: RawBinder,
     names: List<RawBound>,
     parts: List<Raw>,
-    place: u32,
     formula: Raw,
 ) -> Result<Phase, StepFault>
-    ensures { Steps result (Some
-        (have (forms stack.items) (binding_grade binding) (raw.Bind binder names (parts ++ formula ∷ []) place))) }
+    ensures { Steps result (Some (have (forms stack.items) (binding_grade begun.binding)
+        (raw.Bind binder names (parts ++ formula ∷ []) begun.place))) }
 {
+    let Begun { binding, place } = begun;
     let parts = with(parts, formula)?;
     Ok(Phase::Have(stack, binding.grade(), bind(binder, names, parts, place)))
 }
 
 fn close_parts(
     stack: Vec<Frame>,
-    call: Call,
-    op: RawOp,
+    called: Called,
     before: List<Raw>,
-    place: u32,
     grade: Grade,
-    formula: Raw,
-    symbol: Symbol,
+    part: Part,
 ) -> Result<Phase, StepFault>
-    ensures { Steps result (closed None (forms stack.items) (frame.Parts call op before place) grade formula symbol) }
+    ensures { Steps result (closed None (forms stack.items)
+        (frame.Parts called.call called.op before called.place) grade part.formula part.symbol) }
 {
     let _ = grade;
+    let Called { call, op, place } = called;
+    let Part { formula, symbol } = part;
     match symbol {
         Symbol::Close(Bracket::Round) => {
             let parts = with(before, formula)?;
@@ -332,16 +373,20 @@ fn close_parts(
 fn close_suffix(
     alloc: Global,
     stack: Vec<Frame>,
-    bracket: Bracket,
-    op: RawOp,
-    function: Raw,
+    suffix: Suffix,
     grade: Grade,
-    formula: Raw,
-    symbol: Symbol,
+    part: Part,
 ) -> Result<Phase, StepFault>
-    ensures { Steps result (closed None (forms stack.items) (frame.Suffixed bracket op function) grade formula symbol) }
+    ensures { Steps result (closed None (forms stack.items)
+        (frame.Suffixed suffix.bracket suffix.op suffix.function) grade part.formula part.symbol) }
 {
     let _ = grade;
+    let Suffix {
+        bracket,
+        op,
+        function,
+    } = suffix;
+    let Part { formula, symbol } = part;
     let closes = match (bracket, symbol) {
         (Bracket::Round, Symbol::Close(Bracket::Round)) => true,
         (Bracket::Square, Symbol::Close(Bracket::Square)) => true,
@@ -437,32 +482,47 @@ pub fn close(
             _ => Err(StepFault::Refused),
         },
         Frame::Parts(call, op, before, place) => {
-            close_parts(stack, call, op, before, place, grade, formula, symbol)
+            let called = Called { call, op, place };
+            close_parts(stack, called, before, grade, Part { formula, symbol })
         }
         Frame::Suffixed(bracket, op, function) => {
-            close_suffix(alloc, stack, bracket, op, function, grade, formula, symbol)
+            let suffix = Suffix {
+                bracket,
+                op,
+                function,
+            };
+            close_suffix(alloc, stack, suffix, grade, Part { formula, symbol })
         }
         Frame::Names(binding, before, place) => {
-            close_names(alloc, stack, binding, before, place, formula, symbol)
+            let begun = Begun { binding, place };
+            close_names(alloc, stack, begun, before, Part { formula, symbol })
         }
         Frame::TypeAfter(binding, before, name, at, side, place) => {
+            let begun = Begun { binding, place };
             let name = Ref { name, place: at };
-            close_type(
-                alloc, stack, binding, before, name, side, formula, place, symbol,
-            )
+            let named = Named { name, side };
+            close_type(alloc, stack, begun, before, named, Part { formula, symbol })
         }
         Frame::Listed(binding, are_names, before, place) => {
+            let begun = Begun { binding, place };
             let are_names = are_names && grade.is_declaration();
             close_listed(
-                alloc, stack, binding, are_names, before, place, formula, symbol,
+                alloc,
+                stack,
+                begun,
+                are_names,
+                before,
+                Part { formula, symbol },
             )
         }
         Frame::Given(binding, names, parts, place) => {
-            close_given(stack, binding, names, parts, place, grade, formula, symbol)
+            let begun = Begun { binding, place };
+            close_given(stack, begun, names, parts, grade, Part { formula, symbol })
         }
         Frame::Last(binding, _, binder, names, parts, place) => match symbol {
             Symbol::Close(Bracket::Brace) => {
-                whole(stack, binding, binder, names, parts, place, formula)
+                let begun = Begun { binding, place };
+                whole(stack, begun, binder, names, parts, formula)
             }
             _ => Err(StepFault::Refused),
         },
