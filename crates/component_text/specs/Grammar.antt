@@ -94,7 +94,7 @@ LinesBehind w = Choice (is_word_mark w) Lines (Nothing [])
 
 -- name ["extends" name {name}] ["sets" {name}] ["constants" {name}] ["axioms" {line}]
 abbrev pub context_of : (Ref × (List Ref × (List Ref × (List Ref × List RawLabelled)))) → RawComponent
-context_of p = Context p.0 p.1.0 p.1.1.0 p.1.1.1.0 p.1.1.1.1
+context_of (name, (extends, (sets, (constants, axioms)))) = Context name extends sets constants axioms
 
 abbrev pub ContextBody : Bounds → List Mark → RawComponent → List Mark → Type 0
 ContextBody =

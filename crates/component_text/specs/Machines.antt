@@ -87,15 +87,15 @@ abbrev pub EventClauses : Type 0
 EventClauses = ℕ × (Ref × (Abstracts × (List Ref × (List RawLabelled × (List RawLabelled × (List RawStep × ℕ))))))
 
 abbrev pub event_of : Convergence → EventClauses → RawEvent
-event_of c p = record {
-  name = p.1.0;
+event_of c (head, (name, (abstracts, (params, (guards, (witnesses, (actions, end))))))) = record {
+  name = name;
   convergence = c;
-  extended = p.1.1.0.extended;
-  refines = p.1.1.0.names;
-  params = p.1.1.1.0;
-  guards = p.1.1.1.1.0;
-  witnesses = p.1.1.1.1.1.0;
-  actions = p.1.1.1.1.1.1.0;
+  extended = abstracts.extended;
+  refines = abstracts.names;
+  params = params;
+  guards = guards;
+  witnesses = witnesses;
+  actions = actions;
 }
 
 abbrev pub EventBody : Convergence → Bounds → List Mark → RawEvent → List Mark → Type 0
@@ -122,7 +122,7 @@ Events = Choice (is_word_mark (codes "events")) EventList (Nothing [])
 
 -- name ["refines" name] ["sees" name {name}] ["variables" {name}] ["invariants" {line}] ["variant" [label] expr] ["events" {event}]
 abbrev pub machine_of : (Ref × (Option Ref × (List Ref × (List Ref × (List RawLabelled × (Option RawVariant × List RawEvent)))))) → RawComponent
-machine_of p = Machine p.0 p.1.0 p.1.1.0 p.1.1.1.0 p.1.1.1.1.0 p.1.1.1.1.1.0 p.1.1.1.1.1.1
+machine_of (name, (refines, (sees, (variables, (invariants, (variant, events)))))) = Machine name refines sees variables invariants variant events
 
 abbrev pub MachineBody : Bounds → List Mark → RawComponent → List Mark → Type 0
 MachineBody =
