@@ -8,6 +8,7 @@ mod work;
 use crate::tray::{Tray, What};
 use crate::work::{Shut, work_beside};
 use outside::OpenGate;
+use prover_pool::Tools;
 use sequent_core::{Attempt, Prover, Sequent};
 use std::alloc::{AllocError, Global};
 use std::io;
@@ -54,6 +55,12 @@ fn main(rt: HostRuntime) -> io::Result<()> {
         ("a fault at a finish", 5, 1, 3, Shut::Never),
         ("a fault at once", 5, 3, 0, Shut::Never),
     ];
+    let tools = Tools {
+        rt: &rt,
+        alloc: rt.alloc(),
+        prover: &NoProver,
+        gate: &OpenGate,
+    };
     for (name, left, workers, room, shut) in rows {
         let tray = Tray {
             left,
@@ -61,7 +68,7 @@ fn main(rt: HostRuntime) -> io::Result<()> {
             steps: Vec::new(rt.alloc()),
             fault: None,
         };
-        let done = work_beside(&rt, rt.alloc(), tray, workers, shut, &NoProver, &OpenGate);
+        let done = work_beside(&tools, tray, workers, shut);
         let Ok(tray) = done else {
             return Err(io::Error::from(io::ErrorKind::OutOfMemory));
         };

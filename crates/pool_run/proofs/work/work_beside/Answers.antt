@@ -12,6 +12,6 @@ returns-clause-served g c k low high =
     let none : c.in_ok-desk.first.seen ≡ [] = search rules in
     let new : AreNew c.in_ok-desk.first 1 c.split_all.new.chairs.items = subst (λ n. AreNew c.in_ok-desk.first n c.split_all.new.chairs.items) made c.split_all.ensures.made in
     let base : c.in_ok-desk.desk.base ≡ c.args.tray.room = search rules in
-    subst (λ (z : ℕ × List Entry). WasServed chair_of_entry tray_meaning (fair (g.P.Prover.answers c.args.prover.now) (g.P.Prover.sure c.args.prover.now)) z.0 k z.1 (log_of c.close.result)) (λ i. (base i, none i))
-    (each_was_served chair_of_entry tray_meaning (fair (g.P.Prover.answers c.args.prover.now) (g.P.Prover.sure c.args.prover.now)) c.in_ok-desk.desk.base c.in_ok-desk.first c.join_all.new.self _ _ new c.join-first.ensures.second.0 c.join-first.ensures.second.1 c.join_all.ensures.each _ c.close.ensures.log c.close.ensures.joined (tray_marks_last c.close.result) k low
+    subst (λ (z : ℕ × List Entry). WasServed chair_of_entry tray_meaning (fair (g.P.Prover.answers c.args.tools.now.prover.now) (g.P.Prover.sure c.args.tools.now.prover.now)) z.0 k z.1 (log_of c.close.result)) (λ i. (base i, none i))
+    (each_was_served chair_of_entry tray_meaning (fair (g.P.Prover.answers c.args.tools.now.prover.now) (g.P.Prover.sure c.args.tools.now.prover.now)) c.in_ok-desk.desk.base c.in_ok-desk.first c.join_all.new.self _ _ new c.use_beside.ensures.chairs c.use_beside.ensures.served c.join_all.ensures.each _ c.close.ensures.log c.close.ensures.joined (tray_marks_last c.close.result) k low
     (let n = c.split_all.ensures.count in omega (arith, high, n)))
