@@ -6,6 +6,7 @@ mod rows;
 
 use inputs::{long_text, many_components, not_utf8};
 use outside::{MemorySink, MemorySource, NullDisk, OpenGate};
+use prover_pool::Tools;
 use rodin_cli::{HypProver, run};
 use rows::{COMPONENTS, DISCHARGED, FAULTS, INPUT_FAULTS, Row, WORDS};
 use std::alloc::{AllocError, Global};
@@ -30,6 +31,14 @@ const SURE: Streams<'static> = Streams {
     room: 1_000,
 };
 
+/// The words and the input of a run, and its streams.
+#[derive(Clone, Copy)]
+struct Case<'a> {
+    words: &'a [&'a str],
+    input: &'a [u8],
+    streams: Streams<'a>,
+}
+
 /// The status of a run, the number of its events, and what it wrote.
 #[derive(Drop)]
 struct Answer {
@@ -38,13 +47,25 @@ struct Answer {
     written: Vec<u8>,
 }
 
+// The word `check` for an input.
+fn check_of<'a>(input: &'a [u8], streams: Streams<'a>) -> Case<'a> {
+    Case {
+        words: &["check"],
+        input,
+        streams,
+    }
+}
+
 fn answer_of<R: Threads + Wait + Sync>(
     rt: &R,
     alloc: Global,
-    words: &[&str],
-    input: &[u8],
-    streams: &Streams<'_>,
+    case: &Case<'_>,
 ) -> Result<Answer, AllocError> {
+    let Case {
+        words,
+        input,
+        streams,
+    } = *case;
     let mut given = Vec::new(alloc);
     for word in words {
         given.push(String::from_str(alloc, word)?)?;
@@ -52,16 +73,14 @@ fn answer_of<R: Threads + Wait + Sync>(
     let most = streams.most.max(1);
     let mut source = MemorySource::new(input.to_vec(alloc)?, most, streams.fails.to_vec(alloc)?);
     let mut sink = MemorySink::new(alloc, streams.room, Vec::new(alloc))?;
-    let done = run(
+    let prover = HypProver::new();
+    let tools = Tools {
         rt,
         alloc,
-        &given,
-        &mut source,
-        &mut sink,
-        NullDisk::new(),
-        &HypProver::new(),
-        &OpenGate,
-    );
+        prover: &prover,
+        gate: &OpenGate,
+    };
+    let done = run(&tools, &given, &mut source, &mut sink, NullDisk::new());
     Ok(Answer {
         status: done.status,
         events: done.history.len(),
@@ -74,15 +93,13 @@ fn add_row<R: Threads + Wait + Sync>(
     alloc: Global,
     out: &mut String,
     name: &str,
-    words: &[&str],
-    input: &[u8],
-    streams: &Streams<'_>,
+    case: &Case<'_>,
 ) -> Result<(), AllocError> {
     let Answer {
         status,
         events,
         written,
-    } = answer_of(rt, alloc, words, input, streams)?;
+    } = answer_of(rt, alloc, case)?;
     let text = match std::str::from_utf8(&written) {
         Ok(text) => text,
         Err(_) => "not UTF-8",
@@ -98,7 +115,7 @@ fn add_rows<R: Threads + Wait + Sync>(
     rows: &[Row],
 ) -> Result<(), AllocError> {
     for (name, input) in rows {
-        add_row(rt, alloc, out, name, &["check"], input.as_bytes(), &SURE)?;
+        add_row(rt, alloc, out, name, &check_of(input.as_bytes(), SURE))?;
     }
     Ok(())
 }
@@ -117,7 +134,7 @@ fn add_made_inputs<R: Threads + Wait + Sync>(
         ("a text of 65,537 bytes", long_text(alloc, 65_537)?),
     ];
     for (name, input) in &rows {
-        add_row(rt, alloc, out, *name, &["check"], input, &SURE)?;
+        add_row(rt, alloc, out, *name, &check_of(input, SURE))?;
     }
     Ok(())
 }
@@ -128,7 +145,12 @@ fn add_words<R: Threads + Wait + Sync>(
     out: &mut String,
 ) -> Result<(), AllocError> {
     for (name, words) in &WORDS {
-        add_row(rt, alloc, out, *name, *words, DISCHARGED.as_bytes(), &SURE)?;
+        let case = Case {
+            words: *words,
+            input: DISCHARGED.as_bytes(),
+            streams: SURE,
+        };
+        add_row(rt, alloc, out, *name, &case)?;
     }
     Ok(())
 }
@@ -179,9 +201,7 @@ fn add_streams<R: Threads + Wait + Sync>(
             alloc,
             out,
             *name,
-            &["check"],
-            DISCHARGED.as_bytes(),
-            streams,
+            &check_of(DISCHARGED.as_bytes(), *streams),
         )?;
     }
     Ok(())

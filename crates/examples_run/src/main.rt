@@ -5,6 +5,7 @@
 #![tactic(auto)]
 
 use outside::{MemorySink, MemorySource, NullDisk, OpenGate};
+use prover_pool::Tools;
 use rodin_cli::run;
 use std::alloc::{AllocError, Global};
 use std::io;
@@ -34,16 +35,14 @@ fn answer<R: Threads + Wait + Sync>(
     words.push(String::from_str(alloc, "check")?)?;
     let mut source = MemorySource::new(text.as_bytes().to_vec(alloc)?, MOST, Vec::new(alloc));
     let mut sink = MemorySink::new(alloc, ROOM, Vec::new(alloc))?;
-    let done = run(
+    let prover = AutoProver::new(400);
+    let tools = Tools {
         rt,
         alloc,
-        &words,
-        &mut source,
-        &mut sink,
-        NullDisk::new(),
-        &AutoProver::new(400),
-        &OpenGate,
-    );
+        prover: &prover,
+        gate: &OpenGate,
+    };
+    let done = run(&tools, &words, &mut source, &mut sink, NullDisk::new());
     let printed = match std::str::from_utf8(sink.taken()) {
         Ok(printed) => printed,
         Err(_) => "not UTF-8\n",

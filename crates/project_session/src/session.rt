@@ -9,10 +9,10 @@ ghost use Rattle.session_ends.specs.Statuses.{IsSessionStatus};
 
 use outside::{Disk, Gate, Sink, Source};
 use project_store::Store;
+use prover_pool::Tools;
 use sequent_core::Prover;
 use session_ends::{Ended, end_played, end_unplayed, open_store, refuse};
 use session_play::play;
-use std::alloc::Global;
 use std::marker::Brand;
 use std::sync::Wait;
 use std::sync::ledger::Blank;
@@ -27,27 +27,25 @@ fn run_opened<
     P: Prover + Sync,
     G: Gate + Sync,
 >(
-    rt: &R,
-    alloc: Global,
+    tools: &Tools<'_, R, P, G>,
     workers: u32,
     store: Store<D>,
     input: &mut I,
     output: &mut O,
-    prover: &P,
-    gate: &G,
 ) -> Ended<D>
     requires workers { workers ≤ 8 }
     requires begun { (store.core ≡ opened store.base) × (store.history ≡ []) × (store.kept ≡ None) }
     ensures { (old : D) → Opens D.told D.bytes_of D.images D.faults old store →
         IsSession D.told D.bytes_of D.images D.faults
-        (fair (P.answers prover.now) (P.sure prover.now)) (P.sure prover.now) workers old result.disk
+        (fair (P.answers tools.now.prover.now) (P.sure tools.now.prover.now)) (P.sure tools.now.prover.now)
+        workers old result.disk
         (reading (I.left input.old) (I.left input.new) (I.faults input.old) (I.faults input.new))
         (writing (O.written output.old) (O.written output.new) (O.faults output.old) (O.faults output.new))
         result.status result.history.items result.last }
 {
-    match play(rt, alloc, workers, store, input, output, prover, gate) {
-        Ok((store, ending)) => end_played(store, ending, output, prover),
-        Err(store) => end_unplayed(store, output, prover),
+    match play(tools, workers, store, input, output) {
+        Ok((store, ending)) => end_played(store, ending, output, tools.prover),
+        Err(store) => end_unplayed(store, output, tools.prover),
     }
 }
 
@@ -59,26 +57,18 @@ fn open_and_run<
     D: Disk + Send,
     P: Prover + Sync,
     G: Gate + Sync,
->(
-    rt: &R,
-    alloc: Global,
-    workers: u32,
-    input: &mut I,
-    output: &mut O,
-    disk: D,
-    prover: &P,
-    gate: &G,
-) -> Ended<D>
+>(tools: &Tools<'_, R, P, G>, workers: u32, input: &mut I, output: &mut O, disk: D) -> Ended<D>
     requires workers { workers ≤ 8 }
     ensures { Sessions D.told D.bytes_of D.images D.faults
-        (fair (P.answers prover.now) (P.sure prover.now)) (P.sure prover.now) workers disk result.disk
+        (fair (P.answers tools.now.prover.now) (P.sure tools.now.prover.now)) (P.sure tools.now.prover.now)
+        workers disk result.disk
         (reading (I.left input.old) (I.left input.new) (I.faults input.old) (I.faults input.new))
         (writing (O.written output.old) (O.written output.new) (O.faults output.old) (O.faults output.new))
         result.status result.history.items result.last }
 {
-    match open_store::<Brand, D>(alloc, disk, Blank::new(1)) {
-        Ok(store) => run_opened(rt, alloc, workers, store, input, output, prover, gate),
-        Err((disk, fault)) => refuse(alloc, output, disk, fault),
+    match open_store::<Brand, D>(tools.alloc, disk, Blank::new(1)) {
+        Ok(store) => run_opened(tools, workers, store, input, output),
+        Err((disk, fault)) => refuse(tools.alloc, output, disk, fault),
     }
 }
 
@@ -91,19 +81,11 @@ pub fn run_session<
     D: Disk + Send,
     P: Prover + Sync,
     G: Gate + Sync,
->(
-    rt: &R,
-    alloc: Global,
-    workers: u32,
-    input: &mut I,
-    output: &mut O,
-    disk: D,
-    prover: &P,
-    gate: &G,
-) -> Ended<D>
+>(tools: &Tools<'_, R, P, G>, workers: u32, input: &mut I, output: &mut O, disk: D) -> Ended<D>
     requires workers { workers ≤ 8 }
     ensures session { Sessions D.told D.bytes_of D.images D.faults
-        (fair (P.answers prover.now) (P.sure prover.now)) (P.sure prover.now) workers disk result.disk
+        (fair (P.answers tools.now.prover.now) (P.sure tools.now.prover.now)) (P.sure tools.now.prover.now)
+        workers disk result.disk
         (reading (I.left input.old) (I.left input.new) (I.faults input.old) (I.faults input.new))
         (writing (O.written output.old) (O.written output.new) (O.faults output.old) (O.faults output.new))
         result.status result.history.items result.last }
@@ -112,5 +94,5 @@ pub fn run_session<
     ensures write_fault { result.status ≡ 4 → Rose (O.faults output.old) (O.faults output.new) }
     ensures disk_fault { result.status ≡ 5 → Rose (D.faults disk) (D.faults result.disk) }
 {
-    open_and_run(rt, alloc, workers, input, output, disk, prover, gate)
+    open_and_run(tools, workers, input, output, disk)
 }

@@ -2,6 +2,7 @@
 #![tactic(auto)]
 
 use outside::{FilePair, OpenGate, StreamSink, StreamSource};
+use prover_pool::Tools;
 use rodin_cli::run;
 use std::process::ExitCode;
 use std::{env, io};
@@ -30,15 +31,13 @@ fn main(rt: HostRuntime) -> ExitCode {
     };
     let mut input = StreamSource::new(rt.stdin());
     let mut output = StreamSink::new(rt.stdout());
-    let done = run(
-        &rt,
-        rt.alloc(),
-        &words,
-        &mut input,
-        &mut output,
-        FilePair::new(&rt),
-        &AutoProver::new(400),
-        &OpenGate,
-    );
+    let prover = AutoProver::new(400);
+    let tools = Tools {
+        rt: &rt,
+        alloc: rt.alloc(),
+        prover: &prover,
+        gate: &OpenGate,
+    };
+    let done = run(&tools, &words, &mut input, &mut output, FilePair::new(&rt));
     ExitCode::from(done.status)
 }

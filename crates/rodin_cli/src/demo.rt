@@ -27,6 +27,13 @@ use std::alloc::Global;
 use std::marker::Brand;
 use std::sync::ledger::{Blank, Ledger};
 
+// The models of a demonstration: so many, made from a seed.
+#[derive(Clone, Copy)]
+struct Seeded {
+    seed: u64,
+    n: u64,
+}
+
 /// What a round edits: all models of a seed, or the last machine alone.
 #[derive(Debug, Clone, Copy)]
 pub enum Round {
@@ -217,24 +224,25 @@ fn show<L: Ledger, O: Sink, P: Prover>(
 // Both rounds, from the empty project.
 fn rounds<L: Ledger, O: Sink, P: Prover>(
     alloc: Global,
-    seed: u64,
-    n: u64,
+    seeded: Seeded,
     prover: &P,
     output: &mut O,
     session: &mut Session,
     steps: &mut Steps<L>,
 ) -> Result<(), Stop>
-    requires few { n ≤ 128 }
+    requires few { seeded.n ≤ 128 }
     requires empty { session.old.core ≡ opened no_texts }
-    ensures both { OnOk result (ReachesBoth (P.answers prover.now) (P.sure prover.now) seed n session.old session.new
+    ensures both { OnOk result (
+        ReachesBoth (P.answers prover.now) (P.sure prover.now) seeded.seed seeded.n session.old session.new
         (writing (O.written output.old) (O.written output.new) (O.faults output.old) (O.faults output.new))) }
     ensures stopped { IfErr result (λ stop.
-        ReachesStop (P.answers prover.now) (P.sure prover.now) seed n session.old session.new
+        ReachesStop (P.answers prover.now) (P.sure prover.now) seeded.seed seeded.n session.old session.new
         (writing (O.written output.old) (O.written output.new) (O.faults output.old) (O.faults output.new)) stop) }
     ensures later { O.faults output.old ≤ O.faults output.new }
 {
     enters_all();
     decides_sequents();
+    let Seeded { seed, n } = seeded;
     match show(
         alloc,
         prover,
@@ -273,22 +281,21 @@ fn conclude<O: Sink>(output: &mut O, stop: Stop)
 // The demonstration in a session of the empty project.
 fn demonstrate_in<L: Ledger, O: Sink, P: Prover>(
     alloc: Global,
-    seed: u64,
-    n: u64,
+    seeded: Seeded,
     output: &mut O,
     prover: &P,
     session: Session,
     steps: &mut Steps<L>,
 ) -> Part
-    requires few { n ≤ 128 }
+    requires few { seeded.n ≤ 128 }
     requires empty { session.core ≡ opened no_texts }
     requires history { session.history.items ≡ [] }
-    ensures { Demonstrates (P.answers prover.now) (P.sure prover.now) seed n
+    ensures { Demonstrates (P.answers prover.now) (P.sure prover.now) seeded.seed seeded.n
         (writing (O.written output.old) (O.written output.new) (O.faults output.old) (O.faults output.new)) result }
 {
     enters_all();
     let mut session = session;
-    match rounds(alloc, seed, n, prover, output, &mut session, steps) {
+    match rounds(alloc, seeded, prover, output, &mut session, steps) {
         Ok(()) => part_from(session, 0),
         Err(stop) => {
             conclude(output, stop);
@@ -300,8 +307,7 @@ fn demonstrate_in<L: Ledger, O: Sink, P: Prover>(
 // The demonstration, with a counter of its steps.
 fn demonstrate<L: Ledger, O: Sink, P: Prover>(
     alloc: Global,
-    seed: u64,
-    n: u64,
+    seeded: Seeded,
     output: &mut O,
     prover: &P,
     blank: Blank,
@@ -309,13 +315,13 @@ fn demonstrate<L: Ledger, O: Sink, P: Prover>(
     requires name { blank.name ≡ L.name }
     requires parts { blank.parts ≡ L.parts }
     requires some { 0 < blank.parts }
-    requires few { n ≤ 128 }
-    ensures { Demonstrates (P.answers prover.now) (P.sure prover.now) seed n
+    requires few { seeded.n ≤ 128 }
+    ensures { Demonstrates (P.answers prover.now) (P.sure prover.now) seeded.seed seeded.n
         (writing (O.written output.old) (O.written output.new) (O.faults output.old) (O.faults output.new)) result }
 {
     let mut steps = Steps::<L>::open(blank);
     match start(alloc, &mut steps) {
-        Ok(session) => demonstrate_in(alloc, seed, n, output, prover, session, &mut steps),
+        Ok(session) => demonstrate_in(alloc, seeded, output, prover, session, &mut steps),
         Err(_) => no_part(alloc, 9),
     }
 }
@@ -338,5 +344,6 @@ pub fn run_demo<O: Sink, P: Prover>(
     ensures without_faults { (Rose (O.faults output.old) (O.faults output.new) → ⊥)
         → (result.status ≡ 0) ⊎ (result.status ≡ 7) ⊎ (result.status ≡ 9) }
 {
-    demonstrate::<Brand, O, P>(alloc, seed, n, output, prover, Blank::new(1))
+    let seeded = Seeded { seed, n };
+    demonstrate::<Brand, O, P>(alloc, seeded, output, prover, Blank::new(1))
 }

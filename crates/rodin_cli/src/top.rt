@@ -1,4 +1,4 @@
-// The top call: the words of the command line, and the streams, the disk, the prover and the gate that are handed in.
+// The top call: the words of the command line, and the tools, the streams and the disk that are handed in.
 ghost use Rattle.std.specs.Prelude.{◌≡◌, ◌⊎◌, ◌↔◌, ℕ};
 ghost use Rattle.std.specs.Io.KnownBytes.{IsAtEnd};
 ghost use Rattle.outside.specs.Cause.{Rose};
@@ -15,9 +15,9 @@ use crate::demo::run_demo;
 use crate::outcome::{Part, Run};
 use outside::{Disk, Gate, Sink, Source};
 use project_session::run_session;
+use prover_pool::Tools;
 use sequent_core::Prover;
 use session_ends::Ended;
-use std::alloc::Global;
 use std::sync::Wait;
 use std::thread::Threads;
 
@@ -32,28 +32,20 @@ pub fn run<
     D: Disk + Send,
     P: Prover + Sync,
     G: Gate + Sync,
->(
-    rt: &R,
-    alloc: Global,
-    words: &[String],
-    input: &mut I,
-    output: &mut O,
-    disk: D,
-    prover: &P,
-    gate: &G,
-) -> Run<D>
-    ensures checked { IsCheckWords words.now → RunsCheck (P.answers prover.now) (P.sure prover.now)
+>(tools: &Tools<'_, R, P, G>, words: &[String], input: &mut I, output: &mut O, disk: D) -> Run<D>
+    ensures checked { IsCheckWords words.now → RunsCheck (P.answers tools.now.prover.now) (P.sure tools.now.prover.now)
         (reading (I.left input.old) (I.left input.new) (I.faults input.old) (I.faults input.new))
         (writing (O.written output.old) (O.written output.new) (O.faults output.old) (O.faults output.new))
         (record { status = result.status; history = result.history; last = result.last }) }
     ensures session { (workers : ℕ) → IsSessionWords words.now workers →
         Sessions D.told D.bytes_of D.images D.faults
-        (fair (P.answers prover.now) (P.sure prover.now)) (P.sure prover.now) workers disk result.disk
+        (fair (P.answers tools.now.prover.now) (P.sure tools.now.prover.now)) (P.sure tools.now.prover.now)
+        workers disk result.disk
         (reading (I.left input.old) (I.left input.new) (I.faults input.old) (I.faults input.new))
         (writing (O.written output.old) (O.written output.new) (O.faults output.old) (O.faults output.new))
         result.status result.history.items result.last }
     ensures demonstrated { (seed n : ℕ) → IsDemoWords words.now seed n →
-        Demonstrates (P.answers prover.now) (P.sure prover.now) seed n
+        Demonstrates (P.answers tools.now.prover.now) (P.sure tools.now.prover.now) seed n
         (writing (O.written output.old) (O.written output.new) (O.faults output.old) (O.faults output.new))
         (record { status = result.status; history = result.history; last = result.last }) }
     ensures usage { HaveNoForm words.now → EndsWithLine 2 usage_line
@@ -77,14 +69,17 @@ pub fn run<
         (result.status ≡ 0) ⊎ (result.status ≡ 7) ⊎ (result.status ≡ 9) }
 {
     match command_of(words) {
-        Some(Command::Check) => with_disk(run_check(alloc, input, output, prover), disk),
-        Some(Command::Session { workers }) => of_session(run_session(
-            rt, alloc, workers, input, output, disk, prover, gate,
-        )),
-        Some(Command::Demo { seed, n }) => {
-            with_disk(run_demo(alloc, seed, n, output, prover), disk)
+        Some(Command::Check) => with_disk(
+            run_check(tools.alloc, input, output, tools.prover),
+            disk,
+        ),
+        Some(Command::Session { workers }) => {
+            of_session(run_session(tools, workers, input, output, disk))
         }
-        None => with_disk(ends_with_line(alloc, output, 2, USAGE), disk),
+        Some(Command::Demo { seed, n }) => {
+            with_disk(run_demo(tools.alloc, seed, n, output, tools.prover), disk)
+        }
+        None => with_disk(ends_with_line(tools.alloc, output, 2, USAGE), disk),
     }
 }
 

@@ -10,7 +10,7 @@ ghost use Rattle.session_talk.specs.Conversing.{Converses};
 ghost use Rattle.session_play.specs.Playing.{IsPlayed};
 
 use outside::{Gate, Sink, Source};
-use prover_pool::{Notices, Work, crew};
+use prover_pool::{Notices, Office, Tools, Work, crew};
 use sequent_core::Prover;
 use session_talk::{Ending, converse};
 use std::alloc::Global;
@@ -21,52 +21,38 @@ use turn_desk::{Chair, Desk, Kept};
 
 // The dialogue of chair 0, after which the workers are to end.
 fn lead<R: Wait, V: EventStore, I: Source, O: Sink, P: Prover, G: Gate>(
-    rt: &R,
-    alloc: Global,
-    desk: &Desk<V>,
+    tools: &Tools<'_, R, P, G>,
+    office: &Office<'_, V>,
     chair: &mut Chair<V>,
-    notices: &Notices,
     input: &mut I,
     output: &mut O,
-    prover: &P,
-    gate: &G,
 ) -> Ending
-    requires { IsOf desk.now chair.old × (chair.old.number ≡ 0) × (chair.old.seen ≡ []) }
+    requires { IsOf office.now.desk.now chair.old × (chair.old.number ≡ 0) × (chair.old.seen ≡ []) }
     ensures chair { IsSameChair chair.old chair.new }
-    ensures ended { Converses (fair (P.answers prover.now) (P.sure prover.now)) desk.now.base
+    ensures ended { Converses (fair (P.answers tools.now.prover.now) (P.sure tools.now.prover.now))
+        office.now.desk.now.base
         (reading (I.left input.old) (I.left input.new) (I.faults input.old) (I.faults input.new))
         (writing (O.written output.old) (O.written output.new) (O.faults output.old) (O.faults output.new))
         chair.new.seen result }
 {
-    let ending = converse(rt, alloc, desk, chair, notices, input, output, prover, gate);
-    notices.shut(rt);
+    let ending = converse(tools, office, chair, input, output);
+    office.notices.shut(tools.rt);
     ending
 }
 
 // Each worker serves.
 fn serve_all<R: Threads + Wait + Sync, V: Work + Send, P: Prover + Sync, G: Gate + Sync>(
-    rt: &R,
-    alloc: Global,
-    desk: &Desk<V>,
+    tools: &Tools<'_, R, P, G>,
+    office: &Office<'_, V>,
     chairs: &mut Vec<Chair<V>>,
-    notices: &Notices,
-    prover: &P,
-    gate: &G,
 )
-    requires { All (IsOf desk.now) chairs.old.items }
+    requires { All (IsOf office.now.desk.now) chairs.old.items }
     ensures same { AreSame chairs.old.items chairs.new.items }
-    ensures served { EachServed V.chair_of V.meaning (fair (P.answers prover.now) (P.sure prover.now)) desk.now.base
-        chairs.old.items chairs.new.items }
+    ensures served { EachServed V.chair_of V.meaning
+        (fair (P.answers tools.now.prover.now) (P.sure tools.now.prover.now))
+        office.now.desk.now.base chairs.old.items chairs.new.items }
 {
-    crew(
-        rt,
-        alloc,
-        desk,
-        chairs.as_mut_slice(),
-        notices,
-        prover,
-        gate,
-    );
+    crew(tools, office, chairs.as_mut_slice());
 }
 
 // A desk for the value, chair 0, and so many chairs for workers.
@@ -99,45 +85,45 @@ fn converse_beside<
     P: Prover + Sync,
     G: Gate + Sync,
 >(
-    rt: &R,
-    alloc: Global,
-    desk: &Desk<V>,
+    tools: &Tools<'_, R, P, G>,
+    office: &Office<'_, V>,
     first: &mut Chair<V>,
     chairs: &mut Vec<Chair<V>>,
-    notices: &Notices,
     input: &mut I,
     output: &mut O,
-    prover: &P,
-    gate: &G,
 ) -> Ending
-    requires first { IsOf desk.now first.old × (first.old.number ≡ 0) × (first.old.seen ≡ []) }
-    requires chairs { All (IsOf desk.now) chairs.old.items }
+    requires first { IsOf office.now.desk.now first.old × (first.old.number ≡ 0) × (first.old.seen ≡ []) }
+    requires chairs { All (IsOf office.now.desk.now) chairs.old.items }
     ensures first { IsSameChair first.old first.new }
     ensures chairs { AreSame chairs.old.items chairs.new.items }
-    ensures served { EachServed V.chair_of V.meaning (fair (P.answers prover.now) (P.sure prover.now)) desk.now.base
-        chairs.old.items chairs.new.items }
-    ensures ended { Converses (fair (P.answers prover.now) (P.sure prover.now)) desk.now.base
+    ensures served { EachServed V.chair_of V.meaning
+        (fair (P.answers tools.now.prover.now) (P.sure tools.now.prover.now))
+        office.now.desk.now.base chairs.old.items chairs.new.items }
+    ensures ended { Converses (fair (P.answers tools.now.prover.now) (P.sure tools.now.prover.now))
+        office.now.desk.now.base
         (reading (I.left input.old) (I.left input.new) (I.faults input.old) (I.faults input.new))
         (writing (O.written output.old) (O.written output.new) (O.faults output.old) (O.faults output.new))
         first.new.seen result }
 {
     let mut user = || -> Ending
-        requires { IsOf desk.now first.now × (first.now.number ≡ 0) × (first.now.seen ≡ []) }
+        requires { IsOf office.now.desk.now first.now × (first.now.number ≡ 0) × (first.now.seen ≡ []) }
         ensures { IsSameChair first.entry.now first.exit.now
-            × Converses (fair (P.answers prover.entry.now) (P.sure prover.entry.now)) desk.entry.now.base
+            × Converses (fair (P.answers tools.entry.now.prover.now) (P.sure tools.entry.now.prover.now))
+            office.entry.now.desk.now.base
             (reading (I.left input.entry.now) (I.left input.exit.now)
             (I.faults input.entry.now) (I.faults input.exit.now))
             (writing (O.written output.entry.now) (O.written output.exit.now)
             (O.faults output.entry.now) (O.faults output.exit.now))
             first.exit.now.seen result }
-    { lead(rt, alloc, desk, first, notices, input, output, prover, gate) };
+    { lead(tools, office, first, input, output) };
     let mut team = ||
-        requires { IsSync R.row × All (IsOf desk.now) chairs.now.items }
+        requires { IsSync R.row × All (IsOf office.now.desk.now) chairs.now.items }
         ensures { AreSame chairs.entry.now.items chairs.exit.now.items
-            × EachServed V.chair_of V.meaning (fair (P.answers prover.entry.now) (P.sure prover.entry.now))
-            desk.entry.now.base chairs.entry.now.items chairs.exit.now.items }
-    { serve_all(rt, alloc, desk, chairs, notices, prover, gate) };
-    let ((), ending) = join_mut(rt, &mut team, &mut user);
+            × EachServed V.chair_of V.meaning
+            (fair (P.answers tools.entry.now.prover.now) (P.sure tools.entry.now.prover.now))
+            office.entry.now.desk.now.base chairs.entry.now.items chairs.exit.now.items }
+    { serve_all(tools, office, chairs) };
+    let ((), ending) = join_mut(tools.rt, &mut team, &mut user);
     ending
 }
 
@@ -169,38 +155,28 @@ pub fn play<
     P: Prover + Sync,
     G: Gate + Sync,
 >(
-    rt: &R,
-    alloc: Global,
+    tools: &Tools<'_, R, P, G>,
     workers: u32,
     store: V,
     input: &mut I,
     output: &mut O,
-    prover: &P,
-    gate: &G,
 ) -> Result<(V, Ending), V>
     requires { (V.log store ≡ []) × (workers + 1 < 2 ^ 32) }
     ensures base { IfOk result (λ played. V.base played.0 ≡ V.base store) }
     ensures played { IfOk result (λ played. IsPlayed V.chair_of V.meaning
-        (fair (P.answers prover.now) (P.sure prover.now)) workers (V.base store) (V.log played.0)
+        (fair (P.answers tools.now.prover.now) (P.sure tools.now.prover.now)) workers (V.base store) (V.log played.0)
         (reading (I.left input.old) (I.left input.new) (I.faults input.old) (I.faults input.new))
         (writing (O.written output.old) (O.written output.new) (O.faults output.old) (O.faults output.new)) played.1) }
     ensures refused { IfErr result (λ same. same ≡ store) }
     ensures untouched { OnErr result ((input.new ≡ input.old) × (output.new ≡ output.old)) }
 {
-    let (desk, mut first, mut chairs) = seat(alloc, workers, store)?;
+    let (desk, mut first, mut chairs) = seat(tools.alloc, workers, store)?;
     let notices = Notices::new();
-    let ending = converse_beside(
-        rt,
-        alloc,
-        &desk,
-        &mut first,
-        &mut chairs,
-        &notices,
-        input,
-        output,
-        prover,
-        gate,
-    );
+    let office = Office {
+        desk: &desk,
+        notices: &notices,
+    };
+    let ending = converse_beside(tools, &office, &mut first, &mut chairs, input, output);
     first.join_all(&desk, chairs);
     Ok((close_desk(desk, first), ending))
 }

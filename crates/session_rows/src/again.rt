@@ -7,6 +7,14 @@ use std::sync::Wait;
 use std::thread::Threads;
 use std::time::Clock;
 
+/// A whole run: its row, the sides that it began over, and what it came to.
+#[derive(Clone, Copy)]
+pub struct Whole<'a> {
+    pub row: &'a Row,
+    pub begun: &'a Sides,
+    pub ran: &'a Ran,
+}
+
 /// The calls of a part that a run may have here.
 const MOST: u64 = 1_000;
 
@@ -90,22 +98,20 @@ fn otherwise(whole: &str, ran: &Ran, part: Part, opened: &str) -> Option<&'stati
 pub fn add_faults<R: Clock + Threads + Wait + Sync>(
     rt: &R,
     alloc: Global,
-    row: &Row,
-    begun: &Sides,
-    whole: &Ran,
+    whole: &Whole<'_>,
     part: Part,
     out: &mut String,
 ) -> Result<(), AllocError> {
     let word = part.word();
     for call in 1..MOST {
-        let mut again = run_row(rt, alloc, row, begun, Some((part, call)))?;
-        if again.status == whole.status {
+        let mut again = run_row(rt, alloc, whole.row, whole.begun, Some((part, call)))?;
+        if again.status == whole.ran.status {
             writeln!(out, "each {word}: {} calls", call - 1)?;
             return Ok(());
         }
         let sides = read_sides(alloc, &mut again.disk)?;
         let opened = opened(rt, alloc, &sides)?;
-        if let Some(why) = otherwise(&whole.written, &again, part, &opened) {
+        if let Some(why) = otherwise(&whole.ran.written, &again, part, &opened) {
             writeln!(out, "each {word}: call {call}: {why}")?;
         }
     }
@@ -157,20 +163,18 @@ pub fn add_stops<R: Clock + Threads + Wait + Sync>(
 pub fn add_late<R: Clock + Threads + Wait + Sync>(
     rt: &R,
     alloc: Global,
-    row: &Row,
-    begun: &Sides,
-    whole: &Ran,
+    whole: &Whole<'_>,
     out: &mut String,
 ) -> Result<(), AllocError> {
-    let calls = whole.disk.calls_made();
+    let calls = whole.ran.disk.calls_made();
     let first = calls.saturating_sub(LATE);
     for at in first..calls {
         let call = at.saturating_add(1);
-        let again = run_row(rt, alloc, row, begun, Some((Part::Disk, call)))?;
-        if let Err(why) = written_before(&whole.written, &again, Part::Disk) {
+        let again = run_row(rt, alloc, whole.row, whole.begun, Some((Part::Disk, call)))?;
+        if let Err(why) = written_before(&whole.ran.written, &again, Part::Disk) {
             writeln!(out, "each late: call {call}: {why}")?;
         }
-        if !reopens(rt, alloc, whole, call, &STOPS[..1])? {
+        if !reopens(rt, alloc, whole.ran, call, &STOPS[..1])? {
             writeln!(out, "each late: call {call}: another state behind a stop")?;
         }
     }

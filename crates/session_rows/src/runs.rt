@@ -4,6 +4,7 @@ use crate::gates::{Holding, Watched};
 use crate::row::Row;
 use core_steps::{Durable, Event};
 use outside::{Disk, MemoryDisk, MemorySink, MemorySource, Side};
+use prover_pool::Tools;
 use rodin_cli::outcome::Run;
 use rodin_cli::run;
 use std::alloc::{AllocError, Global};
@@ -185,16 +186,14 @@ pub fn run_row<R: Clock + Threads + Wait + Sync>(
     let mut source = Watched::new(source_of(alloc, row, fault)?, &gate);
     let mut sink = sink_of(alloc, row, fault)?;
     let disk = disk_of(alloc, row, sides, fault)?;
-    let done = run(
+    let prover = row.prover(rt);
+    let tools = Tools {
         rt,
         alloc,
-        &words,
-        &mut source,
-        &mut sink,
-        disk,
-        &row.prover(rt),
-        &gate,
-    );
+        prover: &prover,
+        gate: &gate,
+    };
+    let done = run(&tools, &words, &mut source, &mut sink, disk);
     came_to(alloc, done, &sink, gate.is_passed())
 }
 

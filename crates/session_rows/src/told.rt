@@ -1,6 +1,6 @@
 //! What is printed of a row.
 
-use crate::again::{DIGEST, add_faults, add_late, add_stops};
+use crate::again::{DIGEST, Whole, add_faults, add_late, add_stops};
 use crate::bytes::add_bytes;
 use crate::gates::Until;
 use crate::row::Row;
@@ -113,22 +113,20 @@ fn add_told(
 fn add_each<R: Clock + Threads + Wait + Sync>(
     rt: &R,
     alloc: Global,
-    row: &Row,
-    begun: &Sides,
-    whole: &Ran,
+    whole: &Whole<'_>,
     out: &mut String,
 ) -> Result<(), AllocError> {
-    if let Some(part) = row.each() {
-        add_faults(rt, alloc, row, begun, whole, part, out)?;
+    if let Some(part) = whole.row.each() {
+        add_faults(rt, alloc, whole, part, out)?;
     }
-    if row.says("each stop") {
-        add_stops(rt, alloc, whole, out)?;
+    if whole.row.says("each stop") {
+        add_stops(rt, alloc, whole.ran, out)?;
     }
-    if row.says("each late") {
-        add_late(rt, alloc, row, begun, whole, out)?;
+    if whole.row.says("each late") {
+        add_late(rt, alloc, whole, out)?;
     }
-    if row.says("each byte") {
-        add_bytes(rt, alloc, row, begun, out)?;
+    if whole.row.says("each byte") {
+        add_bytes(rt, alloc, whole.row, whole.begun, out)?;
     }
     Ok(())
 }
@@ -146,9 +144,14 @@ pub fn answer<R: Clock + Threads + Wait + Sync>(
     }
     writeln!(out, "{}", row.name)?;
     row.begin_sides(alloc, sides)?;
-    let mut whole = run_row(rt, alloc, row, sides, row.fault())?;
-    add_written(alloc, out, row, &whole)?;
-    add_each(rt, alloc, row, sides, &whole, out)?;
-    *sides = read_sides(alloc, &mut whole.disk)?;
-    add_told(alloc, row, &whole, sides, out)
+    let mut ran = run_row(rt, alloc, row, sides, row.fault())?;
+    add_written(alloc, out, row, &ran)?;
+    let whole = Whole {
+        row,
+        begun: sides,
+        ran: &ran,
+    };
+    add_each(rt, alloc, &whole, out)?;
+    *sides = read_sides(alloc, &mut ran.disk)?;
+    add_told(alloc, row, &ran, sides, out)
 }

@@ -15,8 +15,8 @@ ghost use Rattle.session_run.specs.Acting.{ActsOn, TookNamed};
 use core_steps::{Event, Question, Reply};
 use formula_core::PoName;
 use outside::Gate;
+use prover_pool::Tools;
 use sequent_core::{Prover, Ticket};
-use std::alloc::Global;
 use std::sync::Wait;
 use store_log::{Apply, EventStore, StoreFault};
 use turn_desk::{Chair, Desk};
@@ -38,25 +38,23 @@ pub fn act_on<R: Wait, V: EventStore>(
 
 /// Asks the prover on a ticket that chair 0 took, and hands in what it answers.
 pub fn finish_ticket<R: Wait, V: EventStore, P: Prover, G: Gate>(
-    rt: &R,
-    alloc: Global,
+    tools: &Tools<'_, R, P, G>,
     desk: &Desk<V>,
     chair: &mut Chair<V>,
-    prover: &P,
-    gate: &G,
     ticket: Ticket,
 ) -> Result<Reply, StoreFault>
     requires chair { IsOf desk.now chair.old × (chair.old.number ≡ 0) }
     requires sequent { IsSequent ticket.sequent }
     ensures chair { chair.new ≡ record chair.old { acts = chair.old.acts + 1; seen = chair.new.seen } }
-    ensures acted { (attempt : Attempt) × fair (P.answers prover.now) (P.sure prover.now) ticket.sequent attempt
+    ensures acted { (attempt : Attempt)
+        × fair (P.answers tools.now.prover.now) (P.sure tools.now.prover.now) ticket.sequent attempt
         × ActsOn desk.now.base (Event.Finish ticket.number attempt) chair.old.seen result chair.new.seen }
 {
     let number = ticket.number;
-    let attempt = prover.attempt(alloc, &ticket.sequent);
-    gate.before_finish(number);
-    let reply = act_on(rt, desk, chair, Event::Finish(number, attempt));
-    gate.after_finish(number);
+    let attempt = tools.prover.attempt(tools.alloc, &ticket.sequent);
+    tools.gate.before_finish(number);
+    let reply = act_on(tools.rt, desk, chair, Event::Finish(number, attempt));
+    tools.gate.after_finish(number);
     reply
 }
 

@@ -19,7 +19,7 @@ use crate::acting::{act_on, ask_idle, finish_ticket, take_named, take_next};
 use core_steps::{Event, Reply, one_answer, stays_orderly};
 use formula_core::{OutOfMemory, PoName};
 use outside::Gate;
-use prover_pool::Notices;
+use prover_pool::{Notices, Office, Tools};
 use reply_text::{reply_text, shows_well_formulas};
 use sequent_core::{Prover, Ticket};
 use session_words::{Line, LineFault, line_fault_text};
@@ -82,27 +82,24 @@ fn refusal_text(alloc: Global, fault: LineFault) -> Result<String, OutOfMemory>
 }
 
 // Does the event of a line, and tells its reply.
-fn answer_one<R: Wait, V: EventStore, P: Prover>(
-    rt: &R,
-    alloc: Global,
-    desk: &Desk<V>,
+fn answer_one<R: Wait, V: EventStore, P: Prover, G>(
+    tools: &Tools<'_, R, P, G>,
+    office: &Office<'_, V>,
     chair: &mut Chair<V>,
-    notices: &Notices,
-    _prover: &P,
     event: Event,
 ) -> Result<String, Stop>
-    requires { IsOf desk.now chair.old × (chair.old.number ≡ 0) }
+    requires { IsOf office.now.desk.now chair.old × (chair.old.number ≡ 0) }
     ensures chair { IsSameChair chair.old chair.new }
-    ensures answered { ComesOfLine (fair (P.answers _prover.now) (P.sure _prover.now)) desk.now.base
-        (Line.One event) chair.old.seen result chair.new.seen }
+    ensures answered { ComesOfLine (fair (P.answers tools.now.prover.now) (P.sure tools.now.prover.now))
+        office.now.desk.now.base (Line.One event) chair.old.seen result chair.new.seen }
 {
     one_answer();
     stays_orderly();
     shows_well_formulas();
-    match act_on(rt, desk, chair, event) {
+    match act_on(tools.rt, office.desk, chair, event) {
         Ok(reply) => {
-            tell_work(rt, notices, &reply);
-            text_of(alloc, &reply)
+            tell_work(tools.rt, office.notices, &reply);
+            text_of(tools.alloc, &reply)
         }
         Err(fault) => Err(Stop::Store(fault)),
     }
@@ -110,52 +107,47 @@ fn answer_one<R: Wait, V: EventStore, P: Prover>(
 
 // Finishes the ticket that `auto` took, and tells the reply.
 fn finish_told<R: Wait, V: EventStore, P: Prover, G: Gate>(
-    rt: &R,
-    alloc: Global,
-    desk: &Desk<V>,
+    tools: &Tools<'_, R, P, G>,
+    office: &Office<'_, V>,
     chair: &mut Chair<V>,
-    prover: &P,
-    gate: &G,
     ticket: Ticket,
 ) -> Result<String, Stop>
-    requires chair { IsOf desk.now chair.old × (chair.old.number ≡ 0) }
+    requires chair { IsOf office.now.desk.now chair.old × (chair.old.number ≡ 0) }
     requires sequent { IsSequent ticket.sequent }
     ensures chair { IsSameChair chair.old chair.new }
-    ensures finished { (name : List ℕ) (old : List Logged) → AnswersUpTo (fair
-        (P.answers prover.now) (P.sure prover.now)) desk.now.base (Line.Auto name) old (owes ticket) chair.old.seen →
-        ComesOfLine
-        (fair (P.answers prover.now) (P.sure prover.now)) desk.now.base (Line.Auto name) old result chair.new.seen }
+    ensures finished { (name : List ℕ) (old : List Logged) →
+        AnswersUpTo (fair (P.answers tools.now.prover.now) (P.sure tools.now.prover.now))
+        office.now.desk.now.base (Line.Auto name) old (owes ticket) chair.old.seen →
+        ComesOfLine (fair (P.answers tools.now.prover.now) (P.sure tools.now.prover.now))
+        office.now.desk.now.base (Line.Auto name) old result chair.new.seen }
 {
     one_answer();
     stays_orderly();
     shows_well_formulas();
-    match finish_ticket(rt, alloc, desk, chair, prover, gate, ticket) {
-        Ok(reply) => text_of(alloc, &reply),
+    match finish_ticket(tools, office.desk, chair, ticket) {
+        Ok(reply) => text_of(tools.alloc, &reply),
         Err(fault) => Err(Stop::Store(fault)),
     }
 }
 
 // Takes the obligation, asks the prover, and hands in what it answers.
 fn auto<R: Wait, V: EventStore, P: Prover, G: Gate>(
-    rt: &R,
-    alloc: Global,
-    desk: &Desk<V>,
+    tools: &Tools<'_, R, P, G>,
+    office: &Office<'_, V>,
     chair: &mut Chair<V>,
-    prover: &P,
-    gate: &G,
     name: PoName,
 ) -> Result<String, Stop>
-    requires { IsOf desk.now chair.old × (chair.old.number ≡ 0) }
+    requires { IsOf office.now.desk.now chair.old × (chair.old.number ≡ 0) }
     ensures chair { IsSameChair chair.old chair.new }
-    ensures answered { ComesOfLine (fair (P.answers prover.now) (P.sure prover.now)) desk.now.base
-        (Line.Auto name) chair.old.seen result chair.new.seen }
+    ensures answered { ComesOfLine (fair (P.answers tools.now.prover.now) (P.sure tools.now.prover.now))
+        office.now.desk.now.base (Line.Auto name) chair.old.seen result chair.new.seen }
 {
     one_answer();
     stays_orderly();
     shows_well_formulas();
-    match take_named(rt, desk, chair, name) {
-        Ok(Ok(ticket)) => finish_told(rt, alloc, desk, chair, prover, gate, ticket),
-        Ok(Err(reply)) => text_of(alloc, &reply),
+    match take_named(tools.rt, office.desk, chair, name) {
+        Ok(Ok(ticket)) => finish_told(tools, office, chair, ticket),
+        Ok(Err(reply)) => text_of(tools.alloc, &reply),
         Err(fault) => Err(Stop::Store(fault)),
     }
 }
@@ -163,40 +155,38 @@ fn auto<R: Wait, V: EventStore, P: Prover, G: Gate>(
 // A round of `wait`: a ticket is taken and finished, or it is asked whether all is idle. Where it isn't, it waits for the
 // finish of a worker.
 fn wait_turn<R: Wait, V: EventStore, P: Prover, G: Gate>(
-    rt: &R,
-    alloc: Global,
-    desk: &Desk<V>,
+    tools: &Tools<'_, R, P, G>,
+    office: &Office<'_, V>,
     chair: &mut Chair<V>,
-    notices: &Notices,
-    prover: &P,
-    gate: &G,
 ) -> Result<bool, StoreFault>
-    requires { IsOf desk.now chair.old × (chair.old.number ≡ 0) }
+    requires { IsOf office.now.desk.now chair.old × (chair.old.number ≡ 0) }
     ensures chair { IsSameChair chair.old chair.new }
     ensures turned { IfOk result (λ idle. MatchBool idle
-        (GoesOn (fair (P.answers prover.now) (P.sure prover.now)) desk.now.base Line.Wait
-        (asks (Event.Take None)) chair.old.seen (tells (reply_text (Reply.Idle true))) chair.new.seen)
-        (GoesOn (fair (P.answers prover.now) (P.sure prover.now)) desk.now.base Line.Wait
-        (asks (Event.Take None)) chair.old.seen (asks (Event.Take None)) chair.new.seen)) }
-    ensures stopped { OnErr result (StoppedWithin (fair (P.answers prover.now)
-        (P.sure prover.now)) desk.now.base Line.Wait (asks (Event.Take None)) chair.old.seen chair.new.seen) }
+        (GoesOn (fair (P.answers tools.now.prover.now) (P.sure tools.now.prover.now))
+        office.now.desk.now.base Line.Wait (asks (Event.Take None)) chair.old.seen
+        (tells (reply_text (Reply.Idle true))) chair.new.seen)
+        (GoesOn (fair (P.answers tools.now.prover.now) (P.sure tools.now.prover.now))
+        office.now.desk.now.base Line.Wait (asks (Event.Take None)) chair.old.seen
+        (asks (Event.Take None)) chair.new.seen)) }
+    ensures stopped { OnErr result (StoppedWithin (fair (P.answers tools.now.prover.now) (P.sure tools.now.prover.now))
+        office.now.desk.now.base Line.Wait (asks (Event.Take None)) chair.old.seen chair.new.seen) }
 {
     one_answer();
     stays_orderly();
-    match take_next(rt, desk, chair) {
+    match take_next(tools.rt, office.desk, chair) {
         Err(fault) => Err(fault),
-        Ok(Some(ticket)) => match finish_ticket(rt, alloc, desk, chair, prover, gate, ticket) {
+        Ok(Some(ticket)) => match finish_ticket(tools, office.desk, chair, ticket) {
             Ok(reply) => {
                 drop(reply);
                 Ok(false)
             }
             Err(fault) => Err(fault),
         },
-        Ok(None) => match ask_idle(rt, desk, chair) {
+        Ok(None) => match ask_idle(tools.rt, office.desk, chair) {
             Err(fault) => Err(fault),
             Ok(idle) => {
                 if !idle {
-                    notices.finished(rt);
+                    office.notices.finished(tools.rt);
                 }
                 Ok(idle)
             }
@@ -206,25 +196,21 @@ fn wait_turn<R: Wait, V: EventStore, P: Prover, G: Gate>(
 
 // Takes and finishes until nothing is left and no ticket is out.
 fn wait<R: Wait, V: EventStore, P: Prover, G: Gate>(
-    rt: &R,
-    alloc: Global,
-    desk: &Desk<V>,
+    tools: &Tools<'_, R, P, G>,
+    office: &Office<'_, V>,
     chair: &mut Chair<V>,
-    notices: &Notices,
-    prover: &P,
-    gate: &G,
 ) -> Result<(), StoreFault>
-    requires { IsOf desk.now chair.old × (chair.old.number ≡ 0) }
+    requires { IsOf office.now.desk.now chair.old × (chair.old.number ≡ 0) }
     ensures chair { IsSameChair chair.old chair.new }
-    ensures answered { OnOk result (AnswersUpTo (fair (P.answers prover.now) (P.sure prover.now))
-        desk.now.base Line.Wait chair.old.seen (tells (reply_text (Reply.Idle true))) chair.new.seen) }
-    ensures stopped { OnErr result (StoppedIn
-        (fair (P.answers prover.now) (P.sure prover.now)) desk.now.base Line.Wait chair.old.seen chair.new.seen) }
+    ensures answered { OnOk result (AnswersUpTo (fair (P.answers tools.now.prover.now) (P.sure tools.now.prover.now))
+        office.now.desk.now.base Line.Wait chair.old.seen (tells (reply_text (Reply.Idle true))) chair.new.seen) }
+    ensures stopped { OnErr result (StoppedIn (fair (P.answers tools.now.prover.now) (P.sure tools.now.prover.now))
+        office.now.desk.now.base Line.Wait chair.old.seen chair.new.seen) }
 {
     one_answer();
     stays_orderly();
-    for _ in rt.forever() {
-        match wait_turn(rt, alloc, desk, chair, notices, prover, gate) {
+    for _ in tools.rt.forever() {
+        match wait_turn(tools, office, chair) {
             Ok(true) => return Ok(()),
             Ok(false) => {}
             Err(fault) => return Err(fault),
@@ -246,23 +232,19 @@ fn idle_text(alloc: Global) -> Result<String, Stop>
 
 // Waits until all is idle, and tells it.
 fn answer_wait<R: Wait, V: EventStore, P: Prover, G: Gate>(
-    rt: &R,
-    alloc: Global,
-    desk: &Desk<V>,
+    tools: &Tools<'_, R, P, G>,
+    office: &Office<'_, V>,
     chair: &mut Chair<V>,
-    notices: &Notices,
-    prover: &P,
-    gate: &G,
 ) -> Result<String, Stop>
-    requires { IsOf desk.now chair.old × (chair.old.number ≡ 0) }
+    requires { IsOf office.now.desk.now chair.old × (chair.old.number ≡ 0) }
     ensures chair { IsSameChair chair.old chair.new }
-    ensures answered { ComesOfLine
-        (fair (P.answers prover.now) (P.sure prover.now)) desk.now.base Line.Wait chair.old.seen result chair.new.seen }
+    ensures answered { ComesOfLine (fair (P.answers tools.now.prover.now) (P.sure tools.now.prover.now))
+        office.now.desk.now.base Line.Wait chair.old.seen result chair.new.seen }
 {
     one_answer();
     stays_orderly();
-    match wait(rt, alloc, desk, chair, notices, prover, gate) {
-        Ok(()) => idle_text(alloc),
+    match wait(tools, office, chair) {
+        Ok(()) => idle_text(tools.alloc),
         Err(fault) => Err(Stop::Store(fault)),
     }
 }
@@ -288,26 +270,28 @@ fn answer_refused<V: EventStore, P: Prover>(
 
 /// Answers a line, which isn't the one that ends a session.
 pub fn answer<R: Wait, V: EventStore, P: Prover, G: Gate>(
-    rt: &R,
-    alloc: Global,
-    desk: &Desk<V>,
+    tools: &Tools<'_, R, P, G>,
+    office: &Office<'_, V>,
     chair: &mut Chair<V>,
-    notices: &Notices,
-    prover: &P,
-    gate: &G,
     line: Line,
 ) -> Result<String, Stop>
-    requires chair { IsOf desk.now chair.old × (chair.old.number ≡ 0) }
+    requires chair { IsOf office.now.desk.now chair.old × (chair.old.number ≡ 0) }
     requires line { (line ≢ Line.Quit) × (line ≢ Line.CutEdit) }
     ensures chair { IsSameChair chair.old chair.new }
-    ensures answered { ComesOfLine (fair (P.answers prover.now) (P.sure prover.now))
-        desk.now.base line chair.old.seen result chair.new.seen }
+    ensures answered { ComesOfLine (fair (P.answers tools.now.prover.now) (P.sure tools.now.prover.now))
+        office.now.desk.now.base line chair.old.seen result chair.new.seen }
 {
     match line {
-        Line::One(event) => answer_one(rt, alloc, desk, chair, notices, prover, event),
-        Line::Auto(name) => auto(rt, alloc, desk, chair, prover, gate, name),
-        Line::Wait => answer_wait(rt, alloc, desk, chair, notices, prover, gate),
-        Line::Refused(fault) => answer_refused(alloc, desk, chair, prover, fault),
+        Line::One(event) => answer_one(tools, office, chair, event),
+        Line::Auto(name) => auto(tools, office, chair, name),
+        Line::Wait => answer_wait(tools, office, chair),
+        Line::Refused(fault) => answer_refused(
+            tools.alloc,
+            office.desk,
+            chair,
+            tools.prover,
+            fault,
+        ),
         Line::Quit | Line::CutEdit => unreachable!(),
     }
 }

@@ -8,15 +8,14 @@ ghost use Rattle.session_talk.specs.Conversing.{Converses};
 ghost use Rattle.session_talk.specs.Private.{ending_of, EndsAt, SaysOrEnds, IsServing, ServesLine, TurnsTo};
 
 use outside::{Gate, Sink, Source};
-use prover_pool::Notices;
+use prover_pool::{Office, Tools};
 use sequent_core::Prover;
 use session_run::{Stop, answer};
 use session_streams::{ReadEnd, Reader, next_line, write_text};
 use session_words::Line;
-use std::alloc::Global;
 use std::sync::Wait;
 use store_log::{EventStore, StoreFault};
-use turn_desk::{Chair, Desk};
+use turn_desk::Chair;
 
 /// How the commands of a session ended.
 #[derive(Debug, PartialEq, Eq, Clone, Copy)]
@@ -71,25 +70,21 @@ fn say<O: Sink>(output: &mut O, said: String) -> Result<(), Ending>
 
 // Answers a line, and writes the answer.
 fn serve_line<R: Wait, V: EventStore, O: Sink, P: Prover, G: Gate>(
-    rt: &R,
-    alloc: Global,
-    desk: &Desk<V>,
+    tools: &Tools<'_, R, P, G>,
+    office: &Office<'_, V>,
     chair: &mut Chair<V>,
-    notices: &Notices,
     output: &mut O,
-    prover: &P,
-    gate: &G,
     line: Line,
 ) -> Result<(), Ending>
-    requires chair { IsOf desk.now chair.old × (chair.old.number ≡ 0) }
+    requires chair { IsOf office.now.desk.now chair.old × (chair.old.number ≡ 0) }
     requires line { (line ≢ Line.Quit) × (line ≢ Line.CutEdit) }
     ensures chair { IsSameChair chair.old chair.new }
-    ensures served { ServesLine (fair (P.answers prover.now) (P.sure prover.now)) desk.now.base
-        line chair.old.seen result chair.new.seen
+    ensures served { ServesLine (fair (P.answers tools.now.prover.now) (P.sure tools.now.prover.now))
+        office.now.desk.now.base line chair.old.seen result chair.new.seen
         (writing (O.written output.old) (O.written output.new) (O.faults output.old) (O.faults output.new)) }
     ensures later { O.faults output.old ≤ O.faults output.new }
 {
-    match answer(rt, alloc, desk, chair, notices, prover, gate, line) {
+    match answer(tools, office, chair, line) {
         Ok(said) => say(output, said),
         Err(stop) => Err(ending_of(stop)),
     }
@@ -97,24 +92,20 @@ fn serve_line<R: Wait, V: EventStore, O: Sink, P: Prover, G: Gate>(
 
 // Reads a line, answers it, and writes the answer.
 fn turn<R: Wait, V: EventStore, I: Source, O: Sink, P: Prover, G: Gate>(
-    rt: &R,
-    alloc: Global,
-    desk: &Desk<V>,
+    tools: &Tools<'_, R, P, G>,
+    office: &Office<'_, V>,
     chair: &mut Chair<V>,
-    notices: &Notices,
     input: &mut I,
     reader: &mut Reader,
     output: &mut O,
-    prover: &P,
-    gate: &G,
 ) -> Result<(), Ending>
-    requires { IsOf desk.now chair.old × (chair.old.number ≡ 0) }
+    requires { IsOf office.now.desk.now chair.old × (chair.old.number ≡ 0) }
     ensures chair { IsSameChair chair.old chair.new }
     ensures turned { (left : Option (List ℕ)) (faults : ℕ) (written : Option (List ℕ)) (losses : ℕ) →
-        IsServing (fair (P.answers prover.now) (P.sure prover.now)) desk.now.base
+        IsServing (fair (P.answers tools.now.prover.now) (P.sure tools.now.prover.now)) office.now.desk.now.base
         (reading left (I.left input.old) faults (I.faults input.old))
         (writing written (O.written output.old) losses (O.faults output.old)) chair.old.seen reader.old →
-        TurnsTo (fair (P.answers prover.now) (P.sure prover.now)) desk.now.base
+        TurnsTo (fair (P.answers tools.now.prover.now) (P.sure tools.now.prover.now)) office.now.desk.now.base
         (reading left (I.left input.new) faults (I.faults input.new))
         (writing written (O.written output.new) losses (O.faults output.new)) chair.new.seen reader.new result }
 {
@@ -123,44 +114,30 @@ fn turn<R: Wait, V: EventStore, I: Source, O: Sink, P: Prover, G: Gate>(
         Err(end) => return Err(Ending::Read(end)),
     };
     match before_end(line) {
-        Ok(line) => serve_line(rt, alloc, desk, chair, notices, output, prover, gate, line),
+        Ok(line) => serve_line(tools, office, chair, output, line),
         Err(ending) => Err(ending),
     }
 }
 
 /// Reads and answers the lines of the source, one after another, until the commands end.
 pub fn converse<R: Wait, V: EventStore, I: Source, O: Sink, P: Prover, G: Gate>(
-    rt: &R,
-    alloc: Global,
-    desk: &Desk<V>,
+    tools: &Tools<'_, R, P, G>,
+    office: &Office<'_, V>,
     chair: &mut Chair<V>,
-    notices: &Notices,
     input: &mut I,
     output: &mut O,
-    prover: &P,
-    gate: &G,
 ) -> Ending
-    requires { IsOf desk.now chair.old × (chair.old.number ≡ 0) × (chair.old.seen ≡ []) }
+    requires { IsOf office.now.desk.now chair.old × (chair.old.number ≡ 0) × (chair.old.seen ≡ []) }
     ensures chair { IsSameChair chair.old chair.new }
-    ensures ended { Converses (fair (P.answers prover.now) (P.sure prover.now)) desk.now.base
+    ensures ended { Converses (fair (P.answers tools.now.prover.now) (P.sure tools.now.prover.now))
+        office.now.desk.now.base
         (reading (I.left input.old) (I.left input.new) (I.faults input.old) (I.faults input.new))
         (writing (O.written output.old) (O.written output.new) (O.faults output.old) (O.faults output.new))
         chair.new.seen result }
 {
-    let mut reader = Reader::new(alloc);
-    for _ in rt.forever() {
-        match turn(
-            rt,
-            alloc,
-            desk,
-            chair,
-            notices,
-            input,
-            &mut reader,
-            output,
-            prover,
-            gate,
-        ) {
+    let mut reader = Reader::new(tools.alloc);
+    for _ in tools.rt.forever() {
+        match turn(tools, office, chair, input, &mut reader, output) {
             Ok(()) => {}
             Err(ending) => return ending,
         }

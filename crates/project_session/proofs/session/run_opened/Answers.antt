@@ -19,7 +19,7 @@ returns-in-Err g c old opens =
     let here = subst (λ s. Opens g.D.Disk.told g.D.Disk.bytes_of g.D.Disk.images g.D.Disk.faults old s) (sym c.in-Err.ensures.refused) opens in
     let ended = c.end_unplayed.ensures c.args.workers old (g.I.Source.left c.play.new.input) (g.I.Source.faults c.play.new.input) here in
     subst (λ (z : Option (List ℕ) × ℕ × Option (List ℕ) × ℕ). IsSession g.D.Disk.told g.D.Disk.bytes_of g.D.Disk.images g.D.Disk.faults
-    (fair (g.P.Prover.answers c.args.prover.now) (g.P.Prover.sure c.args.prover.now)) (g.P.Prover.sure c.args.prover.now) c.args.workers old c.end_unplayed.result.disk
+    (fair (g.P.Prover.answers c.args.tools.now.prover.now) (g.P.Prover.sure c.args.tools.now.prover.now)) (g.P.Prover.sure c.args.tools.now.prover.now) c.args.workers old c.end_unplayed.result.disk
     (reading z.0 (g.I.Source.left c.play.new.input) z.1 (g.I.Source.faults c.play.new.input))
     (writing z.2 (g.O.Sink.written c.end_unplayed.new.output) z.3 (g.O.Sink.faults c.end_unplayed.new.output))
     c.end_unplayed.result.status c.end_unplayed.result.history.items c.end_unplayed.result.last)

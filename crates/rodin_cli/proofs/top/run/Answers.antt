@@ -19,7 +19,7 @@ returns-in-Some-Check-clause-usage g c none = absurd (none Check (rw c.in-Some-C
 
 pub returns-in-Some-Check-clause-words : goal.returns-in-Some-Check-clause-words
 returns-in-Some-Check-clause-words g c = (
-  rw c.with_disk.ensures (λ e. absurd (check_not_2 (g.P.Prover.answers c.args.prover.now) (g.P.Prover.sure c.args.prover.now) _ _ c.run_check.result c.run_check.ensures.checked e)),
+  rw c.with_disk.ensures (λ e. absurd (check_not_2 (g.P.Prover.answers c.args.tools.now.prover.now) (g.P.Prover.sure c.args.tools.now.prover.now) _ _ c.run_check.result c.run_check.ensures.checked e)),
   λ none. absurd (none Check (rw c.in-Some-Check.field-0-is at c.in-Some-Check.ensures)),
 )
 
@@ -112,7 +112,7 @@ pub returns-in-Some-Demo-clause-demonstrated : goal.returns-in-Some-Demo-clause-
 returns-in-Some-Demo-clause-demonstrated g c seed n demo =
     let one = one_demo c.args.words.now c.in-Some-Demo.seed c.in-Some-Demo.n seed n (rw c.in-Some-Demo.field-0-is at c.in-Some-Demo.ensures) demo in
     rw c.with_disk-in-Some-Demo.ensures
-    (same_demo (g.P.Prover.answers c.args.prover.now) (g.P.Prover.sure c.args.prover.now) c.in-Some-Demo.seed c.in-Some-Demo.n seed n one.0 one.1 _ c.run_demo.result c.run_demo.ensures.demonstrated)
+    (same_demo (g.P.Prover.answers c.args.tools.now.prover.now) (g.P.Prover.sure c.args.tools.now.prover.now) c.in-Some-Demo.seed c.in-Some-Demo.n seed n one.0 one.1 _ c.run_demo.result c.run_demo.ensures.demonstrated)
 
 pub returns-in-Some-Demo-clause-usage : goal.returns-in-Some-Demo-clause-usage
 returns-in-Some-Demo-clause-usage g c none = absurd (none (Demo c.in-Some-Demo.seed c.in-Some-Demo.n) (rw c.in-Some-Demo.field-0-is at c.in-Some-Demo.ensures))
@@ -120,7 +120,7 @@ returns-in-Some-Demo-clause-usage g c none = absurd (none (Demo c.in-Some-Demo.s
 pub returns-in-Some-Demo-clause-words : goal.returns-in-Some-Demo-clause-words
 returns-in-Some-Demo-clause-words g c = (
   rw c.with_disk-in-Some-Demo.ensures (λ e.
-      absurd (demo_not_2 (g.P.Prover.answers c.args.prover.now) (g.P.Prover.sure c.args.prover.now) c.in-Some-Demo.seed c.in-Some-Demo.n _ c.run_demo.result c.run_demo.ensures.demonstrated e)),
+      absurd (demo_not_2 (g.P.Prover.answers c.args.tools.now.prover.now) (g.P.Prover.sure c.args.tools.now.prover.now) c.in-Some-Demo.seed c.in-Some-Demo.n _ c.run_demo.result c.run_demo.ensures.demonstrated e)),
   λ none. absurd (none (Demo c.in-Some-Demo.seed c.in-Some-Demo.n) (rw c.in-Some-Demo.field-0-is at c.in-Some-Demo.ensures)),
 )
 
@@ -131,7 +131,7 @@ returns-in-Some-Demo-clause-ended g c check =
 pub returns-in-Some-Demo-clause-read_fault : goal.returns-in-Some-Demo-clause-read_fault
 returns-in-Some-Demo-clause-read_fault g c =
     rw c.with_disk-in-Some-Demo.ensures (λ e.
-    absurd (demo_not_3 (g.P.Prover.answers c.args.prover.now) (g.P.Prover.sure c.args.prover.now) c.in-Some-Demo.seed c.in-Some-Demo.n _ c.run_demo.result c.run_demo.ensures.demonstrated e))
+    absurd (demo_not_3 (g.P.Prover.answers c.args.tools.now.prover.now) (g.P.Prover.sure c.args.tools.now.prover.now) c.in-Some-Demo.seed c.in-Some-Demo.n _ c.run_demo.result c.run_demo.ensures.demonstrated e))
 
 pub returns-in-Some-Demo-clause-write_fault : goal.returns-in-Some-Demo-clause-write_fault
 returns-in-Some-Demo-clause-write_fault g c = rw c.with_disk-in-Some-Demo.ensures c.run_demo.ensures.write_fault

@@ -8,7 +8,7 @@ use Rattle.session_run.proofs.answering.answer_one.Goals as goal
 pub returns-in-Ok-clause-answered : goal.returns-in-Ok-clause-answered
 returns-in-Ok-clause-answered g c =
     let laws : CoreLaws = record { one = c.one_answer.ensures; orderly = c.stays_orderly.ensures } in
-    let f = fair (g.P.Prover.answers c.args._prover.now) (g.P.Prover.sure c.args._prover.now) in let b = c.args.desk.now.base in
+    let f = fair (g.P.Prover.answers c.args.tools.now.prover.now) (g.P.Prover.sure c.args.tools.now.prover.now) in let b = c.args.office.now.desk.now.base in
     let seen = c.args.chair.now.seen in let sees = c.act_on.new.chair.seen in
     told_by laws f b (One c.args.event) seen sees (reply_text c.in-Ok.reply) c.text_of.result c.text_of.ensures.told c.text_of.ensures.untold
     (one_goes laws f b c.args.event c.in-Ok.reply seen sees c.in-Ok.ensures.acted)
@@ -16,8 +16,8 @@ returns-in-Ok-clause-answered g c =
 pub returns-in-Err-clause-answered : goal.returns-in-Err-clause-answered
 returns-in-Err-clause-answered g c =
     let laws : CoreLaws = record { one = c.one_answer.ensures; orderly = c.stays_orderly.ensures } in
-    let f = fair (g.P.Prover.answers c.args._prover.now) (g.P.Prover.sure c.args._prover.now) in
-    one_stops laws f c.args.desk.now.base c.args.event c.in-Err.fault c.args.chair.now.seen c.act_on.new.chair.seen c.in-Err.ensures.acted
+    let f = fair (g.P.Prover.answers c.args.tools.now.prover.now) (g.P.Prover.sure c.args.tools.now.prover.now) in
+    one_stops laws f c.args.office.now.desk.now.base c.args.event c.in-Err.fault c.args.chair.now.seen c.act_on.new.chair.seen c.in-Err.ensures.acted
 
 pub text_of-requires : goal.text_of-requires
-text_of-requires g c = shown_well c.shows_well_formulas.ensures c.args.desk.now.base c.args.event c.in-Ok.reply c.args.chair.now.seen c.act_on.new.chair.seen c.in-Ok.ensures.acted
+text_of-requires g c = shown_well c.shows_well_formulas.ensures c.args.office.now.desk.now.base c.args.event c.in-Ok.reply c.args.chair.now.seen c.act_on.new.chair.seen c.in-Ok.ensures.acted

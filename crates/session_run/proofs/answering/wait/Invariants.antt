@@ -10,4 +10,4 @@ use Rattle.session_run.proofs.answering.wait.Given as goal
 abbrev pub invariant-loop : goal.invariant-loop
 invariant-loop g l =
     IsSameChair l.initial.chair l.chair
-    × AnswersUpTo (fair (g.P.Prover.answers l.prover) (g.P.Prover.sure l.prover)) l.desk.base Wait l.initial.chair.seen (asks (Take None)) l.chair.seen
+    × AnswersUpTo (fair (g.P.Prover.answers l.tools.prover.now) (g.P.Prover.sure l.tools.prover.now)) l.office.desk.now.base Wait l.initial.chair.seen (asks (Take None)) l.chair.seen

@@ -13,7 +13,7 @@ use Rattle.session_run.proofs.answering.wait_turn.Goals as goal
 pub returns-in-Ok-clause-turned : goal.returns-in-Ok-clause-turned
 returns-in-Ok-clause-turned g c =
     let laws : CoreLaws = record { one = c.one_answer.ensures; orderly = c.stays_orderly.ensures } in
-    let f = fair (g.P.Prover.answers c.args.prover.now) (g.P.Prover.sure c.args.prover.now) in let b = c.args.desk.now.base in
+    let f = fair (g.P.Prover.answers c.args.tools.now.prover.now) (g.P.Prover.sure c.args.tools.now.prover.now) in let b = c.args.office.now.desk.now.base in
     let k = c.in-Ok-Some.ticket in let d = c.in-Ok.ensures.acted in
     then_on laws f b Wait (asks (Take None)) (owes k) (asks (Take None)) c.args.chair.now.seen c.take_next.new.chair.seen c.finish_ticket.new.chair.seen
     (wait_took laws f b c.in-Ok-Some.field-0 k c.in-Ok-Some.field-0-is c.args.chair.now.seen c.take_next.new.chair.seen c.in-Ok-Some.ensures.took)
@@ -22,7 +22,7 @@ returns-in-Ok-clause-turned g c =
 pub returns-in-Err-finish_ticket-clause-stopped : goal.returns-in-Err-finish_ticket-clause-stopped
 returns-in-Err-finish_ticket-clause-stopped g c =
     let laws : CoreLaws = record { one = c.one_answer.ensures; orderly = c.stays_orderly.ensures } in
-    let f = fair (g.P.Prover.answers c.args.prover.now) (g.P.Prover.sure c.args.prover.now) in let b = c.args.desk.now.base in
+    let f = fair (g.P.Prover.answers c.args.tools.now.prover.now) (g.P.Prover.sure c.args.tools.now.prover.now) in let b = c.args.office.now.desk.now.base in
     let k = c.in-Ok-Some.ticket in let d = c.in-Err-finish_ticket.ensures.acted in
     then_stops laws f b Wait (asks (Take None)) (owes k) c.args.chair.now.seen c.take_next.new.chair.seen c.finish_ticket.new.chair.seen
     (wait_took laws f b c.in-Ok-Some.field-0 k c.in-Ok-Some.field-0-is c.args.chair.now.seen c.take_next.new.chair.seen c.in-Ok-Some.ensures.took)
@@ -31,7 +31,7 @@ returns-in-Err-finish_ticket-clause-stopped g c =
 pub returns-in-Err-ask_idle-clause-stopped : goal.returns-in-Err-ask_idle-clause-stopped
 returns-in-Err-ask_idle-clause-stopped g c =
     let laws : CoreLaws = record { one = c.one_answer.ensures; orderly = c.stays_orderly.ensures } in
-    let f = fair (g.P.Prover.answers c.args.prover.now) (g.P.Prover.sure c.args.prover.now) in let b = c.args.desk.now.base in
+    let f = fair (g.P.Prover.answers c.args.tools.now.prover.now) (g.P.Prover.sure c.args.tools.now.prover.now) in let b = c.args.office.now.desk.now.base in
     let d = c.in-Err-ask_idle.ensures.stopped in
     then_stops laws f b Wait (asks (Take None)) (asks (Ask AskIdle)) c.args.chair.now.seen c.take_next.new.chair.seen c.ask_idle.new.chair.seen
     (wait_empty laws f b c.in-Ok-None.field-0 c.in-Ok-None.field-0-is c.args.chair.now.seen c.take_next.new.chair.seen c.in-Ok-None.ensures.took)
@@ -40,14 +40,14 @@ returns-in-Err-ask_idle-clause-stopped g c =
 pub returns-then-not-idle-clause-turned : goal.returns-then-not-idle-clause-turned
 returns-then-not-idle-clause-turned g c =
     let laws : CoreLaws = record { one = c.one_answer.ensures; orderly = c.stays_orderly.ensures } in
-    let f = fair (g.P.Prover.answers c.args.prover.now) (g.P.Prover.sure c.args.prover.now) in let b = c.args.desk.now.base in
+    let f = fair (g.P.Prover.answers c.args.tools.now.prover.now) (g.P.Prover.sure c.args.tools.now.prover.now) in let b = c.args.office.now.desk.now.base in
     wait_asked laws f b c.in-Ok-ask_idle.idle c.args.chair.now.seen c.take_next.new.chair.seen c.ask_idle.new.chair.seen
     (wait_empty laws f b c.in-Ok-None.field-0 c.in-Ok-None.field-0-is c.args.chair.now.seen c.take_next.new.chair.seen c.in-Ok-None.ensures.took) c.in-Ok-ask_idle.ensures.asked
 
 pub returns-else-not-idle-clause-turned : goal.returns-else-not-idle-clause-turned
 returns-else-not-idle-clause-turned g c =
     let laws : CoreLaws = record { one = c.one_answer.ensures; orderly = c.stays_orderly.ensures } in
-    let f = fair (g.P.Prover.answers c.args.prover.now) (g.P.Prover.sure c.args.prover.now) in let b = c.args.desk.now.base in
+    let f = fair (g.P.Prover.answers c.args.tools.now.prover.now) (g.P.Prover.sure c.args.tools.now.prover.now) in let b = c.args.office.now.desk.now.base in
     wait_asked laws f b c.in-Ok-ask_idle.idle c.args.chair.now.seen c.take_next.new.chair.seen c.ask_idle.new.chair.seen
     (wait_empty laws f b c.in-Ok-None.field-0 c.in-Ok-None.field-0-is c.args.chair.now.seen c.take_next.new.chair.seen c.in-Ok-None.ensures.took) c.in-Ok-ask_idle.ensures.asked
 

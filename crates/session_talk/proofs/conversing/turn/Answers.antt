@@ -6,13 +6,13 @@ use Rattle.session_talk.proofs.conversing.turn.Goals as goal
 
 pub returns-in-Err-clause-turned : goal.returns-in-Err-clause-turned
 returns-in-Err-clause-turned g c left faults written losses s =
-    let f = fair (g.P.Prover.answers c.args.prover.now) (g.P.Prover.sure c.args.prover.now) in let b = c.args.desk.now.base in
+    let f = fair (g.P.Prover.answers c.args.tools.now.prover.now) (g.P.Prover.sure c.args.tools.now.prover.now) in let b = c.args.office.now.desk.now.base in
     reading_ends f b left (g.I.Source.left c.args.input.now) (g.I.Source.left c.next_line.new.input) faults (g.I.Source.faults c.args.input.now) (g.I.Source.faults c.next_line.new.input)
     (writing written (g.O.Sink.written c.args.output.now) losses (g.O.Sink.faults c.args.output.now)) c.args.chair.now.seen c.args.reader.now c.in-Err.end c.in-Err.ensures.ended s
 
 pub returns-in-Err-before_end-clause-turned : goal.returns-in-Err-before_end-clause-turned
 returns-in-Err-before_end-clause-turned g c left faults written losses s =
-    let f = fair (g.P.Prover.answers c.args.prover.now) (g.P.Prover.sure c.args.prover.now) in let b = c.args.desk.now.base in
+    let f = fair (g.P.Prover.answers c.args.tools.now.prover.now) (g.P.Prover.sure c.args.tools.now.prover.now) in let b = c.args.office.now.desk.now.base in
     let sink = writing written (g.O.Sink.written c.args.output.now) losses (g.O.Sink.faults c.args.output.now) in
     let h = line_read f b left (g.I.Source.left c.args.input.now) (g.I.Source.left c.next_line.new.input) faults (g.I.Source.faults c.args.input.now) (g.I.Source.faults c.next_line.new.input)
     sink c.args.chair.now.seen c.args.reader.now c.next_line.new.reader c.in-Ok.line c.in-Ok.ensures.given c.next_line.ensures.later s in
@@ -21,7 +21,7 @@ returns-in-Err-before_end-clause-turned g c left faults written losses s =
 
 pub returns-in-Ok-before_end-clause-turned : goal.returns-in-Ok-before_end-clause-turned
 returns-in-Ok-before_end-clause-turned g c left faults written losses s =
-    let f = fair (g.P.Prover.answers c.args.prover.now) (g.P.Prover.sure c.args.prover.now) in let b = c.args.desk.now.base in
+    let f = fair (g.P.Prover.answers c.args.tools.now.prover.now) (g.P.Prover.sure c.args.tools.now.prover.now) in let b = c.args.office.now.desk.now.base in
     let before = g.O.Sink.written c.args.output.now in let low = g.O.Sink.faults c.args.output.now in
     let sink = writing written before losses low in
     let h = line_read f b left (g.I.Source.left c.args.input.now) (g.I.Source.left c.next_line.new.input) faults (g.I.Source.faults c.args.input.now) (g.I.Source.faults c.next_line.new.input)
