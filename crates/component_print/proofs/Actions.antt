@@ -10,7 +10,7 @@ use Rattle.math_grammar.specs.declared.symbols.Symbol.TheVariants as sym
 use Rattle.math_grammar.specs.Tokens.{Item}
 use Rattle.math_grammar.specs.Actions.{Targets, last_target, next_target, Values, last_value, next_value, SpellsAction, assigns, applies, chooses_in, chooses_such}
 use Rattle.math_grammar.specs.Characters.{bytes}
-use Rattle.raw_print.specs.Pieces.{word_piece, in_round, separated_pieces}
+use Rattle.token_text.specs.Pieces.{word_piece, in_round, separated_pieces}
 use Rattle.raw_print.specs.Printing.{pieces, target, targets, action_pieces}
 use Rattle.component_print.proofs.Signs.{ready-becomes, ready-becomes_in, ready-becomes_such}
 use Rattle.component_print.proofs.Chains.{Printed, with_sign, AllPrinted, all_separated, printed_name}

@@ -25,7 +25,7 @@ use Rattle.component_text.specs.Machines.{IsActionWithin, Refines, Variant, vari
 use Rattle.component_text.proofs.Parts.{Ended, at_word, at_label}
 use Rattle.component_text.proofs.Whole.{same_word}
 use Rattle.component_print.specs.Unplaced.{unplaced_labelled, unplaced_variant, unplaced_labelled_action, unplaced_event, unplaced_component}
-use Rattle.math_places.specs.Places.{unplaced, unplaced_action, unplaced_ref}
+use Rattle.math_places.specs.Places.{unplaced_action, unplaced_ref}
 use Rattle.raw_print.specs.Printing.{raw_tokens, action_tokens}
 use Rattle.component_print.proofs.Marked.{name_mark, names_marks, theorem_marks, line_marks, labelled_marks, lines_marks, section_marks, step_marks, step_lines_marks, steps_marks, convergence_marks, abstract_word, end_marks, event_body_marks, event_marks, event_list_marks, events_marks, variant_marks, component_marks, unplaced_mark, split_one, split_both, none_left, word_placed, label_placed, items_placed}
 use Rattle.component_print.proofs.Made.{IsWitness, IsStep, IsAbstracts, IsEvent, IsRefined, IsVariant, IsMade}

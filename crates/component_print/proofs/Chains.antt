@@ -22,9 +22,9 @@ use Rattle.token_text.proofs.Words.{is_lettered, lettered_opens_set}
 use Rattle.token_text.proofs.Signs.{opens_set}
 use Rattle.token_text.proofs.Names.{fits-name, name_lettered}
 use Rattle.token_text.proofs.Numbers.{decimal_writes, fits-number, number_lettered}
-use Rattle.raw_print.specs.Pieces.{Piece, Blank, Token, text_of, tokens_of, word_piece, close_round_piece, close_square_piece, close_brace_piece, in_round, in_square, in_braces, sign_between, behind_commas, separated_pieces}
+use Rattle.token_text.specs.Pieces.{Piece, Blank, Token, text_of, tokens_of, word_piece, close_round_piece, close_square_piece, close_brace_piece, in_round, in_square, in_braces, sign_between, behind_commas, separated_pieces}
 use Rattle.raw_print.specs.Printing.{stands_alone, operand_pieces}
-use Rattle.raw_print.proofs.Equations.{text-append}
+use Rattle.token_text.proofs.Pieces.{text-append}
 use Rattle.component_print.proofs.Laying.{opens_no_piece, Laid, a_blank, a_token}
 use Rattle.component_print.proofs.Signs.{IsPlainText, Ready, ready-open_round, ready-close_round, ready-open_square, ready-close_square, ready-comma, fits-open_brace, fits-close_brace}
 

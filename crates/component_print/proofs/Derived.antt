@@ -32,7 +32,7 @@ use Rattle.math_grammar.specs.Grammar.{Reads, a_name, a_number, a_truth, a_const
 use Rattle.token_text.specs.Spacing.{is_space}
 use Rattle.token_text.proofs.Following.{stops, Follows}
 use Rattle.math_grammar.specs.Characters.{bytes}
-use Rattle.raw_print.specs.Pieces.{Piece, Token, text_of, word_piece, dot_piece, bar_piece, typing_piece, in_round, in_square, sign_between, separated_pieces}
+use Rattle.token_text.specs.Pieces.{Piece, Token, text_of, word_piece, dot_piece, bar_piece, typing_piece, in_round, in_square, sign_between, separated_pieces}
 use Rattle.math_grammar.specs.Operators.{raw_sign_of, raw_class_of}
 use Rattle.raw_print.specs.Printing as printing
 use Rattle.raw_print.specs.Printing.{PartWithPieces, operand_pieces, bare as bare_parts, form, pieces, bind_pieces, body_pieces, pattern, pattern_step, pattern_name_count, names_in_step}

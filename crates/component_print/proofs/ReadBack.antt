@@ -24,7 +24,7 @@ use Rattle.component_text.specs.Machines.{IsActionWithin}
 use Rattle.component_text.proofs.Looser.{formula_looser, action_looser}
 use Rattle.component_text.proofs.Unique.{OneFormula}
 use Rattle.component_text.proofs.Once.{OneAction}
-use Rattle.raw_print.specs.Pieces.{Piece, Blank, Token as TokenPiece, text_of, tokens_of}
+use Rattle.token_text.specs.Pieces.{Piece, Blank, Token as TokenPiece, text_of, tokens_of}
 use Rattle.raw_print.specs.Printing.{pieces, action_pieces, raw_tokens, action_tokens, raw_text, action_text}
 use Rattle.raw_print.specs.Back.{IsProperItem, AllProper}
 use Rattle.raw_print.specs.Back.{is_whole}

@@ -3,7 +3,7 @@ pub mod FreshNames
 pub mod Letters
 pub mod NamedScopes
 pub mod NumberedNames
-pub mod Pieces
+pub mod Texts
 pub mod TypeTexts
 pub mod TypedBack
 pub mod Literals

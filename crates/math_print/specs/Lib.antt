@@ -1,4 +1,3 @@
-pub mod Characters
 pub mod Depths
 pub mod Held
 pub mod Levels

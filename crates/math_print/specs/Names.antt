@@ -5,7 +5,7 @@ use Rattle.std.specs.List.{list_any}
 use Rattle.std.specs.Map.{keys_of}
 use Rattle.formula_core.specs.declared.formula.Formula.{Formula}
 use Rattle.formula_core.specs.Identifiers.{identifiers}
-use Rattle.math_print.specs.Characters.{bytes}
+use Rattle.math_grammar.specs.Characters.{bytes}
 use Rattle.math_print.specs.Depths.{deepest}
 
 -- x and a number

@@ -1,8 +1,14 @@
 -- What only private contracts cite.
-use Rattle.std.specs.Prelude.{ℕ, List, map}
+use Rattle.std.specs.Prelude.{ℕ, zero, suc, List, [], ◌∷◌, map}
 use Rattle.formula_core.specs.declared.formula.Formula.{Formula}
-use Rattle.math_print.specs.Printing.{PartWithText, printed}
+use Rattle.token_text.specs.Pieces.{Piece, Blank, comma_piece}
+use Rattle.math_print.specs.Printing.{PrintedPart, printed}
 
--- formulas beside their texts
-abbrev pub with_texts : List (List ℕ) → List Formula → List PartWithText
-with_texts names parts = map (λ f. (f, printed names f)) parts
+-- formulas beside their pieces
+abbrev pub printed_parts : List (List ℕ) → List Formula → List PrintedPart
+printed_parts names parts = map (λ f. (f, printed names f)) parts
+
+-- a comma and a blank behind so many others, if there are any
+abbrev pub comma_after : ℕ → List Piece
+comma_after zero = []
+comma_after (suc before) = comma_piece ∷ Blank ∷ []

@@ -1,11 +1,10 @@
--- The signs of operators that are denied.
-use Rattle.std.specs.Prelude.{ℕ, List, []}
+-- How formulas are denied.
+use Rattle.std.specs.Prelude.{List, [], ◌∷◌}
 use Rattle.formula_core.specs.declared.op.Op.{Op}
 use Rattle.formula_core.specs.declared.op.Op.TheVariants as op
 use Rattle.formula_core.specs.declared.raw.RawOp.{RawOp}
 use Rattle.formula_core.specs.declared.raw.RawOp.TheVariants as rawop
-use Rattle.math_grammar.specs.Operators.{raw_sign_of}
-use Rattle.math_print.specs.Characters.{bytes}
+use Rattle.token_text.specs.Pieces.{Piece, not_piece, open_round_piece, close_round_piece}
 
 -- the operator that denies a relation, where it has a sign, and else the operator itself
 abbrev pub denied_op : Op → RawOp
@@ -15,23 +14,19 @@ denied_op op.ProperSubset = rawop.NotProperSubset
 denied_op op.Subset = rawop.NotSubset
 denied_op o = rawop.Plain o
 
--- its sign
-abbrev pub denied_sign_of : Op → List ℕ
-denied_sign_of o = raw_sign_of (denied_op o)
-
 -- what stands before a form that is denied ..
-abbrev pub opening_of : Op → List ℕ
+abbrev pub opening_of : Op → List Piece
 opening_of op.Equal = []
 opening_of op.Member = []
 opening_of op.ProperSubset = []
 opening_of op.Subset = []
-opening_of op.Top = bytes "¬"
-opening_of op.Bottom = bytes "¬"
-opening_of op.Finite = bytes "¬"
-opening_of _ = bytes "¬("
+opening_of op.Top = not_piece ∷ []
+opening_of op.Bottom = not_piece ∷ []
+opening_of op.Finite = not_piece ∷ []
+opening_of _ = not_piece ∷ open_round_piece ∷ []
 
 -- .. and behind it
-abbrev pub closing_of : Op → List ℕ
+abbrev pub closing_of : Op → List Piece
 closing_of op.Equal = []
 closing_of op.Member = []
 closing_of op.ProperSubset = []
@@ -39,4 +34,4 @@ closing_of op.Subset = []
 closing_of op.Top = []
 closing_of op.Bottom = []
 closing_of op.Finite = []
-closing_of _ = bytes ")"
+closing_of _ = close_round_piece ∷ []

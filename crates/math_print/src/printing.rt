@@ -1,21 +1,22 @@
 //! The printed text of a formula.
+#![tactic(auto, using(crate::proofs::Equations::texts))]
+
 ghost use Rattle.std.specs.Prelude.{◌≡◌, ◌++◌, ◌+◌, ◌<◌, ◌^◌, IfOk, OnOk, IsTrue, string_bytes, map, length, false};
 ghost use Rattle.std.specs.Fmt.{signed_decimal};
 ghost use Rattle.math_print.specs.declared.levels.Side.TheVariants as side;
 ghost use Rattle.formula_core.specs.Wellness.{is_well};
-ghost use Rattle.math_print.specs.Characters.{bytes, comma_text, separated_texts};
-ghost use Rattle.math_print.specs.Types.{type_text};
+ghost use Rattle.token_text.specs.Pieces.{text_of, operator_piece, separated_pieces};
 ghost use Rattle.math_print.specs.Held.{IsHeld};
 ghost use Rattle.math_print.specs.Written.{IsTypedBack};
-ghost use Rattle.math_print.specs.Printing.{operand_text, typed_text, constant_text, unary_text, second_text, members_text, operator_text, node_text, name_at, declaration_texts, binder_end_of, body_text, binder_text, bind_text, printed, formula_text};
-ghost use Rattle.math_print.specs.Private.{with_texts};
+ghost use Rattle.math_print.specs.Printing.{printed_operand, typed_constant, printed_constant, printed_unary, printed_second, printed_members, printed_operator, printed_node, name_at, printed_declaration, printed_declarations, binder_end_of, printed_body, printed_binder, printed_bind, printed, formula_text};
+ghost use Rattle.math_print.specs.Private.{printed_parts, comma_after};
 
 use crate::levels::{Side, needs_parentheses};
 use crate::names::bound_names;
-use crate::signs::{closing_of, denied_sign_of, opening_of};
+use crate::signs::{closing_of, denied_op, opening_of};
 use crate::types::print_type;
-use formula_core::{Binder, Formula, Name, Op, OutOfMemory, Ty};
-use math_grammar::{binder_sign_of, sign_of};
+use formula_core::{Binder, Formula, Name, Op, OutOfMemory, RawOp, Ty};
+use math_grammar::{binder_sign_of, raw_sign_of};
 use std::alloc::Global;
 
 /// The printed text of a formula.
@@ -34,7 +35,6 @@ pub fn text(alloc: Global, formula: &Formula) -> Result<String, OutOfMemory>
 
 /// Adds the text of a formula, as it stands or denied, below so many bound identifiers.
 #[cycle(printing)]
-#[tactic(auto, using(crate::proofs::Equations::texts))]
 fn print(
     formula: &Formula,
     denied: bool,
@@ -42,7 +42,8 @@ fn print(
     depth: usize,
     out: &mut String,
 ) -> Result<(), OutOfMemory>
-    ensures { OnOk result (string_bytes out.new ≡ string_bytes out.old ++ printed names.now formula.now denied depth) }
+    ensures { OnOk result (string_bytes out.new
+        ≡ string_bytes out.old ++ text_of (printed names.now formula.now denied depth)) }
 {
     match formula {
         Formula::Int(n) => print_number(*n, out),
@@ -104,63 +105,65 @@ fn print_node(
     out: &mut String,
 ) -> Result<(), OutOfMemory>
     ensures { OnOk result (string_bytes out.new
-        ≡ string_bytes out.old ++ node_text op (with_texts names.now parts.now) ty.now denied depth) }
+        ≡ string_bytes out.old ++ text_of (printed_node op (printed_parts names.now parts.now) ty.now denied depth)) }
 {
     if denied {
         out.push_str(opening_of(op))?;
-        print_operator(parts, op, denied_sign_of(op), ty, names, depth, out)?;
+        print_operator(parts, op, denied_op(op), ty, names, depth, out)?;
         out.push_str(closing_of(op))?;
         Ok(())
     } else {
-        print_operator(parts, op, sign_of(op), ty, names, depth, out)
+        print_operator(parts, op, RawOp::Plain(op), ty, names, depth, out)
     }
 }
 
-/// Adds the text of an operator with this sign.
+/// Adds the text of an operator with the sign with which it is written.
 #[cycle(printing)]
 fn print_operator(
     parts: &[Formula],
     op: Op,
-    sign: &str,
+    written: RawOp,
     ty: &Ty,
     names: &[Name],
     depth: usize,
     out: &mut String,
 ) -> Result<(), OutOfMemory>
-    ensures { OnOk result (string_bytes out.new
-        ≡ string_bytes out.old ++ operator_text op sign.now (with_texts names.now parts.now) ty.now depth) }
+    ensures { OnOk result (string_bytes out.new ≡ string_bytes out.old
+        ++ text_of (printed_operator op (operator_piece written) (printed_parts names.now parts.now) ty.now depth)) }
 {
     match op {
         Op::SetExtension => print_members(parts, names, depth, out),
         _ => match parts {
-            [] => print_constant(op, sign, ty, out),
-            [a] => print_unary(a, op, sign, names, depth, out),
+            [] => print_constant(op, written, ty, out),
+            [a] => print_unary(a, op, written, names, depth, out),
             [a, b] => {
                 print_operand(a, op, Side::Left, names, depth, out)?;
-                print_second(b, op, sign, names, depth, out)
+                print_second(b, op, written, names, depth, out)
             }
             _ => Ok(()),
         },
     }
 }
 
-fn print_constant(op: Op, sign: &str, ty: &Ty, out: &mut String) -> Result<(), OutOfMemory>
-    ensures { OnOk result (string_bytes out.new ≡ string_bytes out.old ++ constant_text op sign.now ty.now) }
+fn print_constant(op: Op, written: RawOp, ty: &Ty, out: &mut String) -> Result<(), OutOfMemory>
+    ensures { OnOk result (string_bytes out.new
+        ≡ string_bytes out.old ++ text_of (printed_constant op (operator_piece written) ty.now)) }
 {
     match op {
         Op::EmptySet | Op::Identity | Op::FirstProjection | Op::SecondProjection => {
-            print_typed(sign, ty, out)
+            print_typed(written, ty, out)
         }
-        _ => print_text(sign, out),
+        _ => print_text(raw_sign_of(written), out),
     }
 }
 
 /// Adds a constant with its type.
-fn print_typed(sign: &str, ty: &Ty, out: &mut String) -> Result<(), OutOfMemory>
-    ensures { OnOk result (string_bytes out.new ≡ string_bytes out.old ++ typed_text sign.now ty.now) }
+fn print_typed(written: RawOp, ty: &Ty, out: &mut String) -> Result<(), OutOfMemory>
+    ensures { OnOk result (string_bytes out.new
+        ≡ string_bytes out.old ++ text_of (typed_constant (operator_piece written) ty.now)) }
 {
     out.push_str("(")?;
-    out.push_str(sign)?;
+    out.push_str(raw_sign_of(written))?;
     out.push_str("⦂")?;
     print_type(ty, out)?;
     out.push_str(")")?;
@@ -171,26 +174,26 @@ fn print_typed(sign: &str, ty: &Ty, out: &mut String) -> Result<(), OutOfMemory>
 fn print_unary(
     a: &Formula,
     op: Op,
-    sign: &str,
+    written: RawOp,
     names: &[Name],
     depth: usize,
     out: &mut String,
 ) -> Result<(), OutOfMemory>
-    ensures { OnOk result (string_bytes out.new
-        ≡ string_bytes out.old ++ unary_text op sign.now (a.now, printed names.now a.now) depth) }
+    ensures { OnOk result (string_bytes out.new ≡ string_bytes out.old
+        ++ text_of (printed_unary op (operator_piece written) (a.now, printed names.now a.now) depth)) }
 {
     match op {
         Op::Not => print(a, true, names, depth, out),
         Op::Negate => {
-            out.push_str(sign)?;
+            out.push_str(raw_sign_of(written))?;
             print_operand(a, op, Side::Right, names, depth, out)
         }
         Op::Converse => {
             print_operand(a, op, Side::Left, names, depth, out)?;
-            print_text(sign, out)
+            print_text(raw_sign_of(written), out)
         }
         _ => {
-            out.push_str(sign)?;
+            out.push_str(raw_sign_of(written))?;
             print_inside(a, "(", ")", names, depth, out)
         }
     }
@@ -201,20 +204,20 @@ fn print_unary(
 fn print_second(
     b: &Formula,
     op: Op,
-    sign: &str,
+    written: RawOp,
     names: &[Name],
     depth: usize,
     out: &mut String,
 ) -> Result<(), OutOfMemory>
-    ensures { OnOk result (string_bytes out.new
-        ≡ string_bytes out.old ++ second_text op sign.now (b.now, printed names.now b.now) depth) }
+    ensures { OnOk result (string_bytes out.new ≡ string_bytes out.old
+        ++ text_of (printed_second op (operator_piece written) (b.now, printed names.now b.now) depth)) }
 {
     match op {
         Op::Apply => print_inside(b, "(", ")", names, depth, out),
         Op::Image => print_inside(b, "[", "]", names, depth, out),
         _ => {
             out.push_str(" ")?;
-            out.push_str(sign)?;
+            out.push_str(raw_sign_of(written))?;
             out.push_str(" ")?;
             print_operand(b, op, Side::Right, names, depth, out)
         }
@@ -232,7 +235,7 @@ fn print_operand(
     out: &mut String,
 ) -> Result<(), OutOfMemory>
     ensures { OnOk result (string_bytes out.new
-        ≡ string_bytes out.old ++ operand_text op side (part.now, printed names.now part.now) depth) }
+        ≡ string_bytes out.old ++ text_of (printed_operand op side (part.now, printed names.now part.now) depth)) }
 {
     if needs_parentheses(op, side, part) {
         print_inside(part, "(", ")", names, depth, out)
@@ -251,8 +254,8 @@ fn print_inside(
     depth: usize,
     out: &mut String,
 ) -> Result<(), OutOfMemory>
-    ensures { OnOk result (string_bytes out.new
-        ≡ string_bytes out.old ++ (opening.now ++ (printed names.now formula.now false depth ++ closing.now))) }
+    ensures { OnOk result (string_bytes out.new ≡ string_bytes out.old
+        ++ (opening.now ++ (text_of (printed names.now formula.now false depth) ++ closing.now))) }
 {
     out.push_str(opening)?;
     print(formula, false, names, depth, out)?;
@@ -268,7 +271,7 @@ fn print_members(
     out: &mut String,
 ) -> Result<(), OutOfMemory>
     ensures { OnOk result (string_bytes out.new
-        ≡ string_bytes out.old ++ members_text (with_texts names.now parts.now) depth) }
+        ≡ string_bytes out.old ++ text_of (printed_members (printed_parts names.now parts.now) depth)) }
 {
     out.push_str("{")?;
     print_separated(parts, names, depth, out)?;
@@ -285,7 +288,7 @@ fn print_separated(
     out: &mut String,
 ) -> Result<(), OutOfMemory>
     ensures { OnOk result (string_bytes out.new
-        ≡ string_bytes out.old ++ separated_texts (map (λ f. printed names.now f false depth) items.now)) }
+        ≡ string_bytes out.old ++ text_of (separated_pieces (map (λ f. printed names.now f false depth) items.now))) }
 {
     for (index, item) in items.iter().enumerate() {
         print_comma(index, out)?;
@@ -296,7 +299,7 @@ fn print_separated(
 
 /// Adds a comma behind so many texts, if there are any.
 fn print_comma(before: usize, out: &mut String) -> Result<(), OutOfMemory>
-    ensures { OnOk result (string_bytes out.new ≡ string_bytes out.old ++ comma_text before) }
+    ensures { OnOk result (string_bytes out.new ≡ string_bytes out.old ++ text_of (comma_after before)) }
 {
     if before > 0 {
         out.push_str(", ")?;
@@ -305,7 +308,7 @@ fn print_comma(before: usize, out: &mut String) -> Result<(), OutOfMemory>
 }
 
 fn binder_end_of(binder: Binder) -> &'static str
-    ensures { result.now ≡ binder_end_of binder }
+    ensures { result.now ≡ text_of (binder_end_of binder) }
 {
     match binder {
         Binder::Comprehension => "}",
@@ -323,8 +326,8 @@ fn print_bind(
     depth: usize,
     out: &mut String,
 ) -> Result<(), OutOfMemory>
-    ensures { OnOk result (string_bytes out.new
-        ≡ string_bytes out.old ++ bind_text names.now binder types.now (with_texts names.now parts.now) denied depth) }
+    ensures { OnOk result (string_bytes out.new ≡ string_bytes out.old
+        ++ text_of (printed_bind names.now binder types.now (printed_parts names.now parts.now) denied depth)) }
 {
     if denied {
         out.push_str("¬(")?;
@@ -345,8 +348,8 @@ fn print_binder(
     depth: usize,
     out: &mut String,
 ) -> Result<(), OutOfMemory>
-    ensures { OnOk result (string_bytes out.new
-        ≡ string_bytes out.old ++ binder_text names.now binder types.now (with_texts names.now parts.now) depth) }
+    ensures { OnOk result (string_bytes out.new ≡ string_bytes out.old
+        ++ text_of (printed_binder names.now binder types.now (printed_parts names.now parts.now) depth)) }
 {
     match depth.checked_add(types.len()) {
         Some(inside) => {
@@ -370,7 +373,7 @@ fn print_body(
     out: &mut String,
 ) -> Result<(), OutOfMemory>
     ensures { OnOk result (string_bytes out.new
-        ≡ string_bytes out.old ++ body_text (with_texts names.now parts.now) depth) }
+        ≡ string_bytes out.old ++ text_of (printed_body (printed_parts names.now parts.now) depth)) }
 {
     match parts {
         [p] => print(p, false, names, depth, out),
@@ -392,7 +395,7 @@ fn print_declarations(
 ) -> Result<(), OutOfMemory>
     requires { depth + length types.now < 2 ^ 64 }
     ensures { OnOk result (string_bytes out.new
-        ≡ string_bytes out.old ++ separated_texts (declaration_texts names.now types.now depth)) }
+        ≡ string_bytes out.old ++ text_of (separated_pieces (printed_declarations names.now types.now depth))) }
 {
     for (index, ty) in types.iter().enumerate() {
         print_comma(index, out)?;
@@ -408,7 +411,7 @@ fn print_declaration(
     out: &mut String,
 ) -> Result<(), OutOfMemory>
     ensures { OnOk result (string_bytes out.new
-        ≡ string_bytes out.old ++ (name_at names.now depth ++ (bytes "⦂" ++ type_text ty.now))) }
+        ≡ string_bytes out.old ++ text_of (printed_declaration (name_at names.now depth) ty.now)) }
 {
     print_name(names, depth, out)?;
     out.push_str("⦂")?;

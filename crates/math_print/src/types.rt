@@ -1,6 +1,7 @@
 //! How types are printed.
 ghost use Rattle.std.specs.Prelude.{◌≡◌, ◌++◌, OnOk, string_bytes};
-ghost use Rattle.math_print.specs.Types.{type_text, right_side_text};
+ghost use Rattle.token_text.specs.Pieces.{text_of};
+ghost use Rattle.math_print.specs.Types.{type_pieces, type_text, right_of_product};
 
 use formula_core::{OutOfMemory, Ty};
 
@@ -32,7 +33,8 @@ pub(crate) fn print_type(ty: &Ty, out: &mut String) -> Result<(), OutOfMemory>
 #[cycle(type_text)]
 #[tactic(auto, using(crate::proofs::TypeTexts::equations))]
 fn print_right_side(ty: &Ty, out: &mut String) -> Result<(), OutOfMemory>
-    ensures { OnOk result (string_bytes out.new ≡ string_bytes out.old ++ right_side_text (ty.now, type_text ty.now)) }
+    ensures { OnOk result (string_bytes out.new
+        ≡ string_bytes out.old ++ text_of (right_of_product (ty.now, type_pieces ty.now))) }
 {
     if ty.components().is_none() {
         return print_type(ty, out);

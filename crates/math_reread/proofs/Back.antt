@@ -1,5 +1,5 @@
 -- The tokens of a formula's printed text spell it.
-use Rattle.std.proofs.Common.{◌≡◌, ◌∙◌, sym as back, ap, subst, refl, ℕ, ℤ, zero, suc, ◌+◌, ◌-◌, ◌<◌, ◌≤◌, Bool, true, false, ◌&&◌, List, [], ◌∷◌, ◌++◌, length, map, reverse, append_assoc, arith, nat_lt, Option, Some, None}
+use Rattle.std.proofs.Common.{◌≡◌, ◌∙◌, sym as back, ap, subst, refl, ℕ, ℤ, zero, suc, ◌+◌, ◌-◌, ◌<◌, ◌≤◌, Bool, true, false, ◌&&◌, List, [], ◌∷◌, ◌++◌, length, map, reverse, arith, nat_lt, Option, Some, None}
 use Rattle.std.specs.Prelude.{if◌then◌else◌, take, filter, cond, not, ◌^◌, bytes_eq}
 use Rattle.std.specs.Map.{keys_of}
 use Rattle.std.specs.Fmt.{signed_decimal}
@@ -33,7 +33,7 @@ use Rattle.formula_core.specs.Sizes.{greatest}
 use Rattle.formula_core.specs.TypeTable.{row_fits, binder_fits}
 use Rattle.formula_core.specs.Types.{same_type, is_value_step, is_value_type}
 use Rattle.formula_core.specs.Wellness.{type_of_step, type_of, may_be_bound, is_well_in, is_well}
-use Rattle.formula_core.proofs.Equations.{formula_fold, formula_para, type_fold, identifiers-Free, identifiers-Node, identifiers-Bind}
+use Rattle.formula_core.proofs.Equations.{formula_fold, type_fold, identifiers-Free, identifiers-Node, identifiers-Bind}
 use Rattle.formula_core.proofs.Induction.{formula_induction}
 use Rattle.formula_core.proofs.Schemes.{binder_fits_exactly}
 use Rattle.formula_core.proofs.Types.{same_type_exact}
@@ -47,20 +47,21 @@ use Rattle.math_grammar.specs.declared.symbols.Symbol.{Symbol}
 use Rattle.math_grammar.specs.declared.symbols.Symbol.TheVariants as sym
 use Rattle.math_grammar.specs.Levels.{rank, fits, opens, takes_names, binding_grade, binder_of}
 use Rattle.math_grammar.specs.Tokens.{Item}
-use Rattle.math_grammar.specs.Grammar.{item, place_at, place_of, Reads, a_name, a_number, by_names, Declares, Body, a_predicate, a_value, up_to_brace, reaching}
+use Rattle.math_grammar.specs.Grammar.{place_at, place_of, Reads, a_name, a_number, by_names, Declares, Body, a_predicate, a_value, up_to_brace, reaching}
 use Rattle.math_grammar.specs.Operators.{binder_sign_of, binder_class_of}
+use Rattle.token_text.specs.Pieces.{Piece, Blank, Token, tokens_of, word_piece, close_brace_piece, dot_piece, bar_piece, not_piece, in_round, sign_between, separated_pieces}
+use Rattle.token_text.proofs.Pieces.{tokens-behind, token_before}
 use Rattle.math_print.specs.Depths.{deepest}
 use Rattle.math_print.specs.Levels.{formula_level_at, formula_level}
 use Rattle.math_print.specs.Names.{bound_names, numbered_names}
 use Rattle.math_print.proofs.FreshNames.{fresh, AreFresh}
 use Rattle.math_print.proofs.NumberedNames.{numbered-is_name}
-use Rattle.math_print.specs.Printing.{name_at}
+use Rattle.math_print.specs.Printing.{name_at, printed_declarations, printed_binder, printed}
+use Rattle.math_print.specs.Private.{printed_parts}
 use Rattle.math_print.specs.Written.{denied_at, denied, declared_with_types, written_step, written, raw_of}
-use Rattle.math_print.proofs.Equations.{deepest-Node, deepest-Bind}
+use Rattle.math_print.proofs.Equations.{printed-Int, printed-Free, printed-Bound, printed-Node, printed-Bind, deepest-Node, deepest-Bind}
 use Rattle.math_print.proofs.NamedScopes.{all_left, all_right, all_at}
-use Rattle.math_reread.specs.Items.{PartWithItems, Items, word, dot, bar, close_brace, not_sign, open_round, close_round, separated, declarations, binder_items, items_step, items, items_of_formula}
-use Rattle.math_reread.proofs.ItemParts.{with_items}
-use Rattle.math_reread.specs.Grades.{IsSpelled}
+use Rattle.math_reread.specs.Grades.{items_of_formula, IsSpelled}
 use Rattle.math_reread.proofs.Grades.{grade_at, grade_of, binder_grade}
 use Rattle.math_print.specs.Held.{HasNames, HasFewNames}
 use Rattle.math_reread.proofs.Tables.{Quiet, quiet, ends, zero_le, quieter, quiet_at}
@@ -116,22 +117,19 @@ types_read (t ∷ types) values names = (
 
 module _ (names : List (List ℕ)) (named : (i : ℕ) → i < length names → is_name (name_at names i) ≡ true) where
   -- one level
-  record IsReadAt (x : Formula-F Formula) (plain_items denied_items : List Item) (t : Raw) : Type 0 where
+  record IsReadAt (x : Formula-F Formula) (plain_pieces denied_pieces : List Piece) (t : Raw) : Type 0 where
     pub sorted : nat_lt 3 (rank (grade_at x)) ≡ is_value_type (type_of_step x)
     pub starts : place_of t ≡ 0
-    pub plain : Whole (quiet (formula_level_at x)) (grade_at x) plain_items t
-    pub denied_too : is_value_type (type_of_step x) ≡ false → Whole 2 grade.Literal denied_items (denied t)
+    pub plain : Whole (quiet (formula_level_at x)) (grade_at x) plain_pieces t
+    pub denied_too : is_value_type (type_of_step x) ≡ false → Whole 2 grade.Literal denied_pieces (denied t)
 
-  to_read : (d : ℕ) (f : Formula) (x : Formula-F Formula) (s u : List Item) (t : Raw) → out-Formula f ≡ x → items names f false d ≡ s → items names f true d ≡ u → written names f d ≡ t → IsReadAt x s u t → IsRead names d f
+  to_read : (d : ℕ) (f : Formula) (x : Formula-F Formula) (s u : List Piece) (t : Raw) → out-Formula f ≡ x → printed names f false d ≡ s → printed names f true d ≡ u → written names f d ≡ t → IsReadAt x s u t → IsRead names d f
   to_read d f x s u t e es eu et r =
-      let P : Formula-F Formula → List Item → List Item → Raw → Type 0 = λ x s u t. IsReadAt x s u t in
-      let q : IsReadAt (out-Formula f) (items names f false d) (items names f true d) (written names f d)
-      = subst (λ x. P x (items names f false d) (items names f true d) (written names f d)) (back e)
-      (subst (λ s. P x s (items names f true d) (written names f d)) (back es) (subst (λ u. P x s u (written names f d)) (back eu) (subst (λ t. P x s u t) (back et) r))) in
+      let P : Formula-F Formula → List Piece → List Piece → Raw → Type 0 = λ x s u t. IsReadAt x s u t in
+      let q : IsReadAt (out-Formula f) (printed names f false d) (printed names f true d) (written names f d)
+      = subst (λ x. P x (printed names f false d) (printed names f true d) (written names f d)) (back e)
+      (subst (λ s. P x s (printed names f true d) (written names f d)) (back es) (subst (λ u. P x s u (written names f d)) (back eu) (subst (λ t. P x s u t) (back et) r))) in
       record { sorted = q.sorted; starts = q.starts; plain = q.plain; denied_too = q.denied_too }
-
-  items-at : (x : Formula-F Formula) (f : Formula) → roll-Formula x ≡ f → (denied : Bool) (d : ℕ) → items names f denied d ≡ items_step names (map-Formula Formula PartWithItems (λ y. (y, items names y)) x) denied d
-  items-at x f e denied d = ap (λ (p : Items). p denied d) (formula_para (items_step names) x f e)
 
   written-at : (x : Formula-F Formula) (f : Formula) → roll-Formula x ≡ f → (d : ℕ) → written names f d ≡ written_step names (map-Formula Formula (ℕ → Raw) (written names) x) d
   written-at x f e d = ap (λ (w : ℕ → Raw). w d) (formula_fold (written_step names) x f e)
@@ -139,19 +137,19 @@ module _ (names : List (List ℕ)) (named : (i : ℕ) → i < length names → i
   abbrev IsBack : Formula → Type 0
   IsBack f = (bound : List Ty) → AreAllValues bound → length bound + deepest f ≤ length names → is_well_in f bound ≡ true → AreNames (identifiers f) → IsRead names (length bound) f
 
-  atom : (x : Formula-F Formula) (s : List Item) (t : Raw) → nat_lt 3 (rank (grade_at x)) ≡ true → is_value_type (type_of_step x) ≡ true → place_of t ≡ 0 → Whole (quiet (formula_level_at x)) (grade_at x) s t → IsReadAt x s s t
+  atom : (x : Formula-F Formula) (s : List Piece) (t : Raw) → nat_lt 3 (rank (grade_at x)) ≡ true → is_value_type (type_of_step x) ≡ true → place_of t ≡ 0 → Whole (quiet (formula_level_at x)) (grade_at x) s t → IsReadAt x s s t
   atom x s t g v starts plain = record { sorted = g ∙ back v; starts = starts; plain = plain; denied_too = λ h. let never : true ≡ false = back v ∙ h in cc }
 
   at_int : (n : ℤ) → IsBack (Int n)
   at_int n bound values few well ids =
-      to_read (length bound) (Int n) (IntF n) _ _ _ (outs-Int n) (items-at (IntF n) (Int n) (rolls-Int n) false (length bound)) (items-at (IntF n) (Int n) (rolls-Int n) true (length bound)) (written-at (IntF n) (Int n) (rolls-Int n) (length bound))
-      (atom (IntF n) (item (sym.Number n) 0 (signed_decimal n) ∷ []) (raw.Int n 0) refl (type_fold is_value_step IntT ty.Int of_type.rolls-Int) (ap place_at (raw_outs-Int n 0)) (λ rest q. a_number))
+      to_read (length bound) (Int n) (IntF n) _ _ _ (outs-Int n) (printed-Int names n false (length bound)) (printed-Int names n true (length bound)) (written-at (IntF n) (Int n) (rolls-Int n) (length bound))
+      (atom (IntF n) (Token (sym.Number n) (signed_decimal n) ∷ []) (raw.Int n 0) refl (type_fold is_value_step IntT ty.Int of_type.rolls-Int) (ap place_at (raw_outs-Int n 0)) (λ rest q. a_number))
 
   at_free : (x : List ℕ) (t : Ty) → IsBack (Free x t)
   at_free x t bound values few well ids =
       let name : is_name x ≡ true = (subst AreNames (identifiers-Free x t) ids).0 in
-      to_read (length bound) (Free x t) (FreeF x t) _ _ _ (outs-Free x t) (items-at (FreeF x t) (Free x t) (rolls-Free x t) false (length bound)) (items-at (FreeF x t) (Free x t) (rolls-Free x t) true (length bound)) (written-at (FreeF x t) (Free x t) (rolls-Free x t) (length bound))
-      (atom (FreeF x t) (word x ∷ []) (raw.Name x 0) refl (back (well-Free x t bound) ∙ well) (ap place_at (raw_outs-Name x 0)) (λ rest q. a_name name))
+      to_read (length bound) (Free x t) (FreeF x t) _ _ _ (outs-Free x t) (printed-Free names x t false (length bound)) (printed-Free names x t true (length bound)) (written-at (FreeF x t) (Free x t) (rolls-Free x t) (length bound))
+      (atom (FreeF x t) (word_piece x ∷ []) (raw.Name x 0) refl (back (well-Free x t bound) ∙ well) (ap place_at (raw_outs-Name x 0)) (λ rest q. a_name name))
 
   at_bound : (i : ℕ) (t : Ty) → IsBack (Bound i t)
   at_bound i t bound values few well ids =
@@ -159,8 +157,8 @@ module _ (names : List (List ℕ)) (named : (i : ℕ) → i < length names → i
       let there : (is_value_type t ≡ true) × (i < length bound) = value_of bound i t values is in
       let x : List ℕ = name_at names (length bound - 1 - i) in
       let name : is_name x ≡ true = named (length bound - 1 - i) (omega (arith, there.1, few)) in
-      to_read (length bound) (Bound i t) (BoundF i t) _ _ _ (outs-Bound i t) (items-at (BoundF i t) (Bound i t) (rolls-Bound i t) false (length bound)) (items-at (BoundF i t) (Bound i t) (rolls-Bound i t) true (length bound)) (written-at (BoundF i t) (Bound i t) (rolls-Bound i t) (length bound))
-      (atom (BoundF i t) (word x ∷ []) (raw.Name x 0) refl there.0 (ap place_at (raw_outs-Name x 0)) (λ rest q. a_name name))
+      to_read (length bound) (Bound i t) (BoundF i t) _ _ _ (outs-Bound i t) (printed-Bound names i t false (length bound)) (printed-Bound names i t true (length bound)) (written-at (BoundF i t) (Bound i t) (rolls-Bound i t) (length bound))
+      (atom (BoundF i t) (word_piece x ∷ []) (raw.Name x 0) refl there.0 (ap place_at (raw_outs-Name x 0)) (λ rest q. a_name name))
 
   each : (bound : List Ty) → AreAllValues bound → (fs : List Formula) → AllByRecursion IsBack fs → length bound + greatest (map deepest fs) ≤ length names → list_all (λ f. is_well_in f bound) fs ≡ true
       → AreNames (joined (map identifiers fs)) → AllByRecursion (IsRead names (length bound)) fs
@@ -178,59 +176,64 @@ module _ (names : List (List ℕ)) (named : (i : ℕ) → i < length names → i
       = each bound values parts all (omega (arith, deepest-Node o parts t, few)) (first_true _ (row_fits (row_of o) (map type_of parts) t) tests) (all_left (λ x. is_name x.0 ≡ true) (joined (map identifiers parts)) (carriers t) split) in
       let r : NodeRead names (length bound) o parts t
       = node_reads names (length bound) o parts t inner (λ v. type_reads t v (all_right (λ x. is_name x.0 ≡ true) (joined (map identifiers parts)) (carriers t) split)) (second_true (list_all (λ f. is_well_in f bound) parts) _ tests) in
-      to_read (length bound) (Node o parts t) (NodeF o parts t) _ _ _ (outs-Node o parts t) (items-at (NodeF o parts t) (Node o parts t) (rolls-Node o parts t) false (length bound)) (items-at (NodeF o parts t) (Node o parts t) (rolls-Node o parts t) true (length bound)) (written-at (NodeF o parts t) (Node o parts t) (rolls-Node o parts t) (length bound))
+      to_read (length bound) (Node o parts t) (NodeF o parts t) _ _ _ (outs-Node o parts t) (printed-Node names o parts t false (length bound)) (printed-Node names o parts t true (length bound)) (written-at (NodeF o parts t) (Node o parts t) (rolls-Node o parts t) (length bound))
       (record { sorted = r.sorted; starts = r.starts; plain = r.plain; denied_too = r.denied_too })
 
   module _ (d : ℕ) where
-    names_form : (c : Binding) (x : Symbol) (w : List ℕ) → opens x ≡ Some c → takes_names c ≡ true → (t : Ty) (types : List Ty) → IsTypeRead t → AreTypesRead types → d + suc (length types) ≤ length names → (s rest : List Item) (parts : List Raw)
-        → Body None c [] (s ++ rest) parts rest
-        → Reads None (binding_grade c) ((item x 0 w ∷ (separated (declarations names (t ∷ types) d) ++ (dot ∷ s))) ++ rest) (raw.Bind (binder_of c) (declared_with_types names (t ∷ types) d) parts 0) rest
+    names_form : (c : Binding) (x : Symbol) (w : List ℕ) → opens x ≡ Some c → takes_names c ≡ true → (t : Ty) (types : List Ty) → IsTypeRead t → AreTypesRead types → d + suc (length types) ≤ length names → (s : List Piece) (rest : List Item) (parts : List Raw)
+        → Body None c [] (tokens_of s ++ rest) parts rest
+        → Reads None (binding_grade c) (tokens_of (Token x w ∷ (separated_pieces (printed_declarations names (t ∷ types) d) ++ (dot_piece ∷ s))) ++ rest) (raw.Bind (binder_of c) (declared_with_types names (t ∷ types) d) parts 0) rest
     names_form c x w is takes t types read all few s rest parts body =
-        let l : List Item = separated (declarations names (t ∷ types) d) in
-        let heads : Declares None [] (l ++ (dot ∷ (s ++ rest))) (declared_with_types names (t ∷ types) d) (s ++ rest) = declares names named [] 0 t types d read all few (s ++ rest) in
-        let P : List Item → Type 0 = λ m. Reads None (binding_grade c) (item x 0 w ∷ m) (raw.Bind (binder_of c) (declared_with_types names (t ∷ types) d) parts 0) rest in
-        subst P (back (append_assoc l (dot ∷ s) rest)) (by_names is takes heads body refl)
+        let l : List Piece = separated_pieces (printed_declarations names (t ∷ types) d) in
+        let heads : Declares None [] (tokens_of l ++ token_before dot_piece (tokens_of s ++ rest)) (declared_with_types names (t ∷ types) d) (tokens_of s ++ rest) = declares names named [] t types d read all few (tokens_of s ++ rest) in
+        let P : List Item → Type 0 = λ m. Reads None (binding_grade c) (token_before (Token x w) m) (raw.Bind (binder_of c) (declared_with_types names (t ∷ types) d) parts 0) rest in
+        subst P (back (tokens-behind l (dot_piece ∷ s) rest)) (by_names is takes heads body refl)
 
-    abbrev body_tokens : Formula → ℕ → List Item
-    body_tokens p deep = items names p false deep
+    abbrev body_pieces : Formula → ℕ → List Piece
+    body_pieces p deep = printed names p false deep
 
     -- a predicate, as far as it reaches
-    predicate_body : (b : Binder) (deep : ℕ) (p : Formula) → IsRead names deep p → is_value_type (type_of p) ≡ false → (rest : List Item) → Quiet 0 rest → Body None (binding.Quantified b) [] ((body_tokens p deep ++ []) ++ rest) (written names p deep ∷ []) rest
+    predicate_body : (b : Binder) (deep : ℕ) (p : Formula) → IsRead names deep p → is_value_type (type_of p) ≡ false → (rest : List Item) → Quiet 0 rest → Body None (binding.Quantified b) [] (tokens_of (body_pieces p deep ++ []) ++ rest) (written names p deep ∷ []) rest
     predicate_body b deep p rp v rest q =
         let g : nat_lt 3 (rank (grade_of p)) ≡ false = rp.sorted ∙ v in
-        let P : List Item → Type 0 = λ l. Body None (binding.Quantified b) [] (l ++ rest) (written names p deep ∷ []) rest in
-        subst P (back (append-nil (body_tokens p deep)))
+        let P : List Piece → Type 0 = λ l. Body None (binding.Quantified b) [] (tokens_of l ++ rest) (written names p deep ∷ []) rest in
+        subst P (back (append-nil (body_pieces p deep)))
         (a_predicate refl (reaching refl (rp.plain rest (quieter 0 (quiet (formula_level p)) rest (zero_le (quiet (formula_level p))) q)) (fits_predicate (grade_of p) g) (ends hole.Predicate (grade_of p) 0 rest refl q)))
 
     -- a predicate, a bar and an expression up to the brace
     set_body : (deep : ℕ) (p e : Formula) → IsRead names deep p → IsRead names deep e → is_value_type (type_of p) ≡ false → is_value_type (type_of e) ≡ true → (rest : List Item)
-        → Body None binding.Set [] (((body_tokens p deep ++ (bar ∷ body_tokens e deep)) ++ (close_brace ∷ [])) ++ rest) (written names p deep ∷ written names e deep ∷ []) rest
+        → Body None binding.Set [] (tokens_of (sign_between (body_pieces p deep) bar_piece (body_pieces e deep) ++ (close_brace_piece ∷ [])) ++ rest) (written names p deep ∷ written names e deep ∷ []) rest
     set_body deep p e rp re v u rest =
         let P : List Item → Type 0 = λ l. Body None binding.Set [] l (written names p deep ∷ written names e deep ∷ []) rest in
-        let whole : P (body_tokens p deep ++ (bar ∷ (body_tokens e deep ++ (close_brace ∷ rest))))
-        = a_value refl (rp.plain (bar ∷ (body_tokens e deep ++ (close_brace ∷ rest))) (zero_le (quiet (formula_level p)))) (fits_predicate (grade_of p) (rp.sorted ∙ v))
-        (up_to_brace refl (re.plain (close_brace ∷ rest) (zero_le (quiet (formula_level e)))) (fits_value (grade_of e) (re.sorted ∙ u))) in
-        subst P (back (append_assoc (body_tokens p deep) (bar ∷ body_tokens e deep) (close_brace ∷ rest)) ∙ back (append_assoc (body_tokens p deep ++ (bar ∷ body_tokens e deep)) (close_brace ∷ []) rest)) whole
+        let after : List Item = token_before close_brace_piece rest in
+        let whole : P (tokens_of (body_pieces p deep) ++ token_before bar_piece (tokens_of (body_pieces e deep) ++ after))
+        = a_value refl (rp.plain (token_before bar_piece (tokens_of (body_pieces e deep) ++ after)) (zero_le (quiet (formula_level p)))) (fits_predicate (grade_of p) (rp.sorted ∙ v))
+        (up_to_brace refl (re.plain after (zero_le (quiet (formula_level e)))) (fits_value (grade_of e) (re.sorted ∙ u))) in
+        subst P
+        (back (tokens-behind (body_pieces p deep) (Blank ∷ bar_piece ∷ Blank ∷ body_pieces e deep) after)
+        ∙ back (tokens-behind (sign_between (body_pieces p deep) bar_piece (body_pieces e deep)) (close_brace_piece ∷ []) rest)) whole
 
     -- or as far as it reaches
     reaching_body : (b : Binder) (deep : ℕ) (p e : Formula) → IsRead names deep p → IsRead names deep e → is_value_type (type_of p) ≡ false → is_value_type (type_of e) ≡ true → (rest : List Item) → Quiet 3 rest
-        → Body None (binding.Reaching b) [] (((body_tokens p deep ++ (bar ∷ body_tokens e deep)) ++ []) ++ rest) (written names p deep ∷ written names e deep ∷ []) rest
+        → Body None (binding.Reaching b) [] (tokens_of (sign_between (body_pieces p deep) bar_piece (body_pieces e deep) ++ []) ++ rest) (written names p deep ∷ written names e deep ∷ []) rest
     reaching_body b deep p e rp re v u rest q =
         let P : List Item → Type 0 = λ l. Body None (binding.Reaching b) [] l (written names p deep ∷ written names e deep ∷ []) rest in
         let g : nat_lt 3 (rank (grade_of e)) ≡ true = re.sorted ∙ u in
-        let whole : P (body_tokens p deep ++ (bar ∷ (body_tokens e deep ++ rest)))
-        = a_value refl (rp.plain (bar ∷ (body_tokens e deep ++ rest)) (zero_le (quiet (formula_level p)))) (fits_predicate (grade_of p) (rp.sorted ∙ v))
+        let whole : P (tokens_of (body_pieces p deep) ++ token_before bar_piece (tokens_of (body_pieces e deep) ++ rest))
+        = a_value refl (rp.plain (token_before bar_piece (tokens_of (body_pieces e deep) ++ rest)) (zero_le (quiet (formula_level p)))) (fits_predicate (grade_of p) (rp.sorted ∙ v))
         (reaching refl (re.plain rest (quieter 3 (quiet (formula_level e)) rest (quiet_at (out-Formula e) g) q)) (fits_value (grade_of e) g) (ends hole.Expression (grade_of e) 3 rest refl q)) in
-        subst P (back (append_assoc (body_tokens p deep) (bar ∷ body_tokens e deep) rest) ∙ ap (λ l. l ++ rest) (back (append-nil (body_tokens p deep ++ (bar ∷ body_tokens e deep))))) whole
+        subst P
+        (back (tokens-behind (body_pieces p deep) (Blank ∷ bar_piece ∷ Blank ∷ body_pieces e deep) rest)
+        ∙ ap (λ l. tokens_of l ++ rest) (back (append-nil (sign_between (body_pieces p deep) bar_piece (body_pieces e deep))))) whole
 
     abbrev bind_tree : Binder → List Ty → List Formula → Raw
     bind_tree b types parts = raw.Bind (rawbinder.Plain b) (declared_with_types names types d) (map (λ (p : ℕ → Raw). p (d + length types)) (map (written names) parts)) 0
 
-    abbrev bind_tokens : Binder → List Ty → List Formula → List Item
-    bind_tokens b types parts = binder_items names b types (with_items names parts) d
+    abbrev bind_plain : Binder → List Ty → List Formula → List Piece
+    bind_plain b types parts = printed_binder names b types (printed_parts names parts) d
 
-    abbrev bind_denied : Binder → List Ty → List Formula → List Item
-    bind_denied b types parts = not_sign ∷ open_round ∷ (bind_tokens b types parts ++ close_round ∷ [])
+    abbrev bind_denied : Binder → List Ty → List Formula → List Piece
+    bind_denied b types parts = not_piece ∷ in_round (bind_plain b types parts)
 
     bind_starts : (b : Binder) (types : List Ty) (parts : List Formula) → place_of (bind_tree b types parts) ≡ 0
     bind_starts b types parts = ap place_at (raw_outs-Bind (rawbinder.Plain b) (declared_with_types names types d) (map (λ (p : ℕ → Raw). p (d + length types)) (map (written names) parts)) 0)
@@ -239,19 +242,19 @@ module _ (names : List (List ℕ)) (named : (i : ℕ) → i < length names → i
     bind_denies b types parts = ap (denied_at (bind_tree b types parts)) (raw_outs-Bind (rawbinder.Plain b) (declared_with_types names types d) (map (λ (p : ℕ → Raw). p (d + length types)) (map (written names) parts)) 0)
 
     abbrev BindRead : Binder → List Ty → Ty → List Formula → Type 0
-    BindRead b types t parts = IsReadAt (BindF b types parts t) (bind_tokens b types parts) (bind_denied b types parts) (bind_tree b types parts)
+    BindRead b types t parts = IsReadAt (BindF b types parts t) (bind_plain b types parts) (bind_denied b types parts) (bind_tree b types parts)
 
-    quantified : (b : Binder) (types : List Ty) (parts : List Formula) (t : Ty) → nat_lt 3 (rank (binder_grade b)) ≡ false → t ≡ ty.Truth → Whole (quiet (formula_level_at (BindF b types parts t))) (binder_grade b) (bind_tokens b types parts) (bind_tree b types parts)
+    quantified : (b : Binder) (types : List Ty) (parts : List Formula) (t : Ty) → nat_lt 3 (rank (binder_grade b)) ≡ false → t ≡ ty.Truth → Whole (quiet (formula_level_at (BindF b types parts t))) (binder_grade b) (bind_plain b types parts) (bind_tree b types parts)
         → BindRead b types t parts
     quantified b types parts t g e plain = record {
       sorted = g ∙ back (ap is_value_type e ∙ value_truth);
       starts = bind_starts b types parts;
       plain = plain;
       denied_too = λ h. let P : Raw → Type 0 = λ r. Whole 2 grade.Literal (bind_denied b types parts) r in
-          subst P (back (bind_denies b types parts)) (negated_form (quiet (formula_level_at (BindF b types parts t))) (binder_grade b) (bind_tokens b types parts) (bind_tree b types parts) plain g);
+          subst P (back (bind_denies b types parts)) (negated_form (quiet (formula_level_at (BindF b types parts t))) (binder_grade b) (bind_plain b types parts) (bind_tree b types parts) plain g);
     }
 
-    valued : (b : Binder) (types : List Ty) (parts : List Formula) (t : Ty) → nat_lt 3 (rank (binder_grade b)) ≡ true → is_value_type t ≡ true → Whole (quiet (formula_level_at (BindF b types parts t))) (binder_grade b) (bind_tokens b types parts) (bind_tree b types parts)
+    valued : (b : Binder) (types : List Ty) (parts : List Formula) (t : Ty) → nat_lt 3 (rank (binder_grade b)) ≡ true → is_value_type t ≡ true → Whole (quiet (formula_level_at (BindF b types parts t))) (binder_grade b) (bind_plain b types parts) (bind_tree b types parts)
         → BindRead b types t parts
     valued b types parts t g v plain = record { sorted = g ∙ back v; starts = bind_starts b types parts; plain = plain; denied_too = λ h. let never : true ≡ false = back v ∙ h in cc }
 
@@ -276,33 +279,33 @@ module _ (names : List (List ℕ)) (named : (i : ℕ) → i < length names → i
     bind_reads binder.ForAll t0 types parts t read all few is inner = with_predicate (BindRead binder.ForAll (t0 ∷ types) t) (d + length (t0 ∷ types)) parts is.operands_are inner
         (λ p rp v.
         quantified binder.ForAll (t0 ∷ types) (p ∷ []) t refl is.whole_is
-        (λ rest q. names_form (binding.Quantified binder.ForAll) (binder_class_of binder.ForAll) (binder_sign_of binder.ForAll) refl refl t0 types read all few (body_tokens p (d + length (t0 ∷ types)) ++ []) rest
+        (λ rest q. names_form (binding.Quantified binder.ForAll) (binder_class_of binder.ForAll) (binder_sign_of binder.ForAll) refl refl t0 types read all few (body_pieces p (d + length (t0 ∷ types)) ++ []) rest
         (written names p (d + length (t0 ∷ types)) ∷ []) (predicate_body binder.ForAll (d + length (t0 ∷ types)) p rp v rest q)))
     bind_reads binder.Exists t0 types parts t read all few is inner = with_predicate (BindRead binder.Exists (t0 ∷ types) t) (d + length (t0 ∷ types)) parts is.operands_are inner
         (λ p rp v.
         quantified binder.Exists (t0 ∷ types) (p ∷ []) t refl is.whole_is
-        (λ rest q. names_form (binding.Quantified binder.Exists) (binder_class_of binder.Exists) (binder_sign_of binder.Exists) refl refl t0 types read all few (body_tokens p (d + length (t0 ∷ types)) ++ []) rest
+        (λ rest q. names_form (binding.Quantified binder.Exists) (binder_class_of binder.Exists) (binder_sign_of binder.Exists) refl refl t0 types read all few (body_pieces p (d + length (t0 ∷ types)) ++ []) rest
         (written names p (d + length (t0 ∷ types)) ∷ []) (predicate_body binder.Exists (d + length (t0 ∷ types)) p rp v rest q)))
     bind_reads binder.Comprehension t0 types parts t read all few is inner =
         with_value (BindRead binder.Comprehension (t0 ∷ types) t) (d + length (t0 ∷ types)) (type_of_scheme is.letters alpha) (values_at is.letters is.values alpha refl) parts is.operands_are inner
         (λ p e rp re v u.
         valued binder.Comprehension (t0 ∷ types) (p ∷ e ∷ []) t refl (ap is_value_type is.whole_is ∙ values_at is.letters is.values (power alpha) refl)
         (λ rest q. names_form binding.Set (binder_class_of binder.Comprehension) (binder_sign_of binder.Comprehension) refl refl t0 types read all few
-        ((body_tokens p (d + length (t0 ∷ types)) ++ (bar ∷ body_tokens e (d + length (t0 ∷ types)))) ++ (close_brace ∷ [])) rest
+        (sign_between (body_pieces p (d + length (t0 ∷ types))) bar_piece (body_pieces e (d + length (t0 ∷ types))) ++ (close_brace_piece ∷ [])) rest
         (written names p (d + length (t0 ∷ types)) ∷ written names e (d + length (t0 ∷ types)) ∷ []) (set_body (d + length (t0 ∷ types)) p e rp re v u rest)))
     bind_reads binder.QuantifiedUnion t0 types parts t read all few is inner =
         with_value (BindRead binder.QuantifiedUnion (t0 ∷ types) t) (d + length (t0 ∷ types)) (type_of_scheme is.letters (power alpha)) (values_at is.letters is.values (power alpha) refl) parts is.operands_are inner
         (λ p e rp re v u.
         valued binder.QuantifiedUnion (t0 ∷ types) (p ∷ e ∷ []) t refl (ap is_value_type is.whole_is ∙ values_at is.letters is.values (power alpha) refl)
         (λ rest q. names_form (binding.Reaching binder.QuantifiedUnion) (binder_class_of binder.QuantifiedUnion) (binder_sign_of binder.QuantifiedUnion) refl refl t0 types read all few
-        ((body_tokens p (d + length (t0 ∷ types)) ++ (bar ∷ body_tokens e (d + length (t0 ∷ types)))) ++ []) rest
+        (sign_between (body_pieces p (d + length (t0 ∷ types))) bar_piece (body_pieces e (d + length (t0 ∷ types))) ++ []) rest
         (written names p (d + length (t0 ∷ types)) ∷ written names e (d + length (t0 ∷ types)) ∷ []) (reaching_body binder.QuantifiedUnion (d + length (t0 ∷ types)) p e rp re v u rest q)))
     bind_reads binder.QuantifiedIntersection t0 types parts t read all few is inner =
         with_value (BindRead binder.QuantifiedIntersection (t0 ∷ types) t) (d + length (t0 ∷ types)) (type_of_scheme is.letters (power alpha)) (values_at is.letters is.values (power alpha) refl) parts is.operands_are inner
         (λ p e rp re v u.
         valued binder.QuantifiedIntersection (t0 ∷ types) (p ∷ e ∷ []) t refl (ap is_value_type is.whole_is ∙ values_at is.letters is.values (power alpha) refl)
         (λ rest q. names_form (binding.Reaching binder.QuantifiedIntersection) (binder_class_of binder.QuantifiedIntersection) (binder_sign_of binder.QuantifiedIntersection) refl refl t0 types read all few
-        ((body_tokens p (d + length (t0 ∷ types)) ++ (bar ∷ body_tokens e (d + length (t0 ∷ types)))) ++ []) rest
+        (sign_between (body_pieces p (d + length (t0 ∷ types))) bar_piece (body_pieces e (d + length (t0 ∷ types))) ++ []) rest
         (written names p (d + length (t0 ∷ types)) ∷ written names e (d + length (t0 ∷ types)) ∷ []) (reaching_body binder.QuantifiedIntersection (d + length (t0 ∷ types)) p e rp re v u rest q)))
 
     bind_any : (b : Binder) (types : List Ty) (parts : List Formula) (t : Ty) → may_be_bound types ≡ true → AreTypesRead types → d + length types ≤ length names → IsSchemeInstance (part_schemes b) (binder_scheme b) (map type_of parts) t
@@ -325,11 +328,11 @@ module _ (names : List (List ℕ)) (named : (i : ℕ) → i < length names → i
       = each deeper (all_append (reverse types) bound (all_reverse types typed_values) values) parts all (omega (arith, deepest-Bind b types parts t, few, deep))
       (second_true (may_be_bound types && binder_fits b (map type_of parts) t) _ tests) (all_right (λ x. is_name x.0 ≡ true) (joined (map carriers types)) (joined (map identifiers parts)) front) in
       let Q : ℕ → Type 0 = λ k. AllByRecursion (IsRead names k) parts in
-      let read : IsReadAt (BindF b types parts t) (bind_tokens d b types parts) (bind_denied d b types parts) (bind_tree d b types parts)
+      let read : IsReadAt (BindF b types parts t) (bind_plain d b types parts) (bind_denied d b types parts) (bind_tree d b types parts)
       = bind_any d b types parts t may (types_read types typed_values (all_left (λ x. is_name x.0 ≡ true) (joined (map carriers types)) (joined (map identifiers parts)) front)) (omega (arith, deepest-Bind b types parts t, few))
       ((binder_fits_exactly b (map type_of parts) t).0 (second_true (may_be_bound types) _ head)) (subst Q deep inner) in
-      to_read d (Bind b types parts t) (BindF b types parts t) _ _ _ (outs-Bind b types parts t) (items-at (BindF b types parts t) (Bind b types parts t) (rolls-Bind b types parts t) false d)
-      (items-at (BindF b types parts t) (Bind b types parts t) (rolls-Bind b types parts t) true d) (written-at (BindF b types parts t) (Bind b types parts t) (rolls-Bind b types parts t) d) read
+      to_read d (Bind b types parts t) (BindF b types parts t) _ _ _ (outs-Bind b types parts t) (printed-Bind names b types parts t false d)
+      (printed-Bind names b types parts t true d) (written-at (BindF b types parts t) (Bind b types parts t) (rolls-Bind b types parts t) d) read
 
   pub reads_back : (f : Formula) → IsBack f
   reads_back = formula_induction IsBack at_int at_free at_bound at_node at_bind

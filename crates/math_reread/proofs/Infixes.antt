@@ -27,12 +27,14 @@ use Rattle.math_grammar.specs.Levels.{rank, level, right_of, left_of, agrees, ta
 use Rattle.math_grammar.specs.Tokens.{Item}
 use Rattle.math_grammar.specs.Grammar.{place_of, between, Reads}
 use Rattle.math_grammar.specs.Operators.{sign_of, op_form, form_class, class_of}
+use Rattle.token_text.specs.Pieces.{Piece, tokens_of, sign_piece, sign_between}
 use Rattle.token_text.proofs.Operators.{passed}
+use Rattle.token_text.proofs.Pieces.{token_before}
 use Rattle.math_print.specs.declared.levels.Side.{Side}
 use Rattle.math_print.specs.declared.levels.Side.TheVariants as side
 use Rattle.math_print.specs.Levels.{level_of, formula_level, is_relation, is_same_connective, is_enclosed, goes_on_left, needs_parentheses}
+use Rattle.math_print.specs.Printing.{PrintedPart, printed_operand, printed_operator, printed}
 use Rattle.math_print.specs.Written.{written, denied, operator_raw}
-use Rattle.math_reread.specs.Items.{sign_token, operand_items, operator_items, PartWithItems, items}
 use Rattle.math_reread.specs.Grades.{form_grade}
 use Rattle.math_reread.proofs.Grades.{operator_grade, grade_of}
 use Rattle.math_reread.proofs.Tables.{sort_rank, top, ends, le_through, quieter, least_value, quiet, left_value, right_value, sign_rank, value_at, left_is_tight, right_is_tight, left_is_quiet, right_is_quiet, goes_on_chained}
@@ -42,8 +44,8 @@ use Rattle.math_reread.proofs.Readings.{Whole, round_grade, rounded, infix_form}
 pub record IsRead (names : List (List ℕ)) (d : ℕ) (f : Formula) : Type 0 where
   pub sorted : nat_lt 3 (rank (grade_of f)) ≡ is_value_type (type_of f)
   pub starts : place_of (written names f d) ≡ 0
-  pub plain : Whole (quiet (formula_level f)) (grade_of f) (items names f false d) (written names f d)
-  pub denied_too : is_value_type (type_of f) ≡ false → Whole 2 grade.Literal (items names f true d) (denied (written names f d))
+  pub plain : Whole (quiet (formula_level f)) (grade_of f) (printed names f false d) (written names f d)
+  pub denied_too : is_value_type (type_of f) ≡ false → Whole 2 grade.Literal (printed names f true d) (denied (written names f d))
 
 -- a scheme without the sort of predicates is a type of values
 abbrev pub is_of_values : Scheme → Bool
@@ -95,7 +97,7 @@ pub record IsInfix (o : Op) : Type 0 where
   pub reached : nat_le (top (class_of o)) (sign_rank (level_of o)) ≡ true
   pub unrelated : is_relation (level_of o) ≡ false
   pub alone : (left : Op) → is_same_connective o left ≡ false
-  pub tokens : (a b : PartWithItems) (t : Ty) (d : ℕ) → operator_items o (sign_token o) (a ∷ b ∷ []) t d ≡ operand_items o side.Left a d ++ (sign_token o ∷ operand_items o side.Right b d)
+  pub tokens : (a b : PrintedPart) (t : Ty) (d : ℕ) → printed_operator o (sign_piece o) (a ∷ b ∷ []) t d ≡ sign_between (printed_operand o side.Left a d) (sign_piece o) (printed_operand o side.Right b d)
   pub tree : (a b : Raw) (t : Ty) → operator_raw o (a ∷ b ∷ []) t ≡ raw.Node (rawop.Plain o) (a ∷ b ∷ []) 0
 
 module _ (names : List (List ℕ)) (d : ℕ) (o : Op) (i : IsInfix o) where
@@ -122,39 +124,39 @@ module _ (names : List (List ℕ)) (d : ℕ) (o : Op) (i : IsInfix o) where
       (le_through (right_value (level_of o)) (least_value (formula_level a)) (rank (grade_of a)) (right_is_tight (level_of o) (formula_level a) e) (value_at (out-Formula a) v)))
       (ap (nat_le (rank (grade_of a))) i.all ∙ rank_most (grade_of a))
 
-  abbrev left_items : Formula → List Item
-  left_items a = operand_items o side.Left (a, items names a) d
+  abbrev left_pieces : Formula → List Piece
+  left_pieces a = printed_operand o side.Left (a, printed names a) d
 
-  abbrev right_items : Formula → List Item
-  right_items a = operand_items o side.Right (a, items names a) d
+  abbrev right_pieces : Formula → List Piece
+  right_pieces a = printed_operand o side.Right (a, printed names a) d
 
   pub infix_reads : (a b : Formula) (t : Ty) → IsRead names d a → IsRead names d b → is_value_type (type_of a) ≡ true → is_value_type (type_of b) ≡ true
-      → Whole (quiet (level_of o)) (operator_grade o) (operator_items o (sign_token o) ((a, items names a) ∷ (b, items names b) ∷ []) t d) (operator_raw o (written names a d ∷ written names b d ∷ []) t)
+      → Whole (quiet (level_of o)) (operator_grade o) (printed_operator o (sign_piece o) ((a, printed names a) ∷ (b, printed names b) ∷ []) t d) (operator_raw o (written names a d ∷ written names b d ∷ []) t)
   infix_reads a b t ra rb va vb rest q =
       let na : Bool = needs_parentheses o side.Left a in
       let nb : Bool = needs_parentheses o side.Right b in
       let ga : Grade = round_grade na (grade_of a) in
       let gb : Grade = round_grade nb (grade_of b) in
-      let after : List Item = sign_token o ∷ (right_items b ++ rest) in
-      let first : Reads None ga (left_items a ++ after) (written names a d) after
-      = rounded na (quiet (formula_level a)) (grade_of a) (items names a false d) (written names a d) ra.plain after (λ e.
+      let after : List Item = token_before (sign_piece o) (tokens_of (right_pieces b) ++ rest) in
+      let first : Reads None ga (tokens_of (left_pieces a) ++ after) (written names a d) after
+      = rounded na (quiet (formula_level a)) (grade_of a) (printed names a false d) (written names a d) ra.plain after (λ e.
       le_through (top (class_of o)) (sign_rank (level_of o)) (quiet (formula_level a)) i.reached
       (left_is_quiet (level_of o) (formula_level a) (goes_on_left o side.Left a) (back (needed side.Left a) ∙ e))) in
-      let second : Reads None gb (right_items b ++ rest) (written names b d) rest
-      = rounded nb (quiet (formula_level b)) (grade_of b) (items names b false d) (written names b d) rb.plain rest (λ e.
+      let second : Reads None gb (tokens_of (right_pieces b) ++ rest) (written names b d) rest
+      = rounded nb (quiet (formula_level b)) (grade_of b) (printed names b false d) (written names b d) rb.plain rest (λ e.
       quieter (quiet (level_of o)) (quiet (formula_level b)) rest (right_is_quiet (level_of o) (formula_level b) (back (needed side.Right b) ∙ e)) q) in
-      let whole : Reads None (level i.l ga) ((left_items a ++ (sign_token o ∷ right_items b)) ++ rest) (between (rawop.Plain o) (written names a d) (written names b d)) rest
-      = infix_form i.l (rawop.Plain o) (class_of o) (sign_of o) ga gb (left_items a) (right_items b) rest (written names a d) (written names b d) i.sign
+      let whole : Reads None (level i.l ga) (tokens_of (sign_between (left_pieces a) (sign_piece o) (right_pieces b)) ++ rest) (between (rawop.Plain o) (written names a d) (written names b d)) rest
+      = infix_form i.l (rawop.Plain o) (class_of o) (sign_of o) ga gb (left_pieces a) (right_pieces b) rest (written names a d) (written names b d) i.sign
       (left_takes a (ra.sorted ∙ va) na (back (needed side.Left a))) (right_fits b (rb.sorted ∙ vb) nb (back (needed side.Right b)))
       (ends (right_of i.l) gb (quiet (level_of o)) rest i.calm q) first second in
       let tree : between (rawop.Plain o) (written names a d) (written names b d) ≡ operator_raw o (written names a d ∷ written names b d ∷ []) t
       = ap (raw.Node (rawop.Plain o) (written names a d ∷ written names b d ∷ [])) ra.starts ∙ back (i.tree (written names a d) (written names b d) t) in
-      let P : Grade → List Item → Raw → Type 0 = λ g s r. Reads None g (s ++ rest) r rest in
-      let one : P (operator_grade o) (left_items a ++ (sign_token o ∷ right_items b)) (between (rawop.Plain o) (written names a d) (written names b d))
-      = subst (λ g. P g (left_items a ++ (sign_token o ∷ right_items b)) (between (rawop.Plain o) (written names a d) (written names b d))) (i.graded ga) whole in
-      let two : P (operator_grade o) (left_items a ++ (sign_token o ∷ right_items b)) (operator_raw o (written names a d ∷ written names b d ∷ []) t)
-      = subst (λ r. P (operator_grade o) (left_items a ++ (sign_token o ∷ right_items b)) r) tree one in
-      subst (λ s. P (operator_grade o) s (operator_raw o (written names a d ∷ written names b d ∷ []) t)) (back (i.tokens (a, items names a) (b, items names b) t d)) two
+      let P : Grade → List Piece → Raw → Type 0 = λ g s r. Reads None g (tokens_of s ++ rest) r rest in
+      let one : P (operator_grade o) (sign_between (left_pieces a) (sign_piece o) (right_pieces b)) (between (rawop.Plain o) (written names a d) (written names b d))
+      = subst (λ g. P g (sign_between (left_pieces a) (sign_piece o) (right_pieces b)) (between (rawop.Plain o) (written names a d) (written names b d))) (i.graded ga) whole in
+      let two : P (operator_grade o) (sign_between (left_pieces a) (sign_piece o) (right_pieces b)) (operator_raw o (written names a d ∷ written names b d ∷ []) t)
+      = subst (λ r. P (operator_grade o) (sign_between (left_pieces a) (sign_piece o) (right_pieces b)) r) tree one in
+      subst (λ s. P (operator_grade o) s (operator_raw o (written names a d ∷ written names b d ∷ []) t)) (back (i.tokens (a, printed names a) (b, printed names b) t d)) two
 
 -- the operators on values, by how they stand to their operands
 abbrev pub joins_values : Form → Bool
@@ -225,7 +227,7 @@ alone_so op.And h left = cc
 alone_so op.Or h left = cc
 alone_so _ h left = refl
 
-tokens_so : (o : Op) → joins_values (op_form o) ≡ true → (a b : PartWithItems) (t : Ty) (d : ℕ) → operator_items o (sign_token o) (a ∷ b ∷ []) t d ≡ operand_items o side.Left a d ++ (sign_token o ∷ operand_items o side.Right b d)
+tokens_so : (o : Op) → joins_values (op_form o) ≡ true → (a b : PrintedPart) (t : Ty) (d : ℕ) → printed_operator o (sign_piece o) (a ∷ b ∷ []) t d ≡ sign_between (printed_operand o side.Left a d) (sign_piece o) (printed_operand o side.Right b d)
 tokens_so op.Apply h a b t d = cc
 tokens_so op.Image h a b t d = cc
 tokens_so op.SetExtension h a b t d = cc

@@ -21,4 +21,3 @@ pub mod OtherPlaces
 pub mod Reread
 pub mod Known
 pub mod Grades
-pub mod ItemParts

@@ -39,14 +39,14 @@ use Rattle.math_grammar.specs.declared.levels.Level.TheVariants as sort
 use Rattle.math_grammar.specs.declared.levels.Call.TheVariants as call
 use Rattle.math_grammar.specs.declared.symbols.Symbol.TheVariants as sym
 use Rattle.math_grammar.specs.Levels.{rank, infix_of}
-use Rattle.math_grammar.specs.Tokens.{Item}
-use Rattle.math_grammar.specs.Grammar.{item, place_at, place_of, Reads, a_truth, a_constant}
-use Rattle.math_grammar.specs.Operators.{sign_of, class_of}
+use Rattle.math_grammar.specs.Grammar.{place_at, place_of, Reads, a_truth, a_constant}
+use Rattle.math_grammar.specs.Operators.{sign_of, class_of, raw_sign_of, raw_class_of}
+use Rattle.token_text.specs.Pieces.{Piece, Token, tokens_of, not_piece, operator_piece, sign_piece, in_round, sign_between}
 use Rattle.math_print.specs.Levels.{level_of, formula_level}
-use Rattle.math_print.specs.Signs.{denied_sign_of}
+use Rattle.math_print.specs.Printing.{PrintedPart, typed_constant, printed_operator, printed_node, printed}
+use Rattle.math_print.specs.Private.{printed_parts}
+use Rattle.math_print.specs.Signs.{denied_op}
 use Rattle.math_print.specs.Written.{written, denied_at, denied, typed_raw, operator_raw}
-use Rattle.math_reread.specs.Items.{not_sign, open_round, close_round, denied_class_of, sign_token, denied_sign_token, operator_items, node_items, typed_items, PartWithItems, items}
-use Rattle.math_reread.proofs.ItemParts.{with_items}
 use Rattle.math_reread.proofs.Grades.{operator_grade, grade_of}
 use Rattle.math_reread.proofs.Tables.{quiet, top}
 use Rattle.math_reread.proofs.Readings.{Whole, call_form, set_form, IsValue, AreValues, none_more, one_more}
@@ -105,11 +105,11 @@ twice r = go (out-Raw r)
     go (RawNode (rawop.Plain op.Subset) parts place) = denied_node rawop.NotSubset parts
     go _ = denied_node (rawop.Plain op.Not) (r ∷ [])
 
-retreed : (n : ℕ) (g : Grade) (s : List Item) (t u : Raw) → t ≡ u → Whole n g s t → Whole n g s u
+retreed : (n : ℕ) (g : Grade) (s : List Piece) (t u : Raw) → t ≡ u → Whole n g s t → Whole n g s u
 retreed n g s t u e w = subst (Whole n g s) e w
 
-retokened : (n : ℕ) (g : Grade) (s s' : List Item) (t : Raw) → s' ≡ s → Whole n g s t → Whole n g s' t
-retokened n g s s' t e w = let P : List Item → Type 0 = λ l. Whole n g l t in subst P (back e) w
+retokened : (n : ℕ) (g : Grade) (s s' : List Piece) (t : Raw) → s' ≡ s → Whole n g s t → Whole n g s' t
+retokened n g s s' t e w = let P : List Piece → Type 0 = λ l. Whole n g l t in subst P (back e) w
 
 module _ (names : List (List ℕ)) (d : ℕ) where
   abbrev tree : Op → List Formula → Ty → Raw
@@ -118,14 +118,14 @@ module _ (names : List (List ℕ)) (d : ℕ) where
   pub record NodeRead (o : Op) (parts : List Formula) (t : Ty) : Type 0 where
     pub sorted : nat_lt 3 (rank (operator_grade o)) ≡ is_value_type t
     pub starts : place_of (tree o parts t) ≡ 0
-    pub plain : Whole (quiet (level_of o)) (operator_grade o) (operator_items o (sign_token o) (with_items names parts) t d) (tree o parts t)
-    pub denied_too : is_value_type t ≡ false → Whole 2 grade.Literal (node_items o (with_items names parts) t true d) (denied (tree o parts t))
+    pub plain : Whole (quiet (level_of o)) (operator_grade o) (printed_operator o (sign_piece o) (printed_parts names parts) t d) (tree o parts t)
+    pub denied_too : is_value_type t ≡ false → Whole 2 grade.Literal (printed_node o (printed_parts names parts) t true d) (denied (tree o parts t))
 
   abbrev Parts : List Formula → Type 0
   Parts parts = AllByRecursion (IsRead names d) parts
 
   value_node : (o : Op) (parts : List Formula) (t : Ty) → nat_lt 3 (rank (operator_grade o)) ≡ true → is_value_type t ≡ true → place_of (tree o parts t) ≡ 0
-      → Whole (quiet (level_of o)) (operator_grade o) (operator_items o (sign_token o) (with_items names parts) t d) (tree o parts t) → NodeRead o parts t
+      → Whole (quiet (level_of o)) (operator_grade o) (printed_operator o (sign_piece o) (printed_parts names parts) t d) (tree o parts t) → NodeRead o parts t
   value_node o parts t g v starts plain = record { sorted = g ∙ back v; starts = starts; plain = plain; denied_too = λ h. let never : true ≡ false = back v ∙ h in cc }
 
   instance_of : (o : Op) (r : Row) → row_of o ≡ r → (parts : List Formula) (t : Ty) → row_fits (row_of o) (map type_of parts) t ≡ true
@@ -182,19 +182,19 @@ module _ (names : List (List ℕ)) (d : ℕ) where
 
   -- a predicate that is denied in parentheses
   negated_node : (o : Op) (parts : List Formula) (t : Ty) → nat_lt 3 (rank (operator_grade o)) ≡ false → is_value_type t ≡ false → place_of (tree o parts t) ≡ 0
-      → Whole (quiet (level_of o)) (operator_grade o) (operator_items o (sign_token o) (with_items names parts) t d) (tree o parts t)
-      → node_items o (with_items names parts) t true d ≡ not_sign ∷ open_round ∷ (operator_items o (sign_token o) (with_items names parts) t d ++ close_round ∷ [])
+      → Whole (quiet (level_of o)) (operator_grade o) (printed_operator o (sign_piece o) (printed_parts names parts) t d) (tree o parts t)
+      → printed_node o (printed_parts names parts) t true d ≡ not_piece ∷ in_round (printed_operator o (sign_piece o) (printed_parts names parts) t d)
       → denied (tree o parts t) ≡ raw.Node (rawop.Plain op.Not) (tree o parts t ∷ []) 0 → NodeRead o parts t
   negated_node o parts t g v starts plain tokens denies = record {
     sorted = g ∙ back v;
     starts = starts;
     plain = plain;
-    denied_too = λ h. let s : List Item = not_sign ∷ open_round ∷ (operator_items o (sign_token o) (with_items names parts) t d ++ close_round ∷ []) in
-        retokened 2 grade.Literal s (node_items o (with_items names parts) t true d) (denied (tree o parts t)) tokens (retreed 2 grade.Literal s (raw.Node (rawop.Plain op.Not) (tree o parts t ∷ []) 0) (denied (tree o parts t)) (back denies)
-        (negated_form (quiet (level_of o)) (operator_grade o) (operator_items o (sign_token o) (with_items names parts) t d) (tree o parts t) plain g));
+    denied_too = λ h. let s : List Piece = not_piece ∷ in_round (printed_operator o (sign_piece o) (printed_parts names parts) t d) in
+        retokened 2 grade.Literal s (printed_node o (printed_parts names parts) t true d) (denied (tree o parts t)) tokens (retreed 2 grade.Literal s (raw.Node (rawop.Plain op.Not) (tree o parts t ∷ []) 0) (denied (tree o parts t)) (back denies)
+        (negated_form (quiet (level_of o)) (operator_grade o) (printed_operator o (sign_piece o) (printed_parts names parts) t d) (tree o parts t) plain g));
   }
 
-  connective_node : (o : Op) → IsConnective o → ((ps : List PartWithItems) (t : Ty) → node_items o ps t true d ≡ not_sign ∷ open_round ∷ (operator_items o (sign_token o) ps t d ++ close_round ∷ []))
+  connective_node : (o : Op) → IsConnective o → ((ps : List PrintedPart) (t : Ty) → printed_node o ps t true d ≡ not_piece ∷ in_round (printed_operator o (sign_piece o) ps t d))
       → ((r : Raw) (rs : List Raw) → denied_at r (RawNode (rawop.Plain o) rs 0) ≡ raw.Node (rawop.Plain op.Not) (r ∷ []) 0)
       → (parts : List Formula) (t : Ty) → Parts parts → row_fits (row_of o) (map type_of parts) t ≡ true → NodeRead o parts t
   connective_node o i tokens denies parts t all h = with_two (λ ps. NodeRead o ps t) binary.Connective t parts (instance_of o (row.Binary binary.Connective) i.its_row parts t h) all
@@ -202,82 +202,82 @@ module _ (names : List (List ℕ)) (d : ℕ) where
       let rs : List Raw = written names a d ∷ written names b d ∷ [] in
       let same : tree o (a ∷ b ∷ []) t ≡ raw.Node (rawop.Plain o) rs 0 = i.tree (written names a d) (written names b d) t in
       negated_node o (a ∷ b ∷ []) t i.of_predicate (truth_by t e) (ap place_of same ∙ place_node (rawop.Plain o) rs)
-      (connective_reads names d o i a b t ra rb (truth_by (type_of a) ea) (truth_by (type_of b) eb)) (tokens (with_items names (a ∷ b ∷ [])) t)
+      (connective_reads names d o i a b t ra rb (truth_by (type_of a) ea) (truth_by (type_of b) eb)) (tokens (printed_parts names (a ∷ b ∷ [])) t)
       (ap denied same ∙ denied_node (rawop.Plain o) rs ∙ denies (raw.Node (rawop.Plain o) rs 0) rs ∙ ap (λ r. raw.Node (rawop.Plain op.Not) (r ∷ []) 0) (back same)))
 
   -- a function before its argument
   function_node : (o : Op) (r : UnaryRow) → row_of o ≡ row.Unary r → is_of_values (unary_scheme r).0 ≡ true → is_of_values (unary_scheme r).1 ≡ true → operator_grade o ≡ grade.Primary
-      → ((a : PartWithItems) (t : Ty) → operator_items o (sign_token o) (a ∷ []) t d ≡ item (sym.Call call.Function (rawop.Plain o)) 0 (sign_of o) ∷ open_round ∷ (a.1 false d ++ close_round ∷ []))
+      → ((a : PrintedPart) (t : Ty) → printed_operator o (sign_piece o) (a ∷ []) t d ≡ Token (sym.Call call.Function (rawop.Plain o)) (sign_of o) ∷ in_round (a.1 false d))
       → ((a : Raw) (t : Ty) → operator_raw o (a ∷ []) t ≡ raw.Node (rawop.Plain o) (a ∷ []) 0)
       → (parts : List Formula) (t : Ty) → Parts parts → row_fits (row_of o) (map type_of parts) t ≡ true → NodeRead o parts t
   function_node o r is first result graded tokens same parts t all h = with_one (λ ps. NodeRead o ps t) r t parts (instance_of o (row.Unary r) is parts t h) all
       (λ l v e a ra ea.
       value_node o (a ∷ []) t (ap (λ g. nat_lt 3 (rank g)) graded) (value_by l v t (unary_scheme r).1 e result) (ap place_of (same (written names a d) t) ∙ place_node (rawop.Plain o) (written names a d ∷ []))
       (λ rest q.
-      let P : Grade → List Item → Raw → Type 0 = λ g s u. Reads None g (s ++ rest) u rest in
-      let s : List Item = item (sym.Call call.Function (rawop.Plain o)) 0 (sign_of o) ∷ open_round ∷ (items names a false d ++ close_round ∷ []) in
+      let P : Grade → List Piece → Raw → Type 0 = λ g s u. Reads None g (tokens_of s ++ rest) u rest in
+      let s : List Piece = Token (sym.Call call.Function (rawop.Plain o)) (sign_of o) ∷ in_round (printed names a false d) in
       let whole : P grade.Primary s (raw.Node (rawop.Plain o) (written names a d ∷ []) 0)
-      = call_form call.Function (rawop.Plain o) (sign_of o) (quiet (formula_level a)) (grade_of a) (items names a false d) (written names a d)
+      = call_form call.Function (rawop.Plain o) (sign_of o) (quiet (formula_level a)) (grade_of a) (printed names a false d) (written names a d)
       (fits_value (grade_of a) (ra.sorted ∙ value_by l v (type_of a) (unary_scheme r).0 ea first)) ra.plain rest in
-      subst (λ g. P g (operator_items o (sign_token o) ((a, items names a) ∷ []) t d) (operator_raw o (written names a d ∷ []) t)) (back graded)
-      (subst (λ l. P grade.Primary l (operator_raw o (written names a d ∷ []) t)) (back (tokens (a, items names a) t)) (subst (λ u. P grade.Primary s u) (back (same (written names a d) t)) whole))))
+      subst (λ g. P g (printed_operator o (sign_piece o) ((a, printed names a) ∷ []) t d) (operator_raw o (written names a d ∷ []) t)) (back graded)
+      (subst (λ l. P grade.Primary l (operator_raw o (written names a d ∷ []) t)) (back (tokens (a, printed names a) t)) (subst (λ u. P grade.Primary s u) (back (same (written names a d) t)) whole))))
 
   -- a constant whose sign tells its type
   constant_node : (o : Op) (r : NullaryRow) → row_of o ≡ row.Nullary r → is_of_values (nullary_scheme r) ≡ true → operator_grade o ≡ grade.Primary
-      → ((t : Ty) → operator_items o (sign_token o) [] t d ≡ item (sym.Constant o) 0 (sign_of o) ∷ []) → ((t : Ty) → operator_raw o [] t ≡ raw.Node (rawop.Plain o) [] 0)
+      → ((t : Ty) → printed_operator o (sign_piece o) [] t d ≡ Token (sym.Constant o) (sign_of o) ∷ []) → ((t : Ty) → operator_raw o [] t ≡ raw.Node (rawop.Plain o) [] 0)
       → (parts : List Formula) (t : Ty) → row_fits (row_of o) (map type_of parts) t ≡ true → NodeRead o parts t
   constant_node o r is result graded tokens same parts t h = with_none (λ ps. NodeRead o ps t) r t parts (instance_of o (row.Nullary r) is parts t h)
       (λ l v e.
       value_node o [] t (ap (λ g. nat_lt 3 (rank g)) graded) (value_by l v t (nullary_scheme r) e result) (ap place_of (same t) ∙ place_node (rawop.Plain o) [])
       (λ rest q.
-      let P : Grade → List Item → Raw → Type 0 = λ g s u. Reads None g (s ++ rest) u rest in
-      let s : List Item = item (sym.Constant o) 0 (sign_of o) ∷ [] in
+      let P : Grade → List Piece → Raw → Type 0 = λ g s u. Reads None g (tokens_of s ++ rest) u rest in
+      let s : List Piece = Token (sym.Constant o) (sign_of o) ∷ [] in
       let whole : P grade.Primary s (raw.Node (rawop.Plain o) [] 0) = a_constant in
-      subst (λ g. P g (operator_items o (sign_token o) [] t d) (operator_raw o [] t)) (back graded)
+      subst (λ g. P g (printed_operator o (sign_piece o) [] t d) (operator_raw o [] t)) (back graded)
       (subst (λ l. P grade.Primary l (operator_raw o [] t)) (back (tokens t)) (subst (λ u. P grade.Primary s u) (back (same t)) whole))))
 
   -- and one with its type
   typed_node : (o : Op) (r : NullaryRow) → row_of o ≡ row.Nullary r → is_of_values (nullary_scheme r) ≡ true → operator_grade o ≡ grade.Primary
-      → ((t : Ty) → operator_items o (sign_token o) [] t d ≡ typed_items (item (sym.Constant o) 0 (sign_of o)) t) → ((t : Ty) → operator_raw o [] t ≡ typed_raw o t)
+      → ((t : Ty) → printed_operator o (sign_piece o) [] t d ≡ typed_constant (Token (sym.Constant o) (sign_of o)) t) → ((t : Ty) → operator_raw o [] t ≡ typed_raw o t)
       → (parts : List Formula) (t : Ty) → (is_value_type t ≡ true → IsTypeRead t) → row_fits (row_of o) (map type_of parts) t ≡ true → NodeRead o parts t
   typed_node o r is result graded tokens same parts t read h = with_none (λ ps. NodeRead o ps t) r t parts (instance_of o (row.Nullary r) is parts t h)
       (λ l v e.
       let value : is_value_type t ≡ true = value_by l v t (nullary_scheme r) e result in
       value_node o [] t (ap (λ g. nat_lt 3 (rank g)) graded) value (ap place_of (same t) ∙ place_node rawop.OfType _)
       (λ rest q.
-      let P : Grade → List Item → Raw → Type 0 = λ g s u. Reads None g (s ++ rest) u rest in
-      let s : List Item = typed_items (item (sym.Constant o) 0 (sign_of o)) t in
+      let P : Grade → List Piece → Raw → Type 0 = λ g s u. Reads None g (tokens_of s ++ rest) u rest in
+      let s : List Piece = typed_constant (Token (sym.Constant o) (sign_of o)) t in
       let whole : P grade.Primary s (typed_raw o t) = typed_form o (sign_of o) t (read value) rest in
-      subst (λ g. P g (operator_items o (sign_token o) [] t d) (operator_raw o [] t)) (back graded)
+      subst (λ g. P g (printed_operator o (sign_piece o) [] t d) (operator_raw o [] t)) (back graded)
       (subst (λ l. P grade.Primary l (operator_raw o [] t)) (back (tokens t)) (subst (λ u. P grade.Primary s u) (back (same t)) whole))))
 
-  truth_node : (o : Op) → row_of o ≡ row.Nullary nullary.Predicate → operator_grade o ≡ grade.Literal → ((t : Ty) → operator_items o (sign_token o) [] t d ≡ item (sym.Truth o) 0 (sign_of o) ∷ [])
-      → ((t : Ty) → node_items o [] t true d ≡ not_sign ∷ item (sym.Truth o) 0 (sign_of o) ∷ []) → ((t : Ty) → operator_raw o [] t ≡ raw.Node (rawop.Plain o) [] 0)
+  truth_node : (o : Op) → row_of o ≡ row.Nullary nullary.Predicate → operator_grade o ≡ grade.Literal → ((t : Ty) → printed_operator o (sign_piece o) [] t d ≡ Token (sym.Truth o) (sign_of o) ∷ [])
+      → ((t : Ty) → printed_node o [] t true d ≡ not_piece ∷ Token (sym.Truth o) (sign_of o) ∷ []) → ((t : Ty) → operator_raw o [] t ≡ raw.Node (rawop.Plain o) [] 0)
       → ((r : Raw) (rs : List Raw) → denied_at r (RawNode (rawop.Plain o) rs 0) ≡ raw.Node (rawop.Plain op.Not) (r ∷ []) 0)
       → (parts : List Formula) (t : Ty) → row_fits (row_of o) (map type_of parts) t ≡ true → NodeRead o parts t
   truth_node o is graded tokens denied_tokens same denies parts t h = with_none (λ ps. NodeRead o ps t) nullary.Predicate t parts (instance_of o (row.Nullary nullary.Predicate) is parts t h)
       (λ l v e.
-      let s : List Item = item (sym.Truth o) 0 (sign_of o) ∷ [] in
+      let s : List Piece = Token (sym.Truth o) (sign_of o) ∷ [] in
       let r : Raw = raw.Node (rawop.Plain o) [] 0 in
       let whole : Whole 2 grade.Literal s r = λ rest q. a_truth in
       record {
         sorted = ap (λ g. nat_lt 3 (rank g)) graded ∙ back (truth_by t e);
         starts = ap place_of (same t) ∙ place_node (rawop.Plain o) [];
         plain = λ rest q.
-            let P : Grade → List Item → Raw → Type 0 = λ g s u. Reads None g (s ++ rest) u rest in
+            let P : Grade → List Piece → Raw → Type 0 = λ g s u. Reads None g (tokens_of s ++ rest) u rest in
             let one : P grade.Literal s r = a_truth in
-            subst (λ g. P g (operator_items o (sign_token o) [] t d) (operator_raw o [] t)) (back graded)
+            subst (λ g. P g (printed_operator o (sign_piece o) [] t d) (operator_raw o [] t)) (back graded)
             (subst (λ l. P grade.Literal l (operator_raw o [] t)) (back (tokens t)) (subst (λ u. P grade.Literal s u) (back (same t)) one));
-        denied_too = λ x. retokened 2 grade.Literal (not_sign ∷ s) (node_items o [] t true d) (denied (operator_raw o [] t)) (denied_tokens t) (retreed 2 grade.Literal (not_sign ∷ s) (raw.Node (rawop.Plain op.Not) (r ∷ []) 0) (denied (operator_raw o [] t))
+        denied_too = λ x. retokened 2 grade.Literal (not_piece ∷ s) (printed_node o [] t true d) (denied (operator_raw o [] t)) (denied_tokens t) (retreed 2 grade.Literal (not_piece ∷ s) (raw.Node (rawop.Plain op.Not) (r ∷ []) 0) (denied (operator_raw o [] t))
             (back (ap denied (same t) ∙ denied_node (rawop.Plain o) [] ∙ denies r [])) (bare_negated_form 2 s r refl whole));
       })
 
   -- a relation, with a sign of its own where it is denied ..
   signed_node : (o : Op) (r : BinaryRow) (n : RawOp) → row_of o ≡ row.Binary r → is_of_values (binary_scheme r).0 ≡ true → is_of_values (binary_scheme r).1 ≡ true → (binary_scheme r).2 ≡ truth
       → operator_grade o ≡ grade.Literal → quiet (level_of o) ≡ 2 → infix_of (class_of o) ≡ Some (sort.Relation, rawop.Plain o) → top (class_of o) ≡ 3
-      → infix_of (denied_class_of o) ≡ Some (sort.Relation, n) → top (denied_class_of o) ≡ 3
-      → ((a b : PartWithItems) (t : Ty) → operator_items o (sign_token o) (a ∷ b ∷ []) t d ≡ a.1 false d ++ (sign_token o ∷ b.1 false d))
-      → ((a b : PartWithItems) (t : Ty) → node_items o (a ∷ b ∷ []) t true d ≡ (a.1 false d ++ (denied_sign_token o ∷ b.1 false d)) ++ [])
+      → infix_of (raw_class_of (denied_op o)) ≡ Some (sort.Relation, n) → top (raw_class_of (denied_op o)) ≡ 3
+      → ((a b : PrintedPart) (t : Ty) → printed_operator o (sign_piece o) (a ∷ b ∷ []) t d ≡ sign_between (a.1 false d) (sign_piece o) (b.1 false d))
+      → ((a b : PrintedPart) (t : Ty) → printed_node o (a ∷ b ∷ []) t true d ≡ sign_between (a.1 false d) (operator_piece (denied_op o)) (b.1 false d) ++ [])
       → ((a b : Raw) (t : Ty) → operator_raw o (a ∷ b ∷ []) t ≡ raw.Node (rawop.Plain o) (a ∷ b ∷ []) 0) → ((r : Raw) (rs : List Raw) → denied_at r (RawNode (rawop.Plain o) rs 0) ≡ raw.Node n rs 0)
       → (parts : List Formula) (t : Ty) → Parts parts → row_fits (row_of o) (map type_of parts) t ≡ true → NodeRead o parts t
   signed_node o r n is first second result graded low sign three denied_sign denied_three tokens denied_tokens same denies parts t all h =
@@ -286,26 +286,26 @@ module _ (names : List (List ℕ)) (d : ℕ) where
       let va : is_value_type (type_of a) ≡ true = value_by l v (type_of a) (binary_scheme r).0 ea first in
       let vb : is_value_type (type_of b) ≡ true = value_by l v (type_of b) (binary_scheme r).1 eb second in
       let rs : List Raw = written names a d ∷ written names b d ∷ [] in
-      let pa : PartWithItems = (a, items names a) in
-      let pb : PartWithItems = (b, items names b) in
-      let W : ℕ → Grade → List Item → Raw → Type 0 = Whole in
+      let pa : PrintedPart = (a, printed names a) in
+      let pb : PrintedPart = (b, printed names b) in
+      let W : ℕ → Grade → List Piece → Raw → Type 0 = Whole in
       record {
         sorted = ap (λ g. nat_lt 3 (rank g)) graded ∙ back (truth_by t (e ∙ ap (type_of_scheme l) result));
         starts = ap place_of (same (written names a d) (written names b d) t) ∙ place_node (rawop.Plain o) rs;
-        plain = subst (λ k. W k (operator_grade o) (operator_items o (sign_token o) (pa ∷ pb ∷ []) t d) (tree o (a ∷ b ∷ []) t)) (back low)
-            (subst (λ g. W 2 g (operator_items o (sign_token o) (pa ∷ pb ∷ []) t d) (tree o (a ∷ b ∷ []) t)) (back graded)
-            (retokened 2 grade.Literal (items names a false d ++ (sign_token o ∷ items names b false d)) (operator_items o (sign_token o) (pa ∷ pb ∷ []) t d) (tree o (a ∷ b ∷ []) t) (tokens pa pb t) (retreed 2 grade.Literal (items names a false d ++ (sign_token o ∷ items names b false d)) (raw.Node (rawop.Plain o) rs 0) (tree o (a ∷ b ∷ []) t) (back (same (written names a d) (written names b d) t))
+        plain = subst (λ k. W k (operator_grade o) (printed_operator o (sign_piece o) (pa ∷ pb ∷ []) t d) (tree o (a ∷ b ∷ []) t)) (back low)
+            (subst (λ g. W 2 g (printed_operator o (sign_piece o) (pa ∷ pb ∷ []) t d) (tree o (a ∷ b ∷ []) t)) (back graded)
+            (retokened 2 grade.Literal (sign_between (printed names a false d) (sign_piece o) (printed names b false d)) (printed_operator o (sign_piece o) (pa ∷ pb ∷ []) t d) (tree o (a ∷ b ∷ []) t) (tokens pa pb t) (retreed 2 grade.Literal (sign_between (printed names a false d) (sign_piece o) (printed names b false d)) (raw.Node (rawop.Plain o) rs 0) (tree o (a ∷ b ∷ []) t) (back (same (written names a d) (written names b d) t))
             (relation_reads names d (rawop.Plain o) (class_of o) (sign_of o) sign three a b ra rb va vb))));
-        denied_too = λ x. retokened 2 grade.Literal (items names a false d ++ (denied_sign_token o ∷ items names b false d)) (node_items o (pa ∷ pb ∷ []) t true d) (denied (tree o (a ∷ b ∷ []) t)) (denied_tokens pa pb t ∙ append-nil (items names a false d ++ (denied_sign_token o ∷ items names b false d)))
-            (retreed 2 grade.Literal (items names a false d ++ (denied_sign_token o ∷ items names b false d)) (raw.Node n rs 0) (denied (tree o (a ∷ b ∷ []) t)) (back (ap denied (same (written names a d) (written names b d) t) ∙ denied_node (rawop.Plain o) rs ∙ denies (raw.Node (rawop.Plain o) rs 0) rs))
-            (relation_reads names d n (denied_class_of o) (denied_sign_of o) denied_sign denied_three a b ra rb va vb));
+        denied_too = λ x. retokened 2 grade.Literal (sign_between (printed names a false d) (operator_piece (denied_op o)) (printed names b false d)) (printed_node o (pa ∷ pb ∷ []) t true d) (denied (tree o (a ∷ b ∷ []) t)) (denied_tokens pa pb t ∙ append-nil (sign_between (printed names a false d) (operator_piece (denied_op o)) (printed names b false d)))
+            (retreed 2 grade.Literal (sign_between (printed names a false d) (operator_piece (denied_op o)) (printed names b false d)) (raw.Node n rs 0) (denied (tree o (a ∷ b ∷ []) t)) (back (ap denied (same (written names a d) (written names b d) t) ∙ denied_node (rawop.Plain o) rs ∙ denies (raw.Node (rawop.Plain o) rs 0) rs))
+            (relation_reads names d n (raw_class_of (denied_op o)) (raw_sign_of (denied_op o)) denied_sign denied_three a b ra rb va vb));
       })
 
   -- .. and one without
   compared_node : (o : Op) → row_of o ≡ row.Binary binary.Comparison
       → operator_grade o ≡ grade.Literal → quiet (level_of o) ≡ 2 → infix_of (class_of o) ≡ Some (sort.Relation, rawop.Plain o) → top (class_of o) ≡ 3
-      → ((a b : PartWithItems) (t : Ty) → operator_items o (sign_token o) (a ∷ b ∷ []) t d ≡ a.1 false d ++ (sign_token o ∷ b.1 false d))
-      → ((ps : List PartWithItems) (t : Ty) → node_items o ps t true d ≡ not_sign ∷ open_round ∷ (operator_items o (sign_token o) ps t d ++ close_round ∷ []))
+      → ((a b : PrintedPart) (t : Ty) → printed_operator o (sign_piece o) (a ∷ b ∷ []) t d ≡ sign_between (a.1 false d) (sign_piece o) (b.1 false d))
+      → ((ps : List PrintedPart) (t : Ty) → printed_node o ps t true d ≡ not_piece ∷ in_round (printed_operator o (sign_piece o) ps t d))
       → ((a b : Raw) (t : Ty) → operator_raw o (a ∷ b ∷ []) t ≡ raw.Node (rawop.Plain o) (a ∷ b ∷ []) 0)
       → ((r : Raw) (rs : List Raw) → denied_at r (RawNode (rawop.Plain o) rs 0) ≡ raw.Node (rawop.Plain op.Not) (r ∷ []) 0)
       → (parts : List Formula) (t : Ty) → Parts parts → row_fits (row_of o) (map type_of parts) t ≡ true → NodeRead o parts t
@@ -315,14 +315,14 @@ module _ (names : List (List ℕ)) (d : ℕ) where
       let va : is_value_type (type_of a) ≡ true = value_by l v (type_of a) integer ea refl in
       let vb : is_value_type (type_of b) ≡ true = value_by l v (type_of b) integer eb refl in
       let rs : List Raw = written names a d ∷ written names b d ∷ [] in
-      let pa : PartWithItems = (a, items names a) in
-      let pb : PartWithItems = (b, items names b) in
-      let W : ℕ → Grade → List Item → Raw → Type 0 = Whole in
+      let pa : PrintedPart = (a, printed names a) in
+      let pb : PrintedPart = (b, printed names b) in
+      let W : ℕ → Grade → List Piece → Raw → Type 0 = Whole in
       let equal : tree o (a ∷ b ∷ []) t ≡ raw.Node (rawop.Plain o) rs 0 = same (written names a d) (written names b d) t in
       negated_node o (a ∷ b ∷ []) t (ap (λ g. nat_lt 3 (rank g)) graded) (truth_by t e) (ap place_of equal ∙ place_node (rawop.Plain o) rs)
-      (subst (λ k. W k (operator_grade o) (operator_items o (sign_token o) (pa ∷ pb ∷ []) t d) (tree o (a ∷ b ∷ []) t)) (back low)
-      (subst (λ g. W 2 g (operator_items o (sign_token o) (pa ∷ pb ∷ []) t d) (tree o (a ∷ b ∷ []) t)) (back graded)
-      (retokened 2 grade.Literal (items names a false d ++ (sign_token o ∷ items names b false d)) (operator_items o (sign_token o) (pa ∷ pb ∷ []) t d) (tree o (a ∷ b ∷ []) t) (tokens pa pb t) (retreed 2 grade.Literal (items names a false d ++ (sign_token o ∷ items names b false d)) (raw.Node (rawop.Plain o) rs 0) (tree o (a ∷ b ∷ []) t) (back equal)
+      (subst (λ k. W k (operator_grade o) (printed_operator o (sign_piece o) (pa ∷ pb ∷ []) t d) (tree o (a ∷ b ∷ []) t)) (back low)
+      (subst (λ g. W 2 g (printed_operator o (sign_piece o) (pa ∷ pb ∷ []) t d) (tree o (a ∷ b ∷ []) t)) (back graded)
+      (retokened 2 grade.Literal (sign_between (printed names a false d) (sign_piece o) (printed names b false d)) (printed_operator o (sign_piece o) (pa ∷ pb ∷ []) t d) (tree o (a ∷ b ∷ []) t) (tokens pa pb t) (retreed 2 grade.Literal (sign_between (printed names a false d) (sign_piece o) (printed names b false d)) (raw.Node (rawop.Plain o) rs 0) (tree o (a ∷ b ∷ []) t) (back equal)
       (relation_reads names d (rawop.Plain o) (class_of o) (sign_of o) sign three a b ra rb va vb)))))
       (denied_tokens (pa ∷ pb ∷ []) t)
       (ap denied equal ∙ denied_node (rawop.Plain o) rs ∙ denies (raw.Node (rawop.Plain o) rs 0) rs ∙ ap (λ r. raw.Node (rawop.Plain op.Not) (r ∷ []) 0) (back equal)))
@@ -335,23 +335,23 @@ module _ (names : List (List ℕ)) (d : ℕ) where
   finite_node : (parts : List Formula) (t : Ty) → Parts parts → row_fits (row_of op.Finite) (map type_of parts) t ≡ true → NodeRead op.Finite parts t
   finite_node parts t all h = with_one (λ ps. NodeRead op.Finite ps t) unary.Finiteness t parts (instance_of op.Finite (row.Unary unary.Finiteness) refl parts t h) all
       (λ l v e a ra ea.
-      let s : List Item = sign_token op.Finite ∷ open_round ∷ (items names a false d ++ close_round ∷ []) in
+      let s : List Piece = sign_piece op.Finite ∷ in_round (printed names a false d) in
       let r : Raw = raw.Node (rawop.Plain op.Finite) (written names a d ∷ []) 0 in
       let whole : (n : ℕ) → Whole n grade.Literal s r
-      = λ n rest q. call_form call.Finite (rawop.Plain op.Finite) (sign_of op.Finite) (quiet (formula_level a)) (grade_of a) (items names a false d) (written names a d)
+      = λ n rest q. call_form call.Finite (rawop.Plain op.Finite) (sign_of op.Finite) (quiet (formula_level a)) (grade_of a) (printed names a false d) (written names a d)
       (fits_value (grade_of a) (ra.sorted ∙ value_by l v (type_of a) (power alpha) ea refl)) ra.plain rest in
       record {
         sorted = back (truth_by t e);
         starts = place_node (rawop.Plain op.Finite) (written names a d ∷ []);
         plain = whole 14;
-        denied_too = λ x. retokened 2 grade.Literal (not_sign ∷ s) (not_sign ∷ (s ++ [])) (denied r) (ap (λ l. not_sign ∷ l) (append-nil s)) (retreed 2 grade.Literal (not_sign ∷ s) (raw.Node (rawop.Plain op.Not) (r ∷ []) 0) (denied r) (back (denied_node (rawop.Plain op.Finite) (written names a d ∷ []))) (bare_negated_form 2 s r refl (whole 2)));
+        denied_too = λ x. retokened 2 grade.Literal (not_piece ∷ s) (not_piece ∷ (s ++ [])) (denied r) (ap (λ l. not_piece ∷ l) (append-nil s)) (retreed 2 grade.Literal (not_piece ∷ s) (raw.Node (rawop.Plain op.Not) (r ∷ []) 0) (denied r) (back (denied_node (rawop.Plain op.Finite) (written names a d ∷ []))) (bare_negated_form 2 s r refl (whole 2)));
       })
 
   bool_node : (parts : List Formula) (t : Ty) → Parts parts → row_fits (row_of op.BoolOf) (map type_of parts) t ≡ true → NodeRead op.BoolOf parts t
   bool_node parts t all h = with_one (λ ps. NodeRead op.BoolOf ps t) unary.TruthOf t parts (instance_of op.BoolOf (row.Unary unary.TruthOf) refl parts t h) all
       (λ l v e a ra ea.
       value_node op.BoolOf (a ∷ []) t refl (value_by l v t boolean e refl) (place_node (rawop.Plain op.BoolOf) (written names a d ∷ []))
-      (λ rest q. call_form call.Bool (rawop.Plain op.BoolOf) (sign_of op.BoolOf) (quiet (formula_level a)) (grade_of a) (items names a false d) (written names a d)
+      (λ rest q. call_form call.Bool (rawop.Plain op.BoolOf) (sign_of op.BoolOf) (quiet (formula_level a)) (grade_of a) (printed names a false d) (written names a d)
       (fits_predicate (grade_of a) (ra.sorted ∙ truth_by (type_of a) ea)) ra.plain rest))
 
   negate_node : (parts : List Formula) (t : Ty) → Parts parts → row_fits (row_of op.Negate) (map type_of parts) t ≡ true → NodeRead op.Negate parts t
@@ -380,7 +380,7 @@ module _ (names : List (List ℕ)) (d : ℕ) where
 
   -- the members of a set
   are_values : (l : Letters) → AreLetters l → (k : ℕ) (parts : List Formula) → map type_of parts ≡ map (type_of_scheme l) (replicate k alpha) → Parts parts
-      → AreValues (map (λ (p : PartWithItems). p.1 false d) (with_items names parts)) (map (λ (p : ℕ → Raw). p d) (map (written names) parts))
+      → AreValues (map (λ (p : PrintedPart). p.1 false d) (printed_parts names parts)) (map (λ (p : ℕ → Raw). p d) (map (written names) parts))
   are_values l v zero [] e all = none_more
   are_values l v zero (a ∷ parts) e all = cc
   are_values l v (suc k) [] e all = cc
@@ -390,7 +390,7 @@ module _ (names : List (List ℕ)) (d : ℕ) where
       let later : map type_of parts ≡ map (type_of_scheme l) (replicate k alpha) = cc in
       one_more (is_value l v a all.0 ea) (are_values l v k parts later all.1)
     where
-      is_value : (l : Letters) → AreLetters l → (a : Formula) → IsRead names d a → type_of a ≡ l.alpha → IsValue (items names a false d) (written names a d)
+      is_value : (l : Letters) → AreLetters l → (a : Formula) → IsRead names d a → type_of a ≡ l.alpha → IsValue (printed names a false d) (written names a d)
       is_value l v a ra ea = record { least = quiet (formula_level a); g = grade_of a; whole = ra.plain; fit = fits_value (grade_of a) (ra.sorted ∙ ap is_value_type ea ∙ v.alpha) }
 
   set_node : (parts : List Formula) (t : Ty) → Parts parts → row_fits (row_of op.SetExtension) (map type_of parts) t ≡ true → NodeRead op.SetExtension parts t
@@ -403,10 +403,10 @@ module _ (names : List (List ℕ)) (d : ℕ) where
           let e : type_of a ∷ map type_of parts ≡ is.letters.alpha ∷ map (type_of_scheme is.letters) (replicate k alpha) = is.operands_are in
           let ea : type_of a ≡ is.letters.alpha = cc in
           let later : map type_of parts ≡ map (type_of_scheme is.letters) (replicate k alpha) = cc in
-          let value : IsValue (items names a false d) (written names a d)
+          let value : IsValue (printed names a false d) (written names a d)
           = record { least = quiet (formula_level a); g = grade_of a; whole = all.0.plain; fit = fits_value (grade_of a) (all.0.sorted ∙ ap is_value_type ea ∙ is.values.alpha) } in
           value_node op.SetExtension (a ∷ parts) t refl (value_by is.letters is.values t (power alpha) is.whole_is refl) (place_node (rawop.Plain op.SetExtension) _)
-          (λ rest q. set_form [] (items names a false d) (written names a d) (map (λ (p : PartWithItems). p.1 false d) (with_items names parts)) (map (λ (p : ℕ → Raw). p d) (map (written names) parts)) value
+          (λ rest q. set_form (printed names a false d) (written names a d) (map (λ (p : PrintedPart). p.1 false d) (printed_parts names parts)) (map (λ (p : ℕ → Raw). p d) (map (written names) parts)) value
           (are_values is.letters is.values k parts later all.1) rest)
 
   pub node_reads : (o : Op) (parts : List Formula) (t : Ty) → Parts parts → (is_value_type t ≡ true → IsTypeRead t) → row_fits (row_of o) (map type_of parts) t ≡ true → NodeRead o parts t

@@ -28,8 +28,7 @@ use Rattle.math_places.specs.Places.{unplaced_item, unplaced, AlikeTokens}
 use Rattle.math_places.proofs.Spelled.{spelled_again}
 use Rattle.math_reread.proofs.OtherPlaces.{formula_again}
 use Rattle.token_text.specs.Spacing.{without_place, IsCutInto}
-use Rattle.math_reread.specs.Items.{items_of_formula}
-use Rattle.math_reread.specs.Grades.{place_for}
+use Rattle.math_reread.specs.Grades.{items_of_formula, place_for}
 use Rattle.math_print.specs.Held.{HasNames, HasFewNames}
 use Rattle.math_print.specs.Held.{HasNarrowNumbers}
 use Rattle.math_reread.specs.Back.{IsTypedAgain, IsAnswer, IsTreeOrLarge, ReadsBack}

@@ -1,124 +1,123 @@
 -- A printed formula has no partition, so no limit of its parts matters.
-use Rattle.std.proofs.Common.{◌≡◌, ◌∙◌, sym as back, ap, subst, refl, ℕ, zero, suc, ◌+◌, Bool, true, false, List, [], ◌∷◌, ◌++◌, length, map}
+use Rattle.std.proofs.Common.{◌≡◌, sym as back, subst, refl, ℕ, ◌+◌, Bool, true, false, List, [], ◌∷◌, ◌++◌, length, map}
 use Rattle.std.specs.List.{AllByRecursion}
 use Rattle.std.specs.Prelude.{is_some}
 use Rattle.formula_core.specs.declared.ty.Ty.{Ty}
-use Rattle.formula_core.specs.declared.ty.Ty.TheOpen.{Ty-F, Int as IntT, Bool as BoolT, Given as GivenT, Pow as PowT, Pair as PairT, Truth as TruthT}
-use Rattle.formula_core.specs.declared.ty.Ty.TheVariants as ty
-use Rattle.formula_core.specs.declared.ty.Ty.TheViews as of_type
-use Rattle.formula_core.specs.declared.ty.Ty.TheFolds.{map-Ty, para-roll-Ty}
 use Rattle.formula_core.specs.declared.op.Op.{Op}
 use Rattle.formula_core.specs.declared.op.Op.TheVariants as op
 use Rattle.formula_core.specs.declared.op.Binder.{Binder}
 use Rattle.formula_core.specs.declared.op.Binder.TheVariants as binder
 use Rattle.formula_core.specs.declared.formula.Formula.{Formula}
-use Rattle.formula_core.specs.declared.formula.Formula.TheOpen.{Formula-F, Int as IntF, Free as FreeF, Bound as BoundF, Node as NodeF, Bind as BindF}
-use Rattle.formula_core.specs.declared.formula.Formula.TheVariants.{Int, Free, Bound, Node, Bind}
-use Rattle.formula_core.specs.declared.formula.Formula.TheViews.{roll-Formula, rolls-Int, rolls-Free, rolls-Bound, rolls-Node, rolls-Bind}
-use Rattle.formula_core.specs.declared.formula.Formula.TheFolds.{map-Formula}
 use Rattle.formula_core.specs.Types.{components}
-use Rattle.formula_core.proofs.Equations.{formula_para}
 use Rattle.formula_core.proofs.Induction.{formula_induction}
 use Rattle.formula_core.proofs.Types.{type_induction}
-use Rattle.math_grammar.specs.Tokens.{Item}
-use Rattle.math_grammar.specs.Operators.{class_of, binder_class_of}
+use Rattle.math_grammar.specs.declared.symbols.Symbol.{Symbol}
+use Rattle.math_grammar.specs.Operators.{sign_of, class_of, raw_sign_of, raw_class_of, binder_class_of}
+use Rattle.token_text.specs.Pieces.{Piece, Blank, Token, tokens_of, word_piece, close_round_piece, close_square_piece, close_brace_piece, dot_piece, bar_piece, operator_piece, sign_piece, in_round, sign_between, behind_commas, separated_pieces}
 use Rattle.math_print.specs.declared.levels.Side.{Side}
 use Rattle.math_print.specs.declared.levels.Side.TheVariants as side
 use Rattle.math_print.specs.Levels.{needs_parentheses}
 use Rattle.math_print.specs.Names.{bound_names}
-use Rattle.math_reread.specs.Items.{Items, PartWithItems, close_round, close_square, close_brace, dot, bar, denied_class_of, sign_token, denied_sign_token, opening_items, closing_items, right_items, type_items_step, type_items, in_round_if, operand_items, typed_items, constant_items, unary_items, second_items, comma_after, separated_after, separated, operator_items, node_items, declarations, binder_end, body_items, binder_items, bind_items, items_step, items, items_of_formula}
-use Rattle.math_reread.proofs.ItemParts.{with_items}
-use Rattle.math_reread.proofs.AnyLimit.{is_limited, IsUnlimited, AreUnlimited}
+use Rattle.math_print.specs.Printing.{PrintedPart, in_round_if, printed_operand, typed_constant, printed_constant, printed_unary, printed_second, printed_operator, printed_node, printed_declarations, binder_end_of, printed_body, printed_binder, printed_bind, printed}
+use Rattle.math_print.specs.Private.{printed_parts}
+use Rattle.math_print.specs.Signs.{denied_op, opening_of, closing_of}
+use Rattle.math_print.specs.Types.{right_of_product, type_pieces}
+use Rattle.math_print.proofs.Equations.{printed-Int, printed-Free, printed-Bound, printed-Node, printed-Bind}
+use Rattle.math_print.proofs.TypeTexts.{type_pieces-Int, type_pieces-Bool, type_pieces-Given, type_pieces-Pow, type_pieces-Pair, type_pieces-Truth}
+use Rattle.math_reread.specs.Grades.{items_of_formula}
+use Rattle.math_reread.proofs.AnyLimit.{is_limited, AreUnlimited}
 
-joined : (s m : List Item) → AreUnlimited s → AreUnlimited m → AreUnlimited (s ++ m)
-joined [] m all others = others
-joined (x ∷ s) m all others = (all.0, joined s m all.1 others)
+-- none of their tokens is the word partition
+abbrev IsClear : List Piece → Type 0
+IsClear ps = AreUnlimited (tokens_of ps)
 
-sign_unlimited : (o : Op) → is_limited (class_of o) ≡ false
-sign_unlimited op.Top = refl
-sign_unlimited _ = refl
+beside : (ps qs : List Piece) → IsClear ps → IsClear qs → IsClear (ps ++ qs)
+beside [] qs all others = others
+beside (Blank ∷ ps) qs all others = beside ps qs all others
+beside (Token x w ∷ ps) qs all others = (all.0, beside ps qs all.1 others)
 
-denied_unlimited : (o : Op) → is_limited (denied_class_of o) ≡ false
-denied_unlimited op.Top = refl
-denied_unlimited _ = refl
+sign_clear : (o : Op) → is_limited (class_of o) ≡ false
+sign_clear op.Top = refl
+sign_clear _ = refl
+
+denied_clear : (o : Op) → is_limited (raw_class_of (denied_op o)) ≡ false
+denied_clear op.Top = refl
+denied_clear _ = refl
 
 -- Types.
 
-at : (x : Ty-F Ty) (t : Ty) → of_type.roll-Ty x ≡ t → type_items t ≡ type_items_step (map-Ty Ty (Ty × List Item) (λ u. (u, type_items u)) x)
-at x t e = ap type_items (back e) ∙ para-roll-Ty (List Item) type_items_step x
+by : (ps qs : List Piece) → qs ≡ ps → IsClear ps → IsClear qs
+by ps qs e all = let P : List Piece → Type 0 = λ l. IsClear l in subst P (back e) all
 
-type_at : (x : Ty-F Ty) (t : Ty) → of_type.roll-Ty x ≡ t → AreUnlimited (type_items_step (map-Ty Ty (Ty × List Item) (λ u. (u, type_items u)) x)) → AreUnlimited (type_items t)
-type_at x t e all = subst AreUnlimited (back (at x t e)) all
+round : (needed : Bool) (ps : List Piece) → IsClear ps → IsClear (in_round_if needed ps)
+round true ps all = (refl, beside ps (close_round_piece ∷ []) all (refl, tt))
+round false ps all = all
 
-round : (needed : Bool) (s : List Item) → AreUnlimited s → AreUnlimited (in_round_if needed s)
-round true s all = (refl, joined s (close_round ∷ []) all (refl, tt))
-round false s all = all
-
-type_unlimited : (t : Ty) → AreUnlimited (type_items t)
-type_unlimited = type_induction (λ t. AreUnlimited (type_items t))
-    (type_at IntT ty.Int of_type.rolls-Int (refl, tt))
-    (type_at BoolT ty.Bool of_type.rolls-Bool (refl, tt))
-    (λ x. type_at (GivenT x) (ty.Given x) (of_type.rolls-Given x) (refl, tt))
-    (λ t h. type_at (PowT t) (ty.Pow t) (of_type.rolls-Pow t) (refl, (refl, joined (type_items t) (close_round ∷ []) h (refl, tt))))
+type_clear : (t : Ty) → IsClear (type_pieces t)
+type_clear = type_induction (λ t. IsClear (type_pieces t))
+    (by (sign_piece op.Integers ∷ []) _ type_pieces-Int (refl, tt))
+    (by (sign_piece op.Booleans ∷ []) _ type_pieces-Bool (refl, tt))
+    (λ x. by (word_piece x ∷ []) _ (type_pieces-Given x) (refl, tt))
+    (λ t h. by (sign_piece op.PowerSet ∷ in_round (type_pieces t)) _ (type_pieces-Pow t) (refl, (refl, beside (type_pieces t) (close_round_piece ∷ []) h (refl, tt))))
     (λ t u h k.
-    type_at (PairT t u) (ty.Pair t u) (of_type.rolls-Pair t u)
-    (joined (type_items t) (sign_token op.Product ∷ right_items (u, type_items u)) h (refl, round (is_some (components u)) (type_items u) k)))
-    (type_at TruthT ty.Truth of_type.rolls-Truth tt)
+    by (sign_between (type_pieces t) (sign_piece op.Product) (right_of_product (u, type_pieces u))) _ (type_pieces-Pair t u)
+    (beside (type_pieces t) (Blank ∷ sign_piece op.Product ∷ Blank ∷ right_of_product (u, type_pieces u)) h (refl, round (is_some (components u)) (type_pieces u) k)))
+    (by [] _ type_pieces-Truth tt)
 
 -- Operators.
 
-abbrev IsClear : PartWithItems → Type 0
-IsClear p = (denied : Bool) (d : ℕ) → AreUnlimited (p.1 denied d)
+abbrev IsClearPart : PrintedPart → Type 0
+IsClearPart p = (denied : Bool) (d : ℕ) → IsClear (p.1 denied d)
 
-operand : (o : Op) (s : Side) (p : PartWithItems) (d : ℕ) → IsClear p → AreUnlimited (operand_items o s p d)
+operand : (o : Op) (s : Side) (p : PrintedPart) (d : ℕ) → IsClearPart p → IsClear (printed_operand o s p d)
 operand o s p d h = round (needs_parentheses o s p.0) (p.1 false d) (h false d)
 
-typed : (sign : Item) (t : Ty) → IsUnlimited sign → AreUnlimited (typed_items sign t)
-typed sign t s = (refl, (s, (refl, joined (type_items t) (close_round ∷ []) (type_unlimited t) (refl, tt))))
-
-constant : (o : Op) (sign : Item) (t : Ty) → IsUnlimited sign → AreUnlimited (constant_items o sign t)
-constant op.EmptySet sign t s = typed sign t s
-constant op.Identity sign t s = typed sign t s
-constant op.FirstProjection sign t s = typed sign t s
-constant op.SecondProjection sign t s = typed sign t s
-constant _ sign t s = (s, tt)
-
-unary : (o : Op) (sign : Item) (p : PartWithItems) (d : ℕ) → IsUnlimited sign → IsClear p → AreUnlimited (unary_items o sign p d)
-unary op.Not sign p d s h = h true d
-unary op.Negate sign p d s h = (s, operand op.Negate side.Right p d h)
-unary op.Converse sign p d s h = joined (operand_items op.Converse side.Left p d) (sign ∷ []) (operand op.Converse side.Left p d h) (s, tt)
-unary _ sign p d s h = (s, (refl, joined (p.1 false d) (close_round ∷ []) (h false d) (refl, tt)))
-
-second : (o : Op) (sign : Item) (p : PartWithItems) (d : ℕ) → IsUnlimited sign → IsClear p → AreUnlimited (second_items o sign p d)
-second op.Apply sign p d s h = (refl, joined (p.1 false d) (close_round ∷ []) (h false d) (refl, tt))
-second op.Image sign p d s h = (refl, joined (p.1 false d) (close_square ∷ []) (h false d) (refl, tt))
-second o sign p d s h = (s, operand o side.Right p d h)
-
-commas : (n : ℕ) → AreUnlimited (comma_after n)
-commas zero = tt
-commas (suc n) = (refl, tt)
-
-abbrev AreAllUnlimited : List (List Item) → Type 0
-AreAllUnlimited lists = AllByRecursion AreUnlimited lists
-
-with_commas : (n : ℕ) (lists : List (List Item)) → AreAllUnlimited lists → AreUnlimited (separated_after n lists)
-with_commas n [] all = tt
-with_commas n (s ∷ lists) all =
-    joined (comma_after n) (s ++ separated_after (n + 1) lists) (commas n) (joined s (separated_after (n + 1) lists) all.0 (with_commas (n + 1) lists all.1))
-
-members : (parts : List PartWithItems) (d : ℕ) → AllByRecursion IsClear parts → AreAllUnlimited (map (λ p. p.1 false d) parts)
+members : (parts : List PrintedPart) (d : ℕ) → AllByRecursion IsClearPart parts → AllByRecursion IsClear (map (λ p. p.1 false d) parts)
 members [] d all = tt
 members (p ∷ parts) d all = (all.0 false d, members parts d all.1)
 
-operator : (o : Op) (sign : Item) (parts : List PartWithItems) (t : Ty) (d : ℕ) → IsUnlimited sign → AllByRecursion IsClear parts → AreUnlimited (operator_items o sign parts t d)
-operator op.SetExtension sign parts t d s all =
-    (refl, joined (separated (map (λ p. p.1 false d) parts)) (close_brace ∷ []) (with_commas 0 (map (λ p. p.1 false d) parts) (members parts d all)) (refl, tt))
-operator o sign [] t d s all = constant o sign t s
-operator o sign (a ∷ []) t d s all = unary o sign a d s all.0
-operator o sign (a ∷ b ∷ []) t d s all = joined (operand_items o side.Left a d) (second_items o sign b d) (operand o side.Left a d all.0) (second o sign b d s all.1.0)
-operator o sign (a ∷ b ∷ c ∷ parts) t d s all = tt
+behind : (pss : List (List Piece)) → AllByRecursion IsClear pss → IsClear (behind_commas pss)
+behind [] all = tt
+behind (ps ∷ pss) all = (refl, beside ps (behind_commas pss) all.0 (behind pss all.1))
 
-opening : (o : Op) → AreUnlimited (opening_items o)
+separated : (pss : List (List Piece)) → AllByRecursion IsClear pss → IsClear (separated_pieces pss)
+separated [] all = tt
+separated (ps ∷ pss) all = beside ps (behind_commas pss) all.0 (behind pss all.1)
+
+module _ (x : Symbol) (w : List ℕ) (free : is_limited x ≡ false) where
+  abbrev sign : Piece
+  sign = Token x w
+
+  typed : (t : Ty) → IsClear (typed_constant sign t)
+  typed t = (refl, (free, (refl, beside (type_pieces t) (close_round_piece ∷ []) (type_clear t) (refl, tt))))
+
+  constant : (o : Op) (t : Ty) → IsClear (printed_constant o sign t)
+  constant op.EmptySet t = typed t
+  constant op.Identity t = typed t
+  constant op.FirstProjection t = typed t
+  constant op.SecondProjection t = typed t
+  constant _ t = (free, tt)
+
+  unary : (o : Op) (p : PrintedPart) (d : ℕ) → IsClearPart p → IsClear (printed_unary o sign p d)
+  unary op.Not p d h = h true d
+  unary op.Negate p d h = (free, operand op.Negate side.Right p d h)
+  unary op.Converse p d h = beside (printed_operand op.Converse side.Left p d) (sign ∷ []) (operand op.Converse side.Left p d h) (free, tt)
+  unary _ p d h = (free, (refl, beside (p.1 false d) (close_round_piece ∷ []) (h false d) (refl, tt)))
+
+  second : (o : Op) (p : PrintedPart) (d : ℕ) → IsClearPart p → IsClear (printed_second o sign p d)
+  second op.Apply p d h = (refl, beside (p.1 false d) (close_round_piece ∷ []) (h false d) (refl, tt))
+  second op.Image p d h = (refl, beside (p.1 false d) (close_square_piece ∷ []) (h false d) (refl, tt))
+  second o p d h = (free, operand o side.Right p d h)
+
+  operator : (o : Op) (parts : List PrintedPart) (t : Ty) (d : ℕ) → AllByRecursion IsClearPart parts → IsClear (printed_operator o sign parts t d)
+  operator op.SetExtension parts t d all =
+      (refl, beside (separated_pieces (map (λ p. p.1 false d) parts)) (close_brace_piece ∷ []) (separated (map (λ p. p.1 false d) parts) (members parts d all)) (refl, tt))
+  operator o [] t d all = constant o t
+  operator o (a ∷ []) t d all = unary o a d all.0
+  operator o (a ∷ b ∷ []) t d all = beside (printed_operand o side.Left a d) (printed_second o sign b d) (operand o side.Left a d all.0) (second o b d all.1.0)
+  operator o (a ∷ b ∷ c ∷ parts) t d all = tt
+
+opening : (o : Op) → IsClear (opening_of o)
 opening op.Equal = tt
 opening op.Member = tt
 opening op.ProperSubset = tt
@@ -128,7 +127,7 @@ opening op.Bottom = (refl, tt)
 opening op.Finite = (refl, tt)
 opening _ = (refl, (refl, tt))
 
-closing : (o : Op) → AreUnlimited (closing_items o)
+closing : (o : Op) → IsClear (closing_of o)
 closing op.Equal = tt
 closing op.Member = tt
 closing op.ProperSubset = tt
@@ -138,64 +137,59 @@ closing op.Bottom = tt
 closing op.Finite = tt
 closing _ = (refl, tt)
 
-node : (o : Op) (parts : List PartWithItems) (t : Ty) (denied : Bool) (d : ℕ) → AllByRecursion IsClear parts → AreUnlimited (node_items o parts t denied d)
+node : (o : Op) (parts : List PrintedPart) (t : Ty) (denied : Bool) (d : ℕ) → AllByRecursion IsClearPart parts → IsClear (printed_node o parts t denied d)
 node o parts t true d all =
-    let inner : List Item = operator_items o (denied_sign_token o) parts t d in
-    joined (opening_items o) (inner ++ closing_items o) (opening o) (joined inner (closing_items o) (operator o (denied_sign_token o) parts t d (denied_unlimited o) all) (closing o))
-node o parts t false d all = operator o (sign_token o) parts t d (sign_unlimited o) all
+    let inner : List Piece = printed_operator o (operator_piece (denied_op o)) parts t d in
+    beside (opening_of o) (inner ++ closing_of o) (opening o) (beside inner (closing_of o) (operator (raw_class_of (denied_op o)) (raw_sign_of (denied_op o)) (denied_clear o) o parts t d all) (closing o))
+node o parts t false d all = operator (class_of o) (sign_of o) (sign_clear o) o parts t d all
 
 -- Binders.
 
 module _ (names : List (List ℕ)) where
-  declared : (types : List Ty) (d : ℕ) → AreAllUnlimited (declarations names types d)
+  declared : (types : List Ty) (d : ℕ) → AllByRecursion IsClear (printed_declarations names types d)
   declared [] d = tt
-  declared (t ∷ types) d = ((refl, (refl, type_unlimited t)), declared types (d + 1))
+  declared (t ∷ types) d = ((refl, (refl, type_clear t)), declared types (d + 1))
 
-  body : (parts : List PartWithItems) (d : ℕ) → AllByRecursion IsClear parts → AreUnlimited (body_items parts d)
+  body : (parts : List PrintedPart) (d : ℕ) → AllByRecursion IsClearPart parts → IsClear (printed_body parts d)
   body [] d all = tt
   body (p ∷ []) d all = all.0 false d
-  body (p ∷ e ∷ []) d all = joined (p.1 false d) (bar ∷ e.1 false d) (all.0 false d) (refl, all.1.0 false d)
+  body (p ∷ e ∷ []) d all = beside (p.1 false d) (Blank ∷ bar_piece ∷ Blank ∷ e.1 false d) (all.0 false d) (refl, all.1.0 false d)
   body (p ∷ e ∷ x ∷ parts) d all = tt
 
-  binder_sign : (b : Binder) → is_limited (binder_class_of b) ≡ false
-  binder_sign binder.ForAll = refl
-  binder_sign _ = refl
+  binder_clear : (b : Binder) → is_limited (binder_class_of b) ≡ false
+  binder_clear binder.ForAll = refl
+  binder_clear _ = refl
 
-  last : (b : Binder) → AreUnlimited (binder_end b)
+  last : (b : Binder) → IsClear (binder_end_of b)
   last binder.Comprehension = (refl, tt)
   last _ = tt
 
-  binding : (b : Binder) (types : List Ty) (parts : List PartWithItems) (d : ℕ) → AllByRecursion IsClear parts → AreUnlimited (binder_items names b types parts d)
+  binding : (b : Binder) (types : List Ty) (parts : List PrintedPart) (d : ℕ) → AllByRecursion IsClearPart parts → IsClear (printed_binder names b types parts d)
   binding b types parts d all =
-      let inner : List Item = body_items parts (d + length types) in (
-        binder_sign b,
-        joined (separated (declarations names types d)) (dot ∷ (inner ++ binder_end b)) (with_commas 0 (declarations names types d) (declared types d))
-            (refl, joined inner (binder_end b) (body parts (d + length types) all) (last b)),
+      let inner : List Piece = printed_body parts (d + length types) in (
+        binder_clear b,
+        beside (separated_pieces (printed_declarations names types d)) (dot_piece ∷ (inner ++ binder_end_of b)) (separated (printed_declarations names types d) (declared types d))
+            (refl, beside inner (binder_end_of b) (body parts (d + length types) all) (last b)),
       )
 
-  bind : (b : Binder) (types : List Ty) (parts : List PartWithItems) (denied : Bool) (d : ℕ) → AllByRecursion IsClear parts → AreUnlimited (bind_items names b types parts denied d)
-  bind b types parts true d all = (refl, (refl, joined (binder_items names b types parts d) (close_round ∷ []) (binding b types parts d all) (refl, tt)))
+  bind : (b : Binder) (types : List Ty) (parts : List PrintedPart) (denied : Bool) (d : ℕ) → AllByRecursion IsClearPart parts → IsClear (printed_bind names b types parts denied d)
+  bind b types parts true d all = (refl, (refl, beside (printed_binder names b types parts d) (close_round_piece ∷ []) (binding b types parts d all) (refl, tt)))
   bind b types parts false d all = binding b types parts d all
 
   abbrev IsFormulaClear : Formula → Type 0
-  IsFormulaClear f = IsClear (f, items names f)
+  IsFormulaClear f = IsClearPart (f, printed names f)
 
-  parts_clear : (fs : List Formula) → AllByRecursion IsFormulaClear fs → AllByRecursion IsClear (with_items names fs)
+  parts_clear : (fs : List Formula) → AllByRecursion IsFormulaClear fs → AllByRecursion IsClearPart (printed_parts names fs)
   parts_clear [] all = tt
   parts_clear (f ∷ fs) all = (all.0, parts_clear fs all.1)
 
-  formula_at : (x : Formula-F Formula) (f : Formula) → roll-Formula x ≡ f → ((denied : Bool) (d : ℕ) → AreUnlimited (items_step names (map-Formula Formula PartWithItems (λ y. (y, items names y)) x) denied d)) → IsFormulaClear f
-  formula_at x f e all denied d =
-      let is : items names f ≡ items_step names (map-Formula Formula PartWithItems (λ y. (y, items names y)) x) = formula_para (items_step names) x f e in
-      subst AreUnlimited (back (ap (λ (p : Items). p denied d) is)) (all denied d)
-
   formula_clear : (f : Formula) → IsFormulaClear f
   formula_clear = formula_induction IsFormulaClear
-      (λ n. formula_at (IntF n) (Int n) (rolls-Int n) (λ denied d. (refl, tt)))
-      (λ x t. formula_at (FreeF x t) (Free x t) (rolls-Free x t) (λ denied d. (refl, tt)))
-      (λ i t. formula_at (BoundF i t) (Bound i t) (rolls-Bound i t) (λ denied d. (refl, tt)))
-      (λ o parts t all. formula_at (NodeF o parts t) (Node o parts t) (rolls-Node o parts t) (λ denied d. node o (with_items names parts) t denied d (parts_clear parts all)))
-      (λ b types parts t all. formula_at (BindF b types parts t) (Bind b types parts t) (rolls-Bind b types parts t) (λ denied d. bind b types (with_items names parts) denied d (parts_clear parts all)))
+      (λ n denied d. by _ _ (printed-Int names n denied d) (refl, tt))
+      (λ x t denied d. by _ _ (printed-Free names x t denied d) (refl, tt))
+      (λ i t denied d. by _ _ (printed-Bound names i t denied d) (refl, tt))
+      (λ o parts t all denied d. by _ _ (printed-Node names o parts t denied d) (node o (printed_parts names parts) t denied d (parts_clear parts all)))
+      (λ b types parts t all denied d. by _ _ (printed-Bind names b types parts t denied d) (bind b types (printed_parts names parts) denied d (parts_clear parts all)))
 
 pub unlimited : (f : Formula) → AreUnlimited (items_of_formula f)
 unlimited f = formula_clear (bound_names f) f false 0

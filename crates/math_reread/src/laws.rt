@@ -11,10 +11,9 @@ ghost use Rattle.math_print.specs.Printing.{formula_text};
 ghost use Rattle.math_print.specs.Written.{raw_of};
 ghost use Rattle.math_places.specs.Places.{unplaced};
 ghost use Rattle.token_text.specs.Spacing.{IsCutInto};
-ghost use Rattle.math_reread.specs.Grades.{IsSpelled, place_for};
+ghost use Rattle.math_reread.specs.Grades.{items_of_formula, IsSpelled, place_for};
 ghost use Rattle.math_print.specs.Held.{HasNames, HasFewNames};
 ghost use Rattle.math_reread.specs.Back.{ReadsBack};
-ghost use Rattle.math_reread.specs.Items.{items_of_formula};
 ghost use Rattle.math_print.specs.Held.{HasNarrowNumbers};
 
 /// The tokens of a well formula's printed text are a sentence, and its tree is the formula as it is written.

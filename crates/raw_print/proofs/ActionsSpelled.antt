@@ -17,11 +17,12 @@ use Rattle.math_grammar.specs.Grammar.{item, Reads, Spells}
 use Rattle.math_grammar.specs.Actions.{ref, Targets, last_target, next_target, Values, last_value, next_value, SpellsAction, assigns, applies, chooses_in, chooses_such}
 use Rattle.math_places.specs.Places.{unplaced, unplaced_ref, unplaced_action}
 use Rattle.math_grammar.specs.Characters.{bytes}
-use Rattle.raw_print.specs.Pieces.{Blank, tokens_of, word_piece, close_round_piece, becomes, becomes_such, in_round, behind_commas, separated_pieces}
+use Rattle.token_text.specs.Pieces.{Blank, tokens_of, word_piece, close_round_piece, becomes, becomes_such, in_round, behind_commas, separated_pieces}
 use Rattle.raw_print.specs.Printing.{pieces, target, targets, raw_tokens, action_tokens}
 use Rattle.raw_print.proofs.Grades.{is_predicate, place_sort, fits_expression, at_end, closing}
 use Rattle.raw_print.specs.Back.{AllProper}
-use Rattle.raw_print.proofs.Spelled.{tokens-append, behind, Again, reads_again, spelled_again}
+use Rattle.token_text.proofs.Pieces.{tokens-append, tokens-behind as behind}
+use Rattle.raw_print.proofs.Spelled.{Again, reads_again, spelled_again}
 
 record TargetsAgain (before refs : List Ref) (rest : List Item) : Type 0 where
   first : Ref

@@ -12,7 +12,8 @@ use Rattle.formula_core.specs.declared.raw.Raw.TheVariants as raw
 use Rattle.formula_core.specs.declared.raw.Raw.TheViews.{roll-out-RawBound, rolls-Int, rolls-Name, rolls-Node, rolls-Bind}
 use Rattle.formula_core.specs.declared.raw.Raw.TheFolds.{fold-roll-Raw, para-roll-Raw, para-RawBound, para-roll-RawBound, map-RawBound}
 use Rattle.math_grammar.specs.declared.symbols.Symbol.TheVariants as sym
-use Rattle.raw_print.specs.Pieces.{Piece, Token, piece_text, text_of, word_piece}
+use Rattle.token_text.specs.Pieces.{Piece, Token, word_piece}
+use Rattle.token_text.proofs.Pieces.{text-append}
 use Rattle.raw_print.specs.Printing.{names_in_parts, names_in_step, pattern_name_count, PatternPrinter, first_name, pattern_of_parts, pattern_step, pattern, PartWithPieces, pieces_step, declaration_step, declaration, pieces, node_pieces, bind_pieces}
 use Rattle.raw_print.specs.Private.{with_pattern, with_pieces, declared}
 
@@ -80,10 +81,6 @@ pattern-Node o parts place names = ap (λ r. pattern r names) (back (rolls-Node 
 
 pub pattern-Bind : (b : RawBinder) (bound : List RawBound) (parts : List Raw) (place : ℕ) (names : List (List Piece)) → pattern (raw.Bind b bound parts place) names ≡ []
 pattern-Bind b bound parts place names = ap (λ r. pattern r names) (back (rolls-Bind b bound parts place)) ∙ ap (λ (p : PatternPrinter). p names) (para-roll-Raw PatternPrinter (Unit {0}) pattern_step bare (BindF b bound parts place))
-
-pub text-append : (ps qs : List Piece) → text_of (ps ++ qs) ≡ text_of ps ++ text_of qs
-text-append [] qs = refl
-text-append (p ∷ ps) qs = ap (λ t. piece_text p ++ t) (text-append ps qs) ∙ back (append_assoc (piece_text p) (text_of ps) (text_of qs))
 
 pub ruleset texts =
     (pieces-Int, pieces-Name, pieces-Node, pieces-Bind, names_in-Int, names_in-Name, names_in-Node, names_in-Bind, pattern-Int, pattern-Name, pattern-Node, pattern-Bind, text-append, append_assoc, append-nil)

@@ -16,7 +16,7 @@ use Rattle.math_grammar.specs.declared.levels.Binding.TheVariants as binding
 use Rattle.math_grammar.specs.declared.symbols.Symbol.{Symbol}
 use Rattle.math_grammar.specs.declared.symbols.Symbol.TheVariants as sym
 use Rattle.math_grammar.specs.Levels.{infix_of, suffix_of, opens, binder_of}
-use Rattle.raw_print.specs.Pieces.{Piece, Blank, Token, sign_between}
+use Rattle.token_text.specs.Pieces.{Piece, Blank, Token, sign_between}
 use Rattle.math_grammar.specs.Operators.{raw_sign_of, raw_class_of, raw_binder_class_of}
 use Rattle.raw_print.specs.Back.{IsProper}
 use Rattle.raw_print.specs.Printing.{PartWithPieces, operand_pieces, form, is_atomic, pattern, pattern_name_count}

@@ -37,8 +37,9 @@ use Rattle.math_grammar.specs.Grammar.{item, place_at, place_of, bound, lone, jo
 use Rattle.math_places.specs.Places.{unplaced}
 use Rattle.math_places.proofs.Equations.{unplaced-Int, unplaced-Name, unplaced-Node, unplaced-Bind, unplaced_bound}
 use Rattle.math_grammar.specs.Characters.{bytes}
-use Rattle.raw_print.specs.Pieces.{Piece, Blank, Token, tokens_of, close_round_piece, close_brace_piece, dot_piece, bar_piece, in_round, in_square, close_square_piece, sign_between, behind_commas, separated_pieces}
+use Rattle.token_text.specs.Pieces.{Piece, Blank, Token, tokens_of, close_round_piece, close_brace_piece, dot_piece, bar_piece, in_round, in_square, close_square_piece, sign_between, behind_commas, separated_pieces}
 use Rattle.math_grammar.specs.Operators.{raw_sign_of, raw_class_of, raw_binder_sign_of, raw_binder_class_of}
+use Rattle.token_text.proofs.Pieces.{tokens-behind as behind}
 use Rattle.raw_print.specs.Printing as printing
 use Rattle.raw_print.specs.Printing.{operand_pieces, bare as bare_parts, form, stands_alone, stands_alone_at, is_atomic, pieces, body_pieces, raw_tokens, pattern, pattern_name_count}
 use Rattle.raw_print.specs.Private.{with_pieces, declared}
@@ -71,15 +72,6 @@ alone-Name x p = ap stands_alone_at (outs-Name x p)
 
 alone-Int : (n : ℤ) (p : ℕ) → stands_alone (raw.Int n p) ≡ true
 alone-Int n p = ap stands_alone_at (outs-Int n p)
-
--- tokens of pieces one behind another
-pub tokens-append : (ps qs : List Piece) → tokens_of (ps ++ qs) ≡ tokens_of ps ++ tokens_of qs
-tokens-append [] qs = refl
-tokens-append (Blank ∷ ps) qs = tokens-append ps qs
-tokens-append (Token x w ∷ ps) qs = ap (λ t. item x 0 w ∷ t) (tokens-append ps qs)
-
-pub behind : (ps qs : List Piece) (rest : List Item) → tokens_of (ps ++ qs) ++ rest ≡ tokens_of ps ++ (tokens_of qs ++ rest)
-behind ps qs rest = ap (λ t. t ++ rest) (tokens-append ps qs) ∙ append_assoc (tokens_of ps) (tokens_of qs) rest
 
 right_one : (l : Level) → is_one_sort (right_of l) ≡ true
 right_one lev.Implication = refl

@@ -13,10 +13,11 @@ use Rattle.math_grammar.specs.declared.levels.Call.{Call}
 use Rattle.math_grammar.specs.declared.symbols.Symbol.{Symbol}
 use Rattle.math_grammar.specs.declared.symbols.Symbol.TheVariants as sym
 use Rattle.math_grammar.specs.Characters.{bytes}
-use Rattle.raw_print.specs.Pieces.{Piece, Token, text_of, close_round_piece, close_brace_piece, behind_commas, separated_pieces}
+use Rattle.token_text.specs.Pieces.{Piece, Token, text_of, close_round_piece, close_brace_piece, behind_commas, separated_pieces}
 use Rattle.raw_print.specs.Printing.{bare, form, pieces, side, names_in_parts, pattern_name_count, pattern_of_parts, pattern}
 use Rattle.raw_print.specs.Private.{with_pieces, declared, with_pattern}
-use Rattle.raw_print.proofs.Equations.{text-append, names_in-Node, pattern-Name, pattern-Node}
+use Rattle.token_text.proofs.Pieces.{text-append}
+use Rattle.raw_print.proofs.Equations.{names_in-Node, pattern-Name, pattern-Node}
 
 -- what holds of a success follows from what else holds of it
 pub on_ok : {T E : Type 0} (r : Result T E) {P Q : Type 0} → (P → Q) → OnOk r P → OnOk r Q

@@ -1,4 +1,3 @@
-pub mod Pieces
 pub mod Printing
 pub mod Back
 pub mod Private

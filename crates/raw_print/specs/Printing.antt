@@ -3,7 +3,6 @@ use Rattle.std.specs.Prelude.{ℕ, ◌+◌, Bool, true, false, List, [], ◌∷�
 use Rattle.std.specs.Fmt.{signed_decimal}
 use Rattle.formula_core.specs.declared.op.Op.TheVariants as op
 use Rattle.formula_core.specs.declared.raw.RawOp.{RawOp}
-use Rattle.formula_core.specs.declared.raw.RawOp.TheVariants as rawop
 use Rattle.formula_core.specs.declared.raw.RawBinder.{RawBinder}
 use Rattle.formula_core.specs.declared.raw.RawBinder.TheVariants as rawbinder
 use Rattle.formula_core.specs.declared.raw.RawBound.{RawBound}
@@ -17,8 +16,8 @@ use Rattle.math_grammar.specs.declared.levels.Bracket.TheVariants as bracket
 use Rattle.math_grammar.specs.declared.symbols.Symbol.{Symbol}
 use Rattle.math_grammar.specs.declared.symbols.Symbol.TheVariants as sym
 use Rattle.math_grammar.specs.Tokens.{Item}
-use Rattle.math_grammar.specs.Operators.{raw_sign_of, raw_class_of, raw_binder_sign_of, raw_binder_class_of}
-use Rattle.raw_print.specs.Pieces.{Piece, Blank, Token, text_of, tokens_of, word_piece, close_brace_piece, dot_piece, bar_piece, typing_piece, becomes, becomes_in, becomes_such, in_round, in_square, in_braces, sign_between, separated_pieces}
+use Rattle.math_grammar.specs.Operators.{raw_class_of, raw_binder_class_of}
+use Rattle.token_text.specs.Pieces.{Piece, Blank, Token, text_of, tokens_of, word_piece, close_brace_piece, dot_piece, bar_piece, typing_piece, operator_piece, sign_piece, binder_piece, becomes, becomes_in, becomes_such, in_round, in_square, in_braces, sign_between, separated_pieces}
 
 -- a sign that is a form of its own, or one that brackets close
 abbrev pub is_atomic : Symbol → Bool
@@ -74,16 +73,16 @@ form (sym.Open bracket.Brace) sign parts = in_braces (separated_pieces (bare par
 form x sign parts = operation_pieces x sign parts
 
 abbrev pub node_pieces : RawOp → List PartWithPieces → List Piece
-node_pieces o parts = form (raw_class_of o) (Token (raw_class_of o) (raw_sign_of o)) parts
+node_pieces o parts = form (raw_class_of o) (operator_piece o) parts
 
 -- the type behind a name
-abbrev pub type_pieces : Option PartWithPieces → List Piece
-type_pieces None = []
-type_pieces (Some t) = typing_piece ∷ operand_pieces t
+abbrev pub declared_type : Option PartWithPieces → List Piece
+declared_type None = []
+declared_type (Some t) = typing_piece ∷ operand_pieces t
 
 -- a name that is bound, with its type where that is written
 abbrev pub declaration : List ℕ → Option PartWithPieces → List Piece
-declaration name t = word_piece name ∷ type_pieces t
+declaration name t = word_piece name ∷ declared_type t
 
 abbrev pub names_in_parts : List ℕ → ℕ
 names_in_parts (l ∷ r ∷ []) = l + r
@@ -109,12 +108,9 @@ first_name (name ∷ names) = name
 abbrev pub side : Raw × PatternPrinter → PatternPrinter
 side p names = operand_pieces (p.0, p.1 names)
 
-abbrev pub maplet_piece : Piece
-maplet_piece = Token (raw_class_of (rawop.Plain op.Maplet)) (raw_sign_of (rawop.Plain op.Maplet))
-
 abbrev pub pattern_of_parts : List (Raw × PatternPrinter) → PatternPrinter
 pattern_of_parts (l ∷ r ∷ []) names =
-    sign_between (side l names) maplet_piece (side r (drop (pattern_name_count l.0) names))
+    sign_between (side l names) (sign_piece op.Maplet) (side r (drop (pattern_name_count l.0) names))
 pattern_of_parts _ names = []
 
 abbrev pub pattern_step : Raw-F (Raw × PatternPrinter) (RawBound-F Raw (Unit {0}) × Unit {0}) → PatternPrinter
@@ -148,7 +144,7 @@ scope rawbinder.Lambda names parts = lambda_pieces names parts
 scope (rawbinder.Implicit b) names parts = body_pieces parts
 
 abbrev pub bind_pieces : RawBinder → List (List Piece) → List PartWithPieces → List Piece
-bind_pieces b names parts = Token (raw_binder_class_of b) (raw_binder_sign_of b) ∷ (scope b names parts ++ ending (raw_binder_class_of b))
+bind_pieces b names parts = binder_piece b ∷ (scope b names parts ++ ending (raw_binder_class_of b))
 
 abbrev pub pieces_step : Raw-F PartWithPieces (RawBound-F Raw (Unit {0}) × List Piece) → List Piece
 pieces_step (Int n place) = Token (sym.Number n) (signed_decimal n) ∷ []

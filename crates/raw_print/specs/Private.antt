@@ -3,7 +3,7 @@ use Rattle.std.specs.Prelude.{List}
 use Rattle.std.specs.Option.{option_map}
 use Rattle.formula_core.specs.declared.raw.RawBound.{RawBound}
 use Rattle.formula_core.specs.declared.raw.Raw.{Raw}
-use Rattle.raw_print.specs.Pieces.{Piece}
+use Rattle.token_text.specs.Pieces.{Piece}
 use Rattle.raw_print.specs.Printing.{PartWithPieces, declaration, PatternPrinter, pattern, pieces}
 
 -- a pattern beside its pieces

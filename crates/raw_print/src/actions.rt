@@ -2,7 +2,7 @@
 #![tactic(auto, using(crate::proofs::Equations::texts))]
 
 ghost use Rattle.std.specs.Prelude.{◌≡◌, ◌++◌, OnOk, string_bytes};
-ghost use Rattle.raw_print.specs.Pieces.{text_of};
+ghost use Rattle.token_text.specs.Pieces.{text_of};
 ghost use Rattle.raw_print.specs.Printing.{targets, action_text};
 
 use crate::printing::{print_formula, print_separated};

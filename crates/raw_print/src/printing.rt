@@ -4,7 +4,7 @@
 ghost use Rattle.std.specs.Prelude.{◌≡◌, ◌++◌, ◌∷◌, [], OnOk, IfOk, string_bytes, map, drop};
 ghost use Rattle.std.specs.Fmt.{signed_decimal};
 ghost use Rattle.std.specs.Option.{option_map};
-ghost use Rattle.raw_print.specs.Pieces.{Token, text_of, behind_commas, separated_pieces};
+ghost use Rattle.token_text.specs.Pieces.{Token, text_of, behind_commas, separated_pieces};
 ghost use Rattle.raw_print.specs.Printing.{PartWithPieces, is_atomic, stands_alone, operand_pieces, unary, second, operation_pieces, node_pieces, declaration, pattern_name_count, side, pattern, body_pieces, ending, scope, bind_pieces, pieces, raw_text};
 ghost use Rattle.raw_print.specs.Private.{with_pattern, with_pieces, declared};
 

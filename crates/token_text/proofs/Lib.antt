@@ -6,3 +6,5 @@ pub mod Words
 pub mod Names
 pub mod Numbers
 pub mod Following
+pub mod Pieces
+pub mod Fitting

@@ -1,8 +1,7 @@
 use Rattle.std.proofs.Common.{None}
 use Rattle.math_parse.proofs.Place.{one_tree}
 use Rattle.math_print.specs.Written.{raw_of}
-use Rattle.math_reread.specs.Items.{items_of_formula}
-use Rattle.math_reread.specs.Grades.{place_for}
+use Rattle.math_reread.specs.Grades.{items_of_formula, place_for}
 use Rattle.math_reread.proofs.Back.{spelled}
 use Rattle.math_reread.proofs.laws.spelled_one_way.Goals as goal
 

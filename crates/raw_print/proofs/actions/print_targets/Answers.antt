@@ -1,7 +1,7 @@
 use Rattle.std.proofs.Common.{rules, ◌≡◌, ◌∙◌, ap, sym, ◌++◌, string_bytes}
 use Rattle.std.proofs.lemmas.List.{append-nil}
 use Rattle.math_grammar.specs.Characters.{bytes}
-use Rattle.raw_print.specs.Pieces.{text_of}
+use Rattle.token_text.specs.Pieces.{text_of}
 use Rattle.raw_print.specs.Printing.{target}
 use Rattle.raw_print.proofs.Texts.{one_more, all_parts}
 use Rattle.raw_print.proofs.actions.print_targets.Goals as goal

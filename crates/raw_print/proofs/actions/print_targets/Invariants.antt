@@ -1,5 +1,5 @@
 use Rattle.std.proofs.Common.{◌≡◌, ◌++◌, string_bytes, map, drop}
-use Rattle.raw_print.specs.Pieces.{text_of, behind_commas}
+use Rattle.token_text.specs.Pieces.{text_of, behind_commas}
 use Rattle.raw_print.specs.Printing.{target}
 use Rattle.raw_print.proofs.actions.print_targets.Given as goal
 

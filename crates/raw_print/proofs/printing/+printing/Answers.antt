@@ -3,12 +3,12 @@ use Rattle.std.proofs.lemmas.List.{append-nil, drop-drop}
 use Rattle.formula_core.specs.declared.raw.Raw.{Raw}
 use Rattle.math_grammar.specs.declared.symbols.Symbol.TheVariants as symbol
 use Rattle.math_grammar.specs.Characters.{bytes}
-use Rattle.raw_print.specs.Pieces.{Token, text_of}
+use Rattle.token_text.specs.Pieces.{Token, text_of}
 use Rattle.raw_print.specs.Printing.{pieces, body_pieces, operation_pieces, operand_pieces, second, side, pattern_name_count}
 use Rattle.raw_print.specs.Private.{with_pieces, declared, with_pattern}
 use Rattle.math_grammar.specs.Operators.{raw_sign_of, raw_class_of}
 use Rattle.raw_print.proofs.Texts.{on_ok, two_pieces, three_pieces, one_more, all_parts, two_parts, if_ok, call_text, set_text, names_in-pair, none_named, pattern_text, names_in-other, pattern-other}
-use Rattle.raw_print.proofs.Equations.{text-append}
+use Rattle.token_text.proofs.Pieces.{text-append}
 use Rattle.raw_print.proofs.Weights.{weight, weights, bound_weight, bound_weights, weight_of_part, weight_of_name, weight_of_rest, weight-Node}
 use Rattle.raw_print.proofs.printing.+printing.Goals as goal
 

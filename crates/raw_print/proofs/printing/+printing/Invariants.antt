@@ -1,5 +1,5 @@
 use Rattle.std.proofs.Common.{◌≡◌, ◌++◌, ◌+◌, ◌*◌, string_bytes, map, drop}
-use Rattle.raw_print.specs.Pieces.{text_of, behind_commas}
+use Rattle.token_text.specs.Pieces.{text_of, behind_commas}
 use Rattle.raw_print.specs.Printing.{pieces}
 use Rattle.raw_print.specs.Private.{declared}
 use Rattle.raw_print.proofs.Weights.{weight, weights, bound_weight, bound_weights}

@@ -1,6 +1,9 @@
 -- What is printed: tokens, and blanks between some of them.
 use Rattle.std.specs.Prelude.{ℕ, List, [], ◌∷◌, ◌++◌}
+use Rattle.formula_core.specs.declared.op.Op.{Op}
+use Rattle.formula_core.specs.declared.raw.RawOp.{RawOp}
 use Rattle.formula_core.specs.declared.raw.RawOp.TheVariants as rawop
+use Rattle.formula_core.specs.declared.raw.RawBinder.{RawBinder}
 use Rattle.math_grammar.specs.declared.levels.Level.TheVariants as lev
 use Rattle.math_grammar.specs.declared.levels.Bracket.TheVariants as bracket
 use Rattle.math_grammar.specs.declared.symbols.Symbol.{Symbol}
@@ -8,6 +11,7 @@ use Rattle.math_grammar.specs.declared.symbols.Symbol.TheVariants as sym
 use Rattle.math_grammar.specs.Characters.{bytes}
 use Rattle.math_grammar.specs.Tokens.{Item}
 use Rattle.math_grammar.specs.Grammar.{item}
+use Rattle.math_grammar.specs.Operators.{raw_sign_of, raw_class_of, raw_binder_sign_of, raw_binder_class_of}
 
 pub data Piece : Type 0 where
   Blank : Piece
@@ -60,6 +64,19 @@ bar_piece = Token sym.Bar (bytes "∣")
 
 abbrev pub typing_piece : Piece
 typing_piece = Token (sym.Infix lev.Typing rawop.OfType) (bytes "⦂")
+
+abbrev pub not_piece : Piece
+not_piece = Token sym.Not (bytes "¬")
+
+-- the sign of an operator as it is written, of one of formulas, and of a binder
+abbrev pub operator_piece : RawOp → Piece
+operator_piece o = Token (raw_class_of o) (raw_sign_of o)
+
+abbrev pub sign_piece : Op → Piece
+sign_piece o = operator_piece (rawop.Plain o)
+
+abbrev pub binder_piece : RawBinder → Piece
+binder_piece b = Token (raw_binder_class_of b) (raw_binder_sign_of b)
 
 abbrev pub becomes : Piece
 becomes = Token sym.Becomes (bytes "≔")
