@@ -33,6 +33,27 @@ impl Ground {
     }
 }
 
+/// Triggers, and what they are matched against.
+#[derive(Clone, Copy)]
+struct Matching<'a> {
+    triggers: &'a [Trigger],
+    ground: &'a Ground,
+}
+
+/// Which alternatives an instance may leave.
+#[derive(Clone, Copy)]
+struct Allowed {
+    most: u32,
+    is_bare: bool,
+}
+
+impl Allowed {
+    /// Whether an instance may leave so many. What a bare formula tells is worth no alternative.
+    fn allows(self, cost: u32) -> bool {
+        cost <= self.most && (cost != 1 || !self.is_bare || self.most != 1)
+    }
+}
+
 fn ground_of(facts: &mut Facts, b: &Branch) -> Result<Ground, Stop> {
     let mut ground = Ground {
         atoms: Vec::new(facts.search.alloc()),
@@ -174,10 +195,18 @@ fn candidates(facts: &mut Facts, f: Id, ground: &Ground) -> Result<(Spread, Vec<
     }
     let mut found = Vec::new(facts.search.alloc());
     let terms = unfilled(facts.search.alloc(), spread.count)?;
-    join(facts, &triggers, 0, &terms, ground, &mut found, 9)?;
+    let matching = Matching {
+        triggers: &triggers,
+        ground,
+    };
+    join(facts, matching, 0, &terms, &mut found, 9)?;
     if found.is_empty() && spread.count > 1 && spread.count <= 4 && triggers.len() <= 12 {
         let back = reversed(facts, &triggers)?;
-        join(facts, &back, 0, &terms, ground, &mut found, 9)?;
+        let matching = Matching {
+            triggers: &back,
+            ground,
+        };
+        join(facts, matching, 0, &terms, &mut found, 9)?;
     }
     Ok((spread, found))
 }
@@ -194,10 +223,9 @@ fn reversed(facts: &Facts, triggers: &[Trigger]) -> Result<Vec<Trigger>, Stop> {
 #[cycle(join)]
 fn join(
     facts: &mut Facts,
-    triggers: &[Trigger],
+    matching: Matching<'_>,
     from: usize,
     terms: &[Id],
-    ground: &Ground,
     found: &mut Vec<Vec<Id>>,
     levels: u32,
 ) -> Result<(), Stop> {
@@ -209,10 +237,10 @@ fn join(
         return add_once(found, whole);
     }
     if is_begun(terms) {
-        add_filled(facts, triggers, terms, found)?;
+        add_filled(facts, matching.triggers, terms, found)?;
     }
-    for i in from..triggers.len() {
-        let trigger = triggers[i];
+    for i in from..matching.triggers.len() {
+        let trigger = matching.triggers[i];
         if misses(
             &facts.search.bank,
             trigger.formula,
@@ -220,7 +248,7 @@ fn join(
             terms,
             64,
         ) {
-            join_matches(facts, triggers, i, terms, ground, found, levels - 1)?;
+            join_matches(facts, matching, i, terms, found, levels - 1)?;
         }
     }
     Ok(())
@@ -229,19 +257,18 @@ fn join(
 #[cycle(join)]
 fn join_matches(
     facts: &mut Facts,
-    triggers: &[Trigger],
+    matching: Matching<'_>,
     at: usize,
     terms: &[Id],
-    ground: &Ground,
     found: &mut Vec<Vec<Id>>,
     levels: u32,
 ) -> Result<(), Stop> {
-    if levels == 0 || at >= triggers.len() {
+    if levels == 0 || at >= matching.triggers.len() {
         return Ok(());
     }
-    let matches = matches_of(facts, triggers[at], terms, ground)?;
+    let matches = matches_of(facts, matching.triggers[at], terms, matching.ground)?;
     for more in &matches {
-        join(facts, triggers, at + 1, more, ground, found, levels - 1)?;
+        join(facts, matching, at + 1, more, found, levels - 1)?;
     }
     Ok(())
 }
@@ -411,9 +438,10 @@ fn add_instances(
         found = small_terms(facts, b, f)?;
     }
     let is_bare = is_bare(facts, f)?;
+    let allowed = Allowed { most, is_bare };
     for terms in &found {
         let whole = assembled(&mut facts.search.bank, &spread.shapes, terms)?;
-        add_instance(facts, b, f, whole, most, is_bare, out)?;
+        add_instance(facts, b, f, whole, allowed, out)?;
     }
     Ok(())
 }
@@ -423,8 +451,7 @@ fn add_instance(
     b: &Branch,
     f: Id,
     terms: Vec<Id>,
-    most: u32,
-    is_bare: bool,
+    allowed: Allowed,
     out: &mut Vec<Instance>,
 ) -> Result<(), Stop> {
     let mut generation: u32 = 0;
@@ -453,7 +480,7 @@ fn add_instance(
     let Some(cost) = cost(facts, b, body, true, 24)? else {
         return Ok(());
     };
-    if cost > most || cost == 1 && is_bare && most == 1 {
+    if !allowed.allows(cost) {
         return Ok(());
     }
     let far = if b.note(f).from_goal { 0 } else { 1 };
