@@ -2,8 +2,7 @@
 
 ghost use Rattle.component_print.specs.Back.{IsReadable};
 
-use component_print::print;
-use component_text::{ReadFault, read};
+use camille_text::{ReadFault, print, read};
 use component_tokens::position_of;
 use formula_core::Name;
 use model_core::{Fault, RawComponent};

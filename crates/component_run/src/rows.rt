@@ -2,7 +2,7 @@
 
 use crate::answers::{LONGEST, add_fault, read_again};
 use crate::shape::add_shape;
-use component_text::{ReadFault, read};
+use camille_text::{ReadFault, read};
 use component_tokens::{cut, position_of};
 use formula_core::Name;
 use std::alloc::{AllocError, Global};
