@@ -16,7 +16,7 @@ use Rattle.build_core.specs.declared.owns.Own.{Own}
 use Rattle.build_core.specs.Projects.{Project, has_text}
 use Rattle.build_core.specs.Tables.{refined_in, counted_nodes}
 use Rattle.build_core.specs.Private.{Outcomes, found, Sets, abstraction_in, IsOwn, OwnFrom, OwnsOf, HaveComponents, PassesLimitAt}
-use Rattle.build_core.proofs.OwnLists.{AreOwn, HaveOwns}
+use Rattle.build_core.proofs.EachOwn.{AreOwn, HaveOwns}
 use Rattle.build_core.proofs.Found.{set_cases, named_one}
 use Rattle.build_core.proofs.Limits.{table_cons, all_fit}
 

@@ -7,7 +7,7 @@ use Rattle.check_rules.specs.Contexts.{Outcome}
 use Rattle.sequent_core.specs.declared.sequent.Obligation.{Obligation}
 use Rattle.build_core.specs.Projects.{Project}
 use Rattle.build_core.specs.Private.{Outcomes, found, IsOwn, given_at, given_in}
-use Rattle.build_core.proofs.OwnLists.{AreOwn}
+use Rattle.build_core.proofs.EachOwn.{AreOwn}
 use Rattle.build_core.proofs.Referred.{for_each_more}
 
 pub own_more : (components : List RawComponent) (outcomes : Outcomes) (done : Project) (e : List ℕ × List ℕ) (table own : List Obligation) → AreOwn components outcomes done table →

@@ -3,6 +3,7 @@ pub mod Collecting
 pub mod Concluding
 pub mod Counts
 pub mod Distinct
+pub mod EachOwn
 pub mod Fewer
 pub mod Found
 pub mod Gathers
@@ -11,7 +12,6 @@ pub mod Lines
 pub mod Listed
 pub mod Moving
 pub mod Nothing
-pub mod OwnLists
 pub mod Placing
 pub mod Referred
 pub mod Rounds

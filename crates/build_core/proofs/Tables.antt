@@ -22,7 +22,7 @@ use Rattle.build_core.specs.Projects.{Project, has_text, wanted_references, want
 use Rattle.build_core.specs.Tables.{refined_in, IsAbstraction, Gives, AreObligations, IsTableOf, faults_in, warnings_in, AreGiven}
 use Rattle.build_core.specs.Laws.{HasOneTable, HasOneListOfFaults, HasOneListOfWarnings}
 use Rattle.build_core.specs.Private.{Outcomes, found, AreComponentsIn, machine_in_outcome, abstraction_in, OwnFrom, IsOwn, given_at, given_in, AreVerdicts}
-use Rattle.build_core.proofs.OwnLists.{AreOwn}
+use Rattle.build_core.proofs.EachOwn.{AreOwn}
 use Rattle.build_core.proofs.Found.{its_value, its_text}
 use Rattle.build_core.proofs.Rounds.{read_one, verdict_one, is_there, same_component}
 use Rattle.build_core.proofs.Referred.{none_first, both_empty, machine_there}

@@ -8,7 +8,7 @@ use Rattle.build_core.specs.declared.owns.Own.{Own}
 use Rattle.build_core.specs.Projects.{Project}
 use Rattle.build_core.specs.Tables.{IsTableOf, AreGiven, IsTooLargeOf, counted_nodes}
 use Rattle.build_core.specs.Private.{Outcomes, AreConcluded, AreVerdicts, AreOwnsOf, AreJudged, IsBegun, own_list, given_in}
-use Rattle.build_core.proofs.OwnLists.{AreOwn, HaveOwns}
+use Rattle.build_core.proofs.EachOwn.{AreOwn, HaveOwns}
 use Rattle.build_core.proofs.Found.{its_text}
 use Rattle.build_core.proofs.Concluding.{concluded_verdicts, have_components}
 use Rattle.build_core.proofs.Tables.{own_table, own_gives, given_all}

@@ -5,7 +5,7 @@ use Rattle.std.proofs.lemmas.Result.{err_from_is_err_and}
 use Rattle.std.proofs.lemmas.List.Elements.{Contains-append_left, Contains-append_right, Contains-push}
 use Rattle.po_rules.specs.Gathering.{table_nodes}
 use Rattle.build_core.specs.Private.{own_list}
-use Rattle.build_core.proofs.OwnLists.{AreOwn}
+use Rattle.build_core.proofs.EachOwn.{AreOwn}
 use Rattle.build_core.proofs.Gathers.{own_more}
 use Rattle.build_core.proofs.Collecting.{table_both, passes_whole, own_both, owns_there, haves_more, done_all}
 use Rattle.build_core.proofs.Rounds.{is_there}

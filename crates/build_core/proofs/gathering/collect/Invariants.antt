@@ -1,7 +1,7 @@
 use Rattle.std.proofs.Common.{◌≡◌, ◌≤◌, ◌++◌, ℕ, List, map}
 use Rattle.std.specs.Arc.{arc_value}
 use Rattle.po_rules.specs.Gathering.{table_nodes, table_limit}
-use Rattle.build_core.proofs.OwnLists.{AreOwn, HaveOwns}
+use Rattle.build_core.proofs.EachOwn.{AreOwn, HaveOwns}
 use Rattle.build_core.proofs.gathering.collect.Given as goal
 
 abbrev pub invariant-loop-name : goal.invariant-loop-name
