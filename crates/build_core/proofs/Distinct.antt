@@ -4,7 +4,7 @@ use Rattle.std.specs.Prelude.{Ok, Err}
 use Rattle.std.specs.List.{AllByRecursion, AllZip, IsDistinct, filter_map}
 use Rattle.std.specs.Map.{keys_of}
 use Rattle.formula_core.specs.declared.raw.Ref.{Ref}
-use Rattle.type_core.proofs.Named.{all_each}
+use Rattle.type_formula.proofs.Named.{all_each}
 use Rattle.model_core.specs.Components.{heading}
 use Rattle.model_core.specs.Each.{for_each}
 use Rattle.model_core.specs.declared.fault.Fault.{Fault}

@@ -28,6 +28,15 @@ use std::collections::BTreeMap;
 use std::sync::Arc;
 use std::sync::ledger::Ledger;
 
+/// The texts of a project, and the components that they were read as.
+#[derive(Clone, Copy)]
+struct Sources<'a> {
+    texts: &'a BTreeMap<Name, Text>,
+    components: &'a Components,
+    /// The place of each component, by its name.
+    index: &'a BTreeMap<Name, usize>,
+}
+
 /// Outcomes that are concluded one after another.
 #[derive(Drop)]
 pub struct Progress {
@@ -250,28 +259,26 @@ fn add_cyclic(
 fn conclude_sorted<L: Ledger>(
     alloc: Global,
     before: &Before<'_>,
-    texts: &BTreeMap<Name, Text>,
-    components: &Components,
-    index: &BTreeMap<Name, usize>,
+    sources: &Sources<'_>,
     sorted: &[Name],
     progress: &mut Progress,
     steps: &mut Steps<L>,
 ) -> Result<(), OutOfMemory>
     requires before { IsJudged before.now.texts.now.entries before.now.outcomes.now }
-    requires begun { IsBegun texts.now.entries components.now progress.old.outcomes }
+    requires begun { IsBegun sources.now.texts.now.entries sources.now.components.now progress.old.outcomes }
     requires steady { AreSteady before.now.outcomes.now progress.old.outcomes progress.old.kept.entries }
-    requires index { IsIndex components.now index.now.entries }
-    requires names { HaveNames components.now sorted.now }
-    requires order { ReferencesFirst components.now [] sorted.now }
+    requires index { IsIndex sources.now.components.now sources.now.index.now.entries }
+    requires names { HaveNames sources.now.components.now sorted.now }
+    requires order { ReferencesFirst sources.now.components.now [] sorted.now }
     requires once { IsDistinct bytes_eq sorted.now }
     ensures outcomes { OnOk result
-        (AreSet ConcludesIn components.now sorted.now progress.old.outcomes progress.new.outcomes) }
+        (AreSet ConcludesIn sources.now.components.now sorted.now progress.old.outcomes progress.new.outcomes) }
     ensures steady { OnOk result (AreSteady before.now.outcomes.now progress.new.outcomes progress.new.kept.entries) }
-    ensures steps { HasFewSteps before.now.texts.now.entries texts.now.entries steps.old steps.new }
+    ensures steps { HasFewSteps before.now.texts.now.entries sources.now.texts.now.entries steps.old steps.new }
 {
     for name in sorted {
-        let raw = component_of(components, index, name);
-        add_concluded(alloc, before, texts, raw, progress, steps)?;
+        let raw = component_of(sources.components, sources.index, name);
+        add_concluded(alloc, before, sources.texts, raw, progress, steps)?;
     }
     Ok(())
 }
@@ -280,20 +287,19 @@ fn conclude_sorted<L: Ledger>(
 fn tell_cyclic(
     alloc: Global,
     before: &Before<'_>,
-    components: &Components,
-    index: &BTreeMap<Name, usize>,
+    sources: &Sources<'_>,
     cyclic: &[Name],
     progress: &mut Progress,
 ) -> Result<(), OutOfMemory>
     requires steady { AreSteady before.now.outcomes.now progress.old.outcomes progress.old.kept.entries }
-    requires index { IsIndex components.now index.now.entries }
-    requires names { HaveNames components.now cyclic.now }
+    requires index { IsIndex sources.now.components.now sources.now.index.now.entries }
+    requires names { HaveNames sources.now.components.now cyclic.now }
     ensures outcomes { OnOk result
-        (AreSet IsToldCyclic components.now cyclic.now progress.old.outcomes progress.new.outcomes) }
+        (AreSet IsToldCyclic sources.now.components.now cyclic.now progress.old.outcomes progress.new.outcomes) }
     ensures steady { OnOk result (AreSteady before.now.outcomes.now progress.new.outcomes progress.new.kept.entries) }
 {
     for name in cyclic {
-        let raw = component_of(components, index, name);
+        let raw = component_of(sources.components, sources.index, name);
         add_cyclic(alloc, before, raw, progress)?;
     }
     Ok(())
@@ -303,33 +309,23 @@ fn tell_cyclic(
 fn conclude_all<L: Ledger>(
     alloc: Global,
     before: &Before<'_>,
-    texts: &BTreeMap<Name, Text>,
-    components: &Components,
-    index: &BTreeMap<Name, usize>,
+    sources: &Sources<'_>,
     progress: &mut Progress,
     steps: &mut Steps<L>,
 ) -> Result<(), OutOfMemory>
     requires before { IsJudged before.now.texts.now.entries before.now.outcomes.now }
-    requires begun { IsBegun texts.now.entries components.now progress.old.outcomes }
+    requires begun { IsBegun sources.now.texts.now.entries sources.now.components.now progress.old.outcomes }
     requires steady { AreSteady before.now.outcomes.now progress.old.outcomes progress.old.kept.entries }
-    requires index { IsIndex components.now index.now.entries }
-    ensures outcomes { OnOk result (AreConcluded components.now progress.old.outcomes progress.new.outcomes) }
+    requires index { IsIndex sources.now.components.now sources.now.index.now.entries }
+    ensures outcomes { OnOk result
+        (AreConcluded sources.now.components.now progress.old.outcomes progress.new.outcomes) }
     ensures steady { OnOk result (AreSteady before.now.outcomes.now progress.new.outcomes progress.new.kept.entries) }
-    ensures steps { HasFewSteps before.now.texts.now.entries texts.now.entries steps.old steps.new }
+    ensures steps { HasFewSteps before.now.texts.now.entries sources.now.texts.now.entries steps.old steps.new }
 {
-    let order = components.order(alloc)?;
+    let order = sources.components.order(alloc)?;
     let sorted = order.sorted.items();
-    conclude_sorted(
-        alloc, before, texts, components, index, sorted, progress, steps,
-    )?;
-    tell_cyclic(
-        alloc,
-        before,
-        components,
-        index,
-        order.cyclic.items(),
-        progress,
-    )?;
+    conclude_sorted(alloc, before, sources, sorted, progress, steps)?;
+    tell_cyclic(alloc, before, sources, order.cyclic.items(), progress)?;
     Ok(())
 }
 
@@ -368,15 +364,12 @@ pub fn judge<L: Ledger>(
         outcomes,
         kept: BTreeMap::new(alloc),
     };
-    conclude_all(
-        alloc,
-        before,
+    let sources = Sources {
         texts,
-        &components,
-        &index,
-        &mut progress,
-        steps,
-    )?;
+        components: &components,
+        index: &index,
+    };
+    conclude_all(alloc, before, &sources, &mut progress, steps)?;
     Ok(Judged {
         components,
         index,

@@ -1,7 +1,7 @@
 //! Sequents, as they are printed.
 
 use formula_core::{Formula, Ty};
-use math_print::text;
+use formula_print::text;
 use sequent_core::Sequent;
 use std::alloc::{AllocError, Global};
 

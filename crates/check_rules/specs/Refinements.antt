@@ -11,8 +11,8 @@ use Rattle.formula_core.specs.declared.ty.Ty.{Ty}
 use Rattle.formula_core.specs.Formulas.{joined}
 use Rattle.formula_core.specs.Types.{same_type, is_integer, members}
 use Rattle.formula_core.specs.Wellness.{type_of}
-use Rattle.type_core.specs.CoreForms.{core_form}
-use Rattle.type_core.specs.Unknowns.{unknowns}
+use Rattle.type_formula.specs.CoreForms.{core_form}
+use Rattle.type_formula.specs.Unknowns.{unknowns}
 use Rattle.type_action.specs.CoreActions.{primed, core_action, unknowns_of}
 use Rattle.model_core.specs.declared.fault.Fault.{Fault}
 use Rattle.model_core.specs.declared.fault.FaultKind.TheVariants as kind

@@ -10,9 +10,9 @@ use Rattle.formula_core.specs.declared.raw.RawAction.TheVariants as raw
 use Rattle.formula_core.specs.declared.raw.Action.{Action}
 use Rattle.formula_core.specs.declared.formula.Formula.{Formula}
 use Rattle.formula_core.specs.Env.{type_in}
-use Rattle.type_core.specs.Answers.{IsTheTyping, HasNoTyping, HasTwoTypings, IsTheFormula, HasNoFormula, HasTwoFormulas}
-use Rattle.type_core.specs.CoreForms.{core_form}
-use Rattle.type_core.specs.Unknowns.{unknown_in}
+use Rattle.type_formula.specs.Answers.{IsTheTyping, HasNoTyping, HasTwoTypings, IsTheFormula, HasNoFormula, HasTwoFormulas}
+use Rattle.type_formula.specs.CoreForms.{core_form}
+use Rattle.type_formula.specs.Unknowns.{unknown_in}
 use Rattle.type_action.specs.Answers.{IsActionTyping}
 use Rattle.type_action.specs.CoreActions.{unknown_in_action}
 use Rattle.type_action.specs.Results.{IsOnly, HasNone, HasTwo}
@@ -39,12 +39,17 @@ first_token_of_action (raw.Apply target x e) = target.place
 first_token_of_action (raw.ChooseIn target set) = target.place
 first_token_of_action (raw.ChooseSuch targets p) = place_of_first targets
 
--- `NAME is unknown`, or else `types clash` or `no single type`
-abbrev pub IsMistyped : List ℕ → Option (List ℕ × ℕ) → Type 0 → Type 0 → ℕ → Fault → Type 0
-IsMistyped component unknown Clashes IsOpen first fault =
-    ((name : List ℕ) × (place : ℕ) × (unknown ≡ Some (name, place)) × (fault ≡ fault_at component kind.Unknown place name))
-    ⊎ ((unknown ≡ None) × Clashes × (fault ≡ fault_at component kind.TypesClash first []))
-    ⊎ ((unknown ≡ None) × IsOpen × (fault ≡ fault_at component kind.NoSingleType first []))
+-- The fault of a formula or an action that isn't typed.
+pub data IsMistyped (component : List ℕ) (unknown : Option (List ℕ × ℕ)) (Clashes IsOpen : Type 0) (first : ℕ) (fault : Fault) : Type 0 where
+  -- `NAME is unknown`, at that name
+  unknown_name : (name : List ℕ) (place : ℕ) → unknown ≡ Some (name, place) →
+      fault ≡ fault_at component kind.Unknown place name → IsMistyped component unknown Clashes IsOpen first fault
+  -- `types clash`, at the first token: each name is known, and there is no typing
+  types_clash : unknown ≡ None → Clashes →
+      fault ≡ fault_at component kind.TypesClash first [] → IsMistyped component unknown Clashes IsOpen first fault
+  -- `no single type`, at the first token: each name is known, and there is more than one typing
+  no_single_type : unknown ≡ None → IsOpen →
+      fault ≡ fault_at component kind.NoSingleType first [] → IsMistyped component unknown Clashes IsOpen first fault
 
 abbrev pub IsMistypedPredicate : List ℕ → Entries → List (List ℕ) → RawLabelled → Fault → Type 0
 IsMistypedPredicate component env wanted l fault =

@@ -13,8 +13,8 @@ use Rattle.formula_core.specs.Names.{is_identifier, is_word, is_in_word, starts_
 use Rattle.formula_core.specs.Typed.{Stands, HasCarriers, IsTypedIn}
 use Rattle.formula_core.specs.Wellness.{type_of}
 use Rattle.formula_core.proofs.TypedIn.{typed_more, predicate_more}
-use Rattle.type_core.specs.Answers.{with_typed_name}
-use Rattle.type_core.proofs.Named.{all_each, later, found_has}
+use Rattle.type_formula.specs.Answers.{with_typed_name}
+use Rattle.type_formula.proofs.Named.{all_each, later, found_has}
 use Rattle.type_action.specs.Answers.{IsActionTyping}
 use Rattle.type_action.specs.CoreActions.{primed, with_all, target_type, with_target, typed_targets, unknown_targets}
 use Rattle.model_core.specs.declared.fault.Fault.{Fault}

@@ -13,7 +13,7 @@ use Rattle.formula_core.specs.Names.{is_identifier}
 use Rattle.formula_core.specs.Typed.{Stands, HasCarriers, IsPredicateIn}
 use Rattle.formula_core.specs.Types.{is_value_type}
 use Rattle.formula_core.proofs.WholeSets.{value-Given, value-Pow}
-use Rattle.type_core.proofs.Named.{all_append, all_front, all_each, sooner, found_has}
+use Rattle.type_formula.proofs.Named.{all_append, all_front, all_each, sooner, found_has}
 use Rattle.model_core.specs.declared.fault.Fault.{Fault}
 use Rattle.model_core.specs.declared.component.RawLabelled.{RawLabelled}
 use Rattle.model_core.specs.declared.checked.Checked.{Checked}

@@ -7,7 +7,7 @@ use Rattle.formula_core.specs.declared.ty.Ty.{Ty}
 use Rattle.formula_core.specs.Env.{HasDistinctNames, type_in}
 use Rattle.formula_core.specs.Laws.{IsWithin}
 use Rattle.formula_core.specs.Typed.{Stands}
-use Rattle.type_core.proofs.Named.{all_append, all_back, all_each, sooner}
+use Rattle.type_formula.proofs.Named.{all_append, all_back, all_each, sooner}
 use Rattle.model_core.specs.declared.fault.Fault.{Fault}
 use Rattle.model_core.specs.declared.fault.FaultKind.TheVariants as kind
 use Rattle.model_core.specs.Faults.{fault_at}

@@ -12,7 +12,7 @@ use Rattle.formula_core.specs.Laws.{IsWithin}
 use Rattle.formula_core.specs.Names.{is_identifier, is_name, with_prime}
 use Rattle.formula_core.specs.Typed.{Stands, HasCarriers, IsPredicateIn, IsGoodEnv}
 use Rattle.formula_core.specs.Types.{is_value_type}
-use Rattle.type_core.proofs.Named.{all_append, all_front, all_back, all_each, sooner, found_has}
+use Rattle.type_formula.proofs.Named.{all_append, all_front, all_back, all_each, sooner, found_has}
 use Rattle.type_action.specs.CoreActions.{with_all, primed}
 use Rattle.model_core.specs.declared.fault.Fault.{Fault}
 use Rattle.model_core.specs.declared.component.RawEvent.{RawEvent}

@@ -8,7 +8,7 @@ use Rattle.formula_core.specs.declared.raw.Ref.{Ref}
 use Rattle.formula_core.specs.Formulas.{joined}
 use Rattle.formula_core.specs.Names.{prime, is_identifier, is_name}
 use Rattle.formula_core.proofs.Texts.{primed_is_name}
-use Rattle.type_core.proofs.Named.{all_append, all_front, all_back, all_each}
+use Rattle.type_formula.proofs.Named.{all_append, all_front, all_back, all_each}
 use Rattle.type_action.specs.CoreActions.{primed}
 use Rattle.model_core.specs.declared.component.RawEvent.{RawEvent}
 use Rattle.model_core.specs.declared.component.RawLabelled.{RawLabelled}

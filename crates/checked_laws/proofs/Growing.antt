@@ -5,8 +5,8 @@ use Rattle.formula_core.specs.declared.ty.Ty.{Ty}
 use Rattle.formula_core.specs.Env.{type_in}
 use Rattle.formula_core.specs.Laws.{IsWithin}
 use Rattle.formula_core.specs.Typed.{Stands}
-use Rattle.type_core.specs.Answers.{with_typed_name}
-use Rattle.type_core.proofs.Named.{all_append, within_name, found_has}
+use Rattle.type_formula.specs.Answers.{with_typed_name}
+use Rattle.type_formula.proofs.Named.{all_append, within_name, found_has}
 use Rattle.type_action.specs.CoreActions.{with_all}
 use Rattle.check_rules.specs.Typed.{Entries}
 use Rattle.checked_laws.proofs.Names.{found_in}

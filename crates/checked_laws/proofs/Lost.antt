@@ -9,7 +9,7 @@ use Rattle.formula_core.specs.declared.ty.Ty.{Ty}
 use Rattle.formula_core.specs.Env.{HasDistinctNames, type_in}
 use Rattle.formula_core.specs.Formulas.{joined}
 use Rattle.formula_core.specs.Same.{same_actions}
-use Rattle.type_core.proofs.Named.{all_append, all_each, sooner, later, all_front}
+use Rattle.type_formula.proofs.Named.{all_append, all_each, sooner, later, all_front}
 use Rattle.model_core.specs.declared.component.RawEvent.{RawEvent}
 use Rattle.model_core.specs.declared.checked.CheckedEvent.{CheckedEvent}
 use Rattle.model_core.specs.Each.{at_each, for_each, is_among}

@@ -16,9 +16,9 @@ use Rattle.formula_core.specs.Typed.{Stands, HasCarriers, IsPredicateIn, IsGoodE
 use Rattle.formula_core.specs.Types.{is_value_type, is_integer, members}
 use Rattle.formula_core.specs.Wellness.{type_of}
 use Rattle.formula_core.proofs.TypedIn.{typed_more}
-use Rattle.type_core.specs.CoreForms.{core_form}
-use Rattle.type_core.proofs.Named.{all_append, all_front, all_back, all_each, sooner, found_has}
-use Rattle.type_core.proofs.Standing.{formulas_stand}
+use Rattle.type_formula.specs.CoreForms.{core_form}
+use Rattle.type_formula.proofs.Named.{all_append, all_front, all_back, all_each, sooner, found_has}
+use Rattle.type_formula.proofs.Standing.{formulas_stand}
 use Rattle.model_core.specs.declared.component.RawVariant.{RawVariant}
 use Rattle.model_core.specs.declared.checked.Checked.TheVariants.{Machine}
 use Rattle.model_core.specs.declared.checked.CheckedEvent.{CheckedEvent}

@@ -10,7 +10,7 @@ use Rattle.formula_core.specs.Laws.{IsWithin}
 use Rattle.formula_core.specs.Typed.{Stands}
 use Rattle.model_core.specs.Each.{is_among}
 use Rattle.check_rules.specs.Typed.{Entries}
-use Rattle.type_core.proofs.Named.{all_append, all_front, all_back, all_each, sooner, later, found_has}
+use Rattle.type_formula.proofs.Named.{all_append, all_front, all_back, all_each, sooner, later, found_has}
 
 abbrev pub AllStand : Entries → Entries → Type 0
 AllStand env xs = AllByRecursion (Stands env) xs

@@ -7,7 +7,7 @@ use Rattle.formula_core.specs.Env.{HasDistinctNames}
 use Rattle.formula_core.specs.Formulas.{joined}
 use Rattle.formula_core.specs.Laws.{IsWithin}
 use Rattle.formula_core.specs.Types.{is_value_type}
-use Rattle.type_core.proofs.Named.{all_append, all_back, all_each}
+use Rattle.type_formula.proofs.Named.{all_append, all_back, all_each}
 use Rattle.model_core.specs.declared.component.RawEvent.{RawEvent}
 use Rattle.model_core.specs.declared.checked.CheckedEvent.{CheckedEvent}
 use Rattle.model_core.specs.Each.{at_each, is_among}

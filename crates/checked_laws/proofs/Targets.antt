@@ -12,10 +12,10 @@ use Rattle.formula_core.specs.declared.ty.Ty.{Ty}
 use Rattle.formula_core.specs.Env.{type_in}
 use Rattle.formula_core.specs.Formulas.{joined}
 use Rattle.formula_core.specs.Names.{is_identifier}
-use Rattle.type_core.specs.Bare.{Bare}
-use Rattle.type_core.specs.CoreForms.{core_form}
-use Rattle.type_core.specs.Unknowns.{unknowns}
-use Rattle.type_core.proofs.Named.{all_append, all_front, all_each}
+use Rattle.type_formula.specs.Bare.{Bare}
+use Rattle.type_formula.specs.CoreForms.{core_form}
+use Rattle.type_formula.specs.Unknowns.{unknowns}
+use Rattle.type_formula.proofs.Named.{all_append, all_front, all_each}
 use Rattle.type_action.specs.Answers.{IsActionTyping}
 use Rattle.type_action.specs.CoreActions.{core_action, overridden, target_type, with_target, typed_targets, unknown_targets, unknowns_of, env_after}
 use Rattle.type_action.specs.Typings.{AreTypedAssignments}

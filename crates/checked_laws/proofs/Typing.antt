@@ -16,13 +16,13 @@ use Rattle.formula_core.proofs.Equations.{carriers-Given, carriers-Pow, carriers
 use Rattle.formula_core.proofs.Keeping.{carriers-Int, carriers-Bool, carriers-Truth}
 use Rattle.formula_core.proofs.TypedIn.{predicate_more}
 use Rattle.formula_core.proofs.Types.{type_induction}
-use Rattle.type_core.specs.Answers.{with_typed_name, with_names_typed, IsTheTyping}
-use Rattle.type_core.specs.CoreForms.{core_form}
-use Rattle.type_core.specs.Laws.{HasValues, IsStanding}
-use Rattle.type_core.proofs.Named.{all_append, all_front, all_back, all_each, sooner, later, within_extended, extended_has, found_has}
-use Rattle.type_core.proofs.Retyped.{retyped, typing_retyped, occurrences_over}
-use Rattle.type_core.proofs.Settled.{IsOver, over-Truth}
-use Rattle.type_core.proofs.Standing.{predicates_stand}
+use Rattle.type_formula.specs.Answers.{with_typed_name, with_names_typed, IsTheTyping}
+use Rattle.type_formula.specs.CoreForms.{core_form}
+use Rattle.type_formula.specs.Laws.{HasValues, IsStanding}
+use Rattle.type_formula.proofs.Named.{all_append, all_front, all_back, all_each, sooner, later, within_extended, extended_has, found_has}
+use Rattle.type_formula.proofs.Retyped.{retyped, typing_retyped, occurrences_over}
+use Rattle.type_formula.proofs.Settled.{IsOver, over-Truth}
+use Rattle.type_formula.proofs.Standing.{predicates_stand}
 use Rattle.model_core.specs.declared.fault.Fault.{Fault}
 use Rattle.model_core.specs.declared.component.RawLabelled.{RawLabelled}
 use Rattle.model_core.specs.declared.checked.Labelled.{Labelled}

@@ -14,7 +14,7 @@ use Rattle.model_core.specs.declared.checked.CheckedContext.{CheckedContext}
 use Rattle.model_core.specs.Each.{is_among}
 use Rattle.check_rules.specs.Typed.{Entries}
 use Rattle.check_rules.specs.Visible.{WithOrigin, Identifiers, Visible, all_visible, entries, origins, of_context, with_context, clashing}
-use Rattle.type_core.proofs.Named.{all_append, all_front, all_back, all_each}
+use Rattle.type_formula.proofs.Named.{all_append, all_front, all_back, all_each}
 use Rattle.checked_laws.specs.Projects.{ProjectNames, AreConstantsOf, AreVariablesOf}
 use Rattle.checked_laws.specs.Sound.{HasIdentifiers, HasCarriersAmong, IsSoundContext}
 use Rattle.checked_laws.proofs.Names.{AllStand, AreNew, here_or, apart, missed, or_left, or_right, or_cases, same_name, neither_first, neither_second, distinct_front, distinct_between, stand_there, stand_sooner, within_all}

@@ -9,7 +9,7 @@ use Rattle.formula_core.specs.Laws.{IsWithin}
 use Rattle.formula_core.specs.Names.{is_identifier, prime, with_prime}
 use Rattle.formula_core.specs.Typed.{Stands, HasCarriers, IsGoodEnv}
 use Rattle.formula_core.specs.Types.{is_value_type}
-use Rattle.type_core.proofs.Named.{all_append, all_front, all_each, sooner, found_has}
+use Rattle.type_formula.proofs.Named.{all_append, all_front, all_each, sooner, found_has}
 use Rattle.type_action.specs.CoreActions.{primed, with_all}
 use Rattle.model_core.specs.declared.component.RawLabelled.{RawLabelled}
 use Rattle.model_core.specs.declared.checked.Labelled.{Labelled}

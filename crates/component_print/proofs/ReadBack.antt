@@ -9,7 +9,7 @@ use Rattle.math_grammar.specs.declared.holes.Hole.{Hole}
 use Rattle.math_grammar.specs.Tokens.{Item}
 use Rattle.math_grammar.specs.Grammar.{item, Spells}
 use Rattle.math_grammar.specs.Actions.{SpellsAction}
-use Rattle.math_parse.specs.Limits.{most_parts}
+use Rattle.formula_parse.specs.Limits.{most_parts}
 use Rattle.math_places.specs.Places.{unplaced_item, AlikeTokens, unplaced, unplaced_action}
 use Rattle.math_places.proofs.Spelled.{spelled_again as spelled_elsewhere}
 use Rattle.math_places.proofs.Actions.{action_spelled_again}

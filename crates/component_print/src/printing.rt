@@ -8,8 +8,8 @@ use crate::machine::{print_events, print_variant};
 use crate::sections::{print_names, print_section};
 use component_tokens::pieces_one_way;
 use formula_core::{OutOfMemory, Ref};
+use formula_parse::one_formula;
 use math_action::one_action;
-use math_parse::one_formula;
 use model_core::{RawComponent, RawEvent, RawLabelled, RawVariant};
 use std::alloc::Global;
 

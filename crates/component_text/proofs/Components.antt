@@ -15,7 +15,7 @@ use Rattle.math_grammar.specs.declared.holes.Hole.TheVariants as hole
 use Rattle.math_grammar.specs.declared.symbols.Symbol.TheVariants as sym_
 use Rattle.math_grammar.specs.Tokens.{Item}
 use Rattle.math_grammar.specs.Grammar.{item, Spells, a_truth}
-use Rattle.math_parse.specs.Limits.{most_parts, first_large}
+use Rattle.formula_parse.specs.Limits.{most_parts, first_large}
 use Rattle.model_core.specs.declared.component.RawLabelled.{RawLabelled}
 use Rattle.model_core.specs.declared.component.RawComponent.{RawComponent}
 use Rattle.component_text.specs.declared.stop.Stop.{Stop}

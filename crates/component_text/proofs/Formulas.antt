@@ -4,9 +4,9 @@ use Rattle.std.specs.Prelude.{Option}
 use Rattle.std.proofs.lemmas.List.{take-append-drop}
 use Rattle.formula_core.specs.Texts.{is_label}
 use Rattle.math_grammar.specs.Tokens.{Item}
-use Rattle.math_parse.specs.Faults.{BeginsOne}
-use Rattle.math_parse.specs.Limits.{first_large, IsTooLargeIn}
-use Rattle.math_parse.specs.declared.fault.ParseFault.TheVariants as fault
+use Rattle.formula_parse.specs.Faults.{BeginsOne}
+use Rattle.formula_parse.specs.Limits.{first_large, IsTooLargeIn}
+use Rattle.formula_parse.specs.declared.fault.ParseFault.TheVariants as fault
 use Rattle.component_text.specs.Marks.{Mark, word, label, plain, token_run, behind_run, is_at}
 use Rattle.component_text.specs.Forms.{Bounds, limits, parts, none, One, Run, Then}
 use Rattle.component_text.specs.Grammar.{label_at}

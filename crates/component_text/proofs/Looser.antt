@@ -7,9 +7,9 @@ use Rattle.math_grammar.specs.declared.holes.Hole.{Hole}
 use Rattle.math_grammar.specs.Tokens.{Item}
 use Rattle.math_grammar.specs.Grammar.{Spells}
 use Rattle.math_grammar.specs.Actions.{SpellsAction}
-use Rattle.math_parse.specs.Limits.{most_parts}
-use Rattle.math_parse.proofs.Readers.{looser}
-use Rattle.math_parse.proofs.Place.{reads_formulas}
+use Rattle.formula_parse.specs.Limits.{most_parts}
+use Rattle.formula_parse.proofs.Readers.{looser}
+use Rattle.formula_parse.proofs.Place.{reads_formulas}
 use Rattle.math_action.proofs.Place.{reads_actions}
 use Rattle.component_text.specs.Forms.{Bounds, limits, parts, none}
 use Rattle.component_text.specs.Grammar.{Within}

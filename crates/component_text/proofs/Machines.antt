@@ -11,7 +11,7 @@ use Rattle.math_grammar.specs.declared.holes.Grade.TheVariants as grade
 use Rattle.math_grammar.specs.declared.symbols.Symbol.TheVariants as sign
 use Rattle.math_grammar.specs.Grammar.{item, a_name}
 use Rattle.math_grammar.specs.Actions.{SpellsAction, chooses_in}
-use Rattle.math_parse.specs.Faults.{BeginsOne}
+use Rattle.formula_parse.specs.Faults.{BeginsOne}
 use Rattle.math_grammar.specs.Tokens.{Item}
 use Rattle.model_core.specs.declared.component.Convergence.{Convergence}
 use Rattle.model_core.specs.declared.component.Convergence.TheVariants.{Ordinary, Convergent, Anticipated}

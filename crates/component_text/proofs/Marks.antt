@@ -5,10 +5,10 @@ use Rattle.std.specs.Prelude.{Some, slice_get, Err}
 use Rattle.std.proofs.lemmas.List.{take_rest}
 use Rattle.formula_core.specs.declared.raw.Raw.{Raw}
 use Rattle.math_grammar.specs.declared.holes.Hole.{Hole}
-use Rattle.math_parse.specs.declared.fault.ParseFault.{ParseFault}
-use Rattle.math_parse.specs.declared.fault.ParseFault.TheVariants as fault
-use Rattle.math_parse.specs.Faults.{BeginsOne}
-use Rattle.math_parse.specs.Limits.{IsFaultOf, IsFault, IsSentence}
+use Rattle.formula_parse.specs.declared.fault.ParseFault.{ParseFault}
+use Rattle.formula_parse.specs.declared.fault.ParseFault.TheVariants as fault
+use Rattle.formula_parse.specs.Faults.{BeginsOne}
+use Rattle.formula_parse.specs.Limits.{IsFaultOf, IsFault, IsSentence}
 use Rattle.component_text.specs.declared.stop.Stop.TheVariants as stop
 use Rattle.formula_core.specs.declared.raw.RawAction.{RawAction}
 use Rattle.math_action.specs.Limits.{IsAction, IsActionFault}

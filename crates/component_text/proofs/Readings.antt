@@ -4,8 +4,8 @@ use Rattle.std.specs.Prelude.{Option}
 use Rattle.component_tokens.specs.declared.piece.CutFault.{CutFault}
 use Rattle.component_tokens.specs.declared.piece.CutFault.TheVariants as wrong
 use Rattle.component_tokens.proofs.OneWay.{one_cut}
-use Rattle.math_parse.proofs.Readers.{one_value}
-use Rattle.math_parse.proofs.Place.{one_tree}
+use Rattle.formula_parse.proofs.Readers.{one_value}
+use Rattle.formula_parse.proofs.Place.{one_tree}
 use Rattle.math_action.proofs.Place.{reads_actions}
 use Rattle.model_core.specs.declared.component.RawComponent.{RawComponent}
 use Rattle.model_core.specs.declared.fault.Fault.{Fault}

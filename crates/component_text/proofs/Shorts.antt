@@ -2,7 +2,7 @@
 use Rattle.std.proofs.Common.{◌≡◌, ◌∙◌, ap, ℕ, zero, suc, ◌+◌, List, [], ◌∷◌, ◌++◌, Bool, true, false, Some, None, cond, length, take, map, refl, sym, subst, arith, append_assoc, append-nil}
 use Rattle.std.proofs.lemmas.List.{append_cancel_right}
 use Rattle.math_grammar.specs.Tokens.{Item}
-use Rattle.math_parse.specs.Limits.{passes, open_after, first_large_from, first_large}
+use Rattle.formula_parse.specs.Limits.{passes, open_after, first_large_from, first_large}
 use Rattle.component_text.specs.Marks.{Mark, word, label, plain, token_run}
 use Rattle.component_text.specs.Forms.{Bounds, limits, Run}
 use Rattle.component_text.specs.Grammar.{is_a_label}

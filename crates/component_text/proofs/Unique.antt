@@ -6,7 +6,7 @@ use Rattle.math_grammar.specs.declared.holes.Hole.{Hole}
 use Rattle.math_grammar.specs.declared.holes.Hole.TheVariants as hole
 use Rattle.math_grammar.specs.Tokens.{Item}
 use Rattle.math_grammar.specs.Grammar.{Spells}
-use Rattle.math_parse.specs.Limits.{most_parts}
+use Rattle.formula_parse.specs.Limits.{most_parts}
 use Rattle.model_core.specs.declared.component.RawComponent.{RawComponent}
 use Rattle.component_text.specs.Marks.{Mark, word, is_word_mark, is_at}
 use Rattle.component_text.specs.Forms.{Bounds, limits, parts, none, One, Run, Nothing, Then, Choice, taken, other, Many, no_more, one_more, Of}

@@ -1,8 +1,8 @@
 -- The first place at which a text can't go on.
 use Rattle.std.specs.Prelude.{◌≡◌, Bool, true, false, List, [], ◌∷◌, ◌++◌, Some, length, map, bytes_eq, codes}
 use Rattle.math_grammar.specs.Tokens.{Item}
-use Rattle.math_parse.specs.Faults.{BeginsOne}
-use Rattle.math_parse.specs.Limits.{first_large}
+use Rattle.formula_parse.specs.Faults.{BeginsOne}
+use Rattle.formula_parse.specs.Limits.{first_large}
 use Rattle.component_text.specs.Marks.{Mark, word, label, plain}
 use Rattle.component_text.specs.Forms.{Bounds, parts, none}
 

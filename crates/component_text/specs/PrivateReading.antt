@@ -2,9 +2,9 @@
 use Rattle.std.specs.Prelude.{◌≡◌, ℕ, Bool, true, false, List, [], ◌∷◌, ◌++◌, drop, map, Option, Some, None, Result, Ok, Err, codes, ◌⊎◌}
 use Rattle.formula_core.specs.declared.raw.Ref.{Ref}
 use Rattle.math_grammar.specs.Tokens.{Item}
-use Rattle.math_parse.specs.Limits.{first_large, IsFaultOf}
-use Rattle.math_parse.specs.declared.fault.ParseFault.{ParseFault}
-use Rattle.math_parse.specs.declared.fault.ParseFault.TheVariants as fault
+use Rattle.formula_parse.specs.Limits.{first_large, IsFaultOf}
+use Rattle.formula_parse.specs.declared.fault.ParseFault.{ParseFault}
+use Rattle.formula_parse.specs.declared.fault.ParseFault.TheVariants as fault
 use Rattle.component_text.specs.declared.stop.Stop.{Stop}
 use Rattle.component_text.specs.declared.stop.Stop.TheVariants as stop
 use Rattle.component_text.specs.Marks.{Mark, word, label, plain, token_run, behind_run, is_word_mark, is_at}

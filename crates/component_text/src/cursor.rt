@@ -15,14 +15,14 @@ ghost use Rattle.component_tokens.specs.Pieces.{at_sign};
 use crate::stop::Stop;
 use crate::words::is_structural;
 use formula_core::{Label, Name, NameFault, OutOfMemory, Raw, RawAction, Ref};
+use formula_parse::{ParseFault, expression, predicate};
 use math_action::action;
-use math_parse::{ParseFault, expression, predicate};
 use math_tokens::Token;
 use std::alloc::Global;
 use std::marker::Model;
 
 /// The bytes of a token.
-#[tactic(auto, using(math_parse::proofs::Slices::part_within))]
+#[tactic(auto, using(formula_parse::proofs::Slices::part_within))]
 fn bytes_of<'a>(text: &'a str, token: &Token) -> &'a [u8]
     ensures { result.now ≡ bytes_of text.now token.now }
 {

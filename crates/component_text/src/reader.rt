@@ -8,8 +8,8 @@ ghost use Rattle.component_text.specs.Spelled.{SpellsComponent, FindsComponent, 
 use crate::pieces::{ReadFault, read_pieces};
 use component_tokens::{cut, pieces_one_way};
 use formula_core::Name;
+use formula_parse::one_formula;
 use math_action::one_action;
-use math_parse::one_formula;
 use model_core::RawComponent;
 use std::alloc::Global;
 

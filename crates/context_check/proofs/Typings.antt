@@ -9,8 +9,8 @@ use Rattle.formula_core.specs.declared.raw.Ref.{Ref}
 use Rattle.formula_core.specs.declared.raw.Action.{Action}
 use Rattle.formula_core.specs.declared.formula.Formula.{Formula}
 use Rattle.formula_core.specs.Env.{type_in}
-use Rattle.type_core.specs.declared.predicate.TypeFault.{TypeFault}
-use Rattle.type_core.specs.declared.predicate.TypeFault.TheVariants as why
+use Rattle.type_formula.specs.declared.predicate.TypeFault.{TypeFault}
+use Rattle.type_formula.specs.declared.predicate.TypeFault.TheVariants as why
 use Rattle.type_action.specs.Answers.{IsActionTyping}
 use Rattle.type_action.specs.CoreActions.{unknown_in_action}
 use Rattle.type_action.specs.Results.{IsOnly}
@@ -22,7 +22,7 @@ use Rattle.model_core.specs.declared.checked.Labelled.{Labelled}
 use Rattle.model_core.specs.Faults.{earlier, first_by_place}
 use Rattle.model_core.proofs.Firsts.{taken_more, first_append}
 use Rattle.check_rules.specs.Contexts.{names_of}
-use Rattle.check_rules.specs.Typed.{Entries, LabelledAction, HasTyping, IsMistyped, IsMistypedPredicate, IsMistypedAction, IsMistypedVariant, IsTypedVariant, AreTyped, AreTypedActions, labelled_of, in_order}
+use Rattle.check_rules.specs.Typed.{Entries, LabelledAction, HasTyping, IsMistyped, unknown_name, types_clash, no_single_type, IsMistypedPredicate, IsMistypedAction, IsMistypedVariant, IsTypedVariant, AreTyped, AreTypedActions, labelled_of, in_order}
 use Rattle.context_check.specs.Typings.{AreTypedSoFar, AreTypedStepsSoFar}
 use Rattle.context_check.specs.Private.{IsToldBy, IsTypedFormula, IsTypedStep, IsCollected}
 
@@ -30,9 +30,9 @@ pub mistyped : (component : List ℕ) (first : ℕ) (unknown : Option (List ℕ 
     ((name : List ℕ) (place : ℕ) → w ≡ why.Unknown name place → unknown ≡ Some (name, place)) →
     (w ≡ why.Clash → (unknown ≡ None) × Clashes) → (w ≡ why.Untyped → (unknown ≡ None) × IsOpen) → IsToldBy component first w fault →
     IsMistyped component unknown Clashes IsOpen first fault
-mistyped component first unknown Clashes IsOpen (why.Unknown name place) fault u c o told = inl (name, place, u name place refl, told)
-mistyped component first unknown Clashes IsOpen why.Clash fault u c o told = inr (inl ((c refl).0, (c refl).1, told))
-mistyped component first unknown Clashes IsOpen why.Untyped fault u c o told = inr (inr ((o refl).0, (o refl).1, told))
+mistyped component first unknown Clashes IsOpen (why.Unknown name place) fault u c o told = unknown_name name place (u name place refl) told
+mistyped component first unknown Clashes IsOpen why.Clash fault u c o told = types_clash (c refl).0 (c refl).1 told
+mistyped component first unknown Clashes IsOpen why.Untyped fault u c o told = no_single_type (o refl).0 (o refl).1 told
 mistyped component first unknown Clashes IsOpen why.OutOfMemory fault u c o told = absurd told
 
 pub variant_told : (component : List ℕ) (env : Entries) (variant : Option (Bor RawVariant)) (written : Bor RawVariant) (fault : Fault) → variant ≡ Some written →

@@ -15,7 +15,7 @@ use formula_core::{Action, Env, Formula, Label, Name, OutOfMemory, RawAction, Re
 use model_core::{Fault, FaultKind, Labelled, RawLabelled, RawStep, RawVariant, earlier, fault_at};
 use std::alloc::Global;
 use type_action::type_action;
-use type_core::{TypeFault, type_expression, type_predicate};
+use type_formula::{TypeFault, type_expression, type_predicate};
 
 /// The formulas or actions that have a typing, and the first fault of the others.
 #[derive(Drop)]

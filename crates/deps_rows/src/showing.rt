@@ -1,7 +1,7 @@
 //! What a tree asks for, as it is printed.
 
 use formula_core::{Formula, Name, Ty};
-use math_print::text;
+use formula_print::text;
 use proof_deps::Deps;
 use std::alloc::{AllocError, Global};
 

@@ -64,7 +64,13 @@ pub record HasOne (new : List ℕ) (generation : ℕ) (body : List ℕ) : Type 0
   pub is : new ≡ header generation ++ open_records (body ∷ []) ++ byte ∷ behind
   pub closed : byte ≢ 1
 
--- this side is as it was, or it holds no project, or it has this one record, and the other is as it was
+-- a side while it gets this one record: as it was, or without a project, or with the record
+pub data IsReplacedSide (generation : ℕ) (body old new : List ℕ) : Type 0 where
+  as_before : new ≡ old → IsReplacedSide generation body old new
+  without_project : HoldsNone new → IsReplacedSide generation body old new
+  with_record : HasRecords new generation (body ∷ []) → IsReplacedSide generation body old new
+
+-- this side is as while it gets this one record, and the other is as it was
 pub record IsReplaced (side : Side) (generation : ℕ) (body : List ℕ) (old new : Sides) : Type 0 where
-  pub state : (new side ≡ old side) ⊎ HoldsNone (new side) ⊎ HasRecords (new side) generation (body ∷ [])
+  pub state : IsReplacedSide generation body (old side) (new side)
   pub stays : (rest : Side) → rest ≢ side → new rest ≡ old rest

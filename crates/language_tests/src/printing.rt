@@ -1,6 +1,6 @@
 use formula_core::{Boxed, Env, Formula, Name, OutOfMemory, Ty};
+use formula_print::text;
 use math_parse::{expression, predicate};
-use math_print::text;
 use math_tokens::tokens;
 use std::alloc::Global;
 use std::test::Fail;

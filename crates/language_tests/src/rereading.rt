@@ -1,6 +1,6 @@
 use formula_core::{Env, Formula, Ty};
 use math_parse::{ParseFault, predicate};
-use math_reread::text;
+use math_print::text;
 use math_tokens::tokens;
 use std::alloc::Global;
 use type_core::type_expression;

@@ -1,6 +1,5 @@
 use formula_core::{Raw, RawAction};
-use math_action::action;
-use math_parse::{expression, predicate};
+use math_parse::{action, expression, predicate};
 use math_tokens::tokens;
 use raw_print::{print_action, print_formula};
 use std::alloc::Global;

@@ -9,7 +9,7 @@ use Rattle.formula_core.specs.declared.ty.Ty.{Ty}
 use Rattle.formula_core.specs.declared.formula.Formula.{Formula}
 use Rattle.formula_core.specs.Env.{type_in}
 use Rattle.formula_core.specs.Formulas.{free_of}
-use Rattle.type_core.specs.Answers.{with_typed_name, with_names_typed}
+use Rattle.type_formula.specs.Answers.{with_typed_name, with_names_typed}
 use Rattle.type_action.specs.CoreActions.{with_all}
 use Rattle.model_core.specs.declared.fault.Fault.{Fault}
 use Rattle.model_core.specs.declared.component.RawEvent.{RawEvent}
@@ -21,7 +21,7 @@ use Rattle.check_rules.specs.Typed.{Entries, AreTyped, in_order}
 use Rattle.check_rules.specs.Events.{event_env, inherited_params, abstract_params}
 use Rattle.context_check.specs.Typings.{AreTypedSoFar}
 use Rattle.context_check.proofs.Views.{append_none}
-use Rattle.type_core.proofs.Named.{all_each}
+use Rattle.type_formula.proofs.Named.{all_each}
 use Rattle.machine_check.specs.PrivateTyped.{ExtendsEntries}
 use Rattle.machine_check.proofs.Params.{with_all_append}
 

@@ -7,7 +7,7 @@ use Rattle.formula_core.specs.declared.ty.Ty.{Ty}
 use Rattle.formula_core.specs.Names.{is_identifier}
 use Rattle.formula_core.specs.Formulas.{joined}
 use Rattle.type_action.specs.CoreActions.{with_all, primed}
-use Rattle.type_core.specs.Answers.{with_typed_name}
+use Rattle.type_formula.specs.Answers.{with_typed_name}
 use Rattle.model_core.specs.declared.checked.CheckedEvent.{CheckedEvent}
 use Rattle.check_rules.specs.Typed.{Entries}
 use Rattle.machine_check.specs.PrivateTyped.{primed_known}

@@ -4,7 +4,7 @@ ghost use Rattle.std.specs.Prelude.{◌≡◌, ◌++◌, ◌∷◌, [], IfOk, On
 ghost use Rattle.std.specs.List.{filter};
 ghost use Rattle.formula_core.specs.Formulas.{joined};
 ghost use Rattle.formula_core.specs.Names.{is_identifier};
-ghost use Rattle.type_core.specs.Answers.{with_typed_name};
+ghost use Rattle.type_formula.specs.Answers.{with_typed_name};
 ghost use Rattle.type_action.specs.CoreActions.{with_all};
 ghost use Rattle.check_rules.specs.Visible.{names};
 ghost use Rattle.check_rules.specs.Typed.{in_order};

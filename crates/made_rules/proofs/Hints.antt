@@ -12,8 +12,8 @@ use Rattle.formula_core.specs.declared.Formula.{Formula}
 use Rattle.formula_core.specs.declared.raw.Raw.{Raw}
 use Rattle.formula_core.specs.Env.{type_in}
 use Rattle.formula_core.specs.Typed.{Stands, HasCarriers, IsTypedIn, IsPredicateIn}
-use Rattle.type_core.specs.CoreForms.{core_form}
-use Rattle.type_core.proofs.Standing.{formulas_stand}
+use Rattle.type_formula.specs.CoreForms.{core_form}
+use Rattle.type_formula.proofs.Standing.{formulas_stand}
 use Rattle.rule_table.specs.declared.kind.RuleKind.{RuleKind}
 use Rattle.rule_table.specs.Rows.{first}
 use Rattle.rule_table.specs.Rules.{terms_of}

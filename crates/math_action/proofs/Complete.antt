@@ -14,9 +14,9 @@ use Rattle.math_grammar.specs.declared.symbols.Symbol.TheVariants as sign
 use Rattle.math_grammar.specs.Tokens.{Item}
 use Rattle.math_grammar.specs.Grammar.{Spells}
 use Rattle.math_grammar.specs.Actions.{ref, Targets, last_target, next_target, Values, last_value, next_value, SpellsAction, assigns, applies, chooses_in, chooses_such}
-use Rattle.math_parse.specs.Machine.{ParseState, want, step, ended, is_ready}
-use Rattle.math_parse.specs.PrivateReaders.{ReadOutcome, found, refused}
-use Rattle.math_parse.proofs.Reach.{Stop, stop, reach}
+use Rattle.formula_parse.specs.Machine.{ParseState, want, step, ended, is_ready}
+use Rattle.formula_parse.specs.PrivateReaders.{ReadOutcome, found, refused}
+use Rattle.formula_parse.proofs.Reach.{Stop, stop, reach}
 use Rattle.math_action.specs.declared.stages.Head.{Head}
 use Rattle.math_action.specs.declared.stages.Head.TheVariants as head
 use Rattle.math_action.specs.PrivateMachine.{target, named, formula, hole_after, ends_at, after_formula, whole_action}

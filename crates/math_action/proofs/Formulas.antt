@@ -9,14 +9,14 @@ use Rattle.math_grammar.specs.declared.symbols.Symbol.{Symbol}
 use Rattle.math_grammar.specs.Levels.{fits, goes_on, binding_grade, is_braced}
 use Rattle.math_grammar.specs.Tokens.{Item}
 use Rattle.math_grammar.specs.Grammar.{item, Reads, Spells}
-use Rattle.math_parse.specs.declared.frames.Frame.{Frame}
-use Rattle.math_parse.specs.declared.frames.Frame.TheVariants as frame
-use Rattle.math_parse.specs.Machine.{hole_of, ParseState, want, have, finished, attach, step, complete, ended, is_open_ended, is_ready}
-use Rattle.math_parse.proofs.Basics.{both, fits_reaches}
-use Rattle.math_parse.proofs.Readers.{option_ways}
-use Rattle.math_parse.proofs.Sound.{ways}
-use Rattle.math_parse.proofs.Complete.{complete_reads}
-use Rattle.math_parse.proofs.Reach.{stop, reach}
+use Rattle.formula_parse.specs.declared.frames.Frame.{Frame}
+use Rattle.formula_parse.specs.declared.frames.Frame.TheVariants as frame
+use Rattle.formula_parse.specs.Machine.{hole_of, ParseState, want, have, finished, attach, step, complete, ended, is_open_ended, is_ready}
+use Rattle.formula_parse.proofs.Basics.{both, fits_reaches}
+use Rattle.formula_parse.proofs.Readers.{option_ways}
+use Rattle.formula_parse.proofs.Sound.{ways}
+use Rattle.formula_parse.proofs.Complete.{complete_reads}
+use Rattle.formula_parse.proofs.Reach.{stop, reach}
 
 -- nothing goes on with it
 abbrev pub Separates : Symbol → Type 0

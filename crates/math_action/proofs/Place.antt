@@ -15,12 +15,12 @@ use Rattle.math_grammar.specs.declared.symbols.Symbol.TheVariants as sign
 use Rattle.math_grammar.specs.Tokens.{Item}
 use Rattle.math_grammar.specs.Grammar.{item}
 use Rattle.math_grammar.specs.Actions.{SpellsAction}
-use Rattle.math_parse.specs.Machine.{ParseState, want}
-use Rattle.math_parse.specs.PrivateReaders.{found}
-use Rattle.math_parse.proofs.Readers.{ReadsGrammar}
-use Rattle.math_parse.proofs.Reach.{Stop, stop, reach, outcome, run_reaches}
-use Rattle.math_parse.proofs.Place as places
-use Rattle.math_parse.proofs.Sound as sounds
+use Rattle.formula_parse.specs.Machine.{ParseState, want}
+use Rattle.formula_parse.specs.PrivateReaders.{found}
+use Rattle.formula_parse.proofs.Readers.{ReadsGrammar}
+use Rattle.formula_parse.proofs.Reach.{Stop, stop, reach, outcome, run_reaches}
+use Rattle.formula_parse.proofs.Place as places
+use Rattle.formula_parse.proofs.Sound as sounds
 use Rattle.math_action.specs.declared.stages.Head.{Head}
 use Rattle.math_action.specs.declared.stages.Head.TheVariants as head
 use Rattle.math_action.specs.PrivateMachine.{ActionState, formula, hole_after, action_reader}

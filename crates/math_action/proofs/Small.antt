@@ -8,10 +8,10 @@ use Rattle.math_grammar.specs.declared.symbols.Symbol.{Symbol}
 use Rattle.math_grammar.specs.declared.symbols.Symbol.TheVariants as sign
 use Rattle.math_grammar.specs.Tokens.{Item}
 use Rattle.math_grammar.specs.Actions.{ref}
-use Rattle.math_parse.specs.Limits.{most_parts}
-use Rattle.math_parse.specs.Machine.{ParseState, want, step, ended, is_ready, is_full}
-use Rattle.math_parse.proofs.Readers.{unless_full}
-use Rattle.math_parse.proofs.Small.{small_step}
+use Rattle.formula_parse.specs.Limits.{most_parts}
+use Rattle.formula_parse.specs.Machine.{ParseState, want, step, ended, is_ready, is_full}
+use Rattle.formula_parse.proofs.Readers.{unless_full}
+use Rattle.formula_parse.proofs.Small.{small_step}
 use Rattle.math_action.specs.declared.stages.Head.{Head}
 use Rattle.math_action.specs.declared.stages.Head.TheVariants as head
 use Rattle.math_action.specs.PrivateMachine.{ActionState, target, named, formula, applied, hole_after, ends_at, begin_target, if_first, after_target, comma_taken, after_formula, read_on, after_argument, action_step, is_full_action}

@@ -16,9 +16,9 @@ use Rattle.math_grammar.specs.Levels.{fits}
 use Rattle.math_grammar.specs.Tokens.{Item}
 use Rattle.math_grammar.specs.Grammar.{item, Reads, Spells}
 use Rattle.math_grammar.specs.Actions.{ref, Targets, last_target, next_target, Values, last_value, next_value, SpellsAction, assigns, applies, chooses_in, chooses_such}
-use Rattle.math_parse.specs.Machine.{ParseState, want, step, ended, is_ready}
-use Rattle.math_parse.proofs.Basics.{both, chosen}
-use Rattle.math_parse.proofs.Sound as formulas
+use Rattle.formula_parse.specs.Machine.{ParseState, want, step, ended, is_ready}
+use Rattle.formula_parse.proofs.Basics.{both, chosen}
+use Rattle.formula_parse.proofs.Sound as formulas
 use Rattle.math_action.proofs.Complete.{ends_separates}
 use Rattle.math_action.specs.declared.stages.Head.{Head}
 use Rattle.math_action.specs.declared.stages.Head.TheVariants as head

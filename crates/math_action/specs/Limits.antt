@@ -3,8 +3,8 @@ use Rattle.std.specs.Prelude.{List}
 use Rattle.formula_core.specs.declared.raw.RawAction.{RawAction}
 use Rattle.math_grammar.specs.Tokens.{Item}
 use Rattle.math_grammar.specs.Actions.{SpellsAction}
-use Rattle.math_parse.specs.Limits.{SpellsWithin, IsFaultOf}
-use Rattle.math_parse.specs.declared.fault.ParseFault.{ParseFault}
+use Rattle.formula_parse.specs.Limits.{SpellsWithin, IsFaultOf}
+use Rattle.formula_parse.specs.declared.fault.ParseFault.{ParseFault}
 
 -- the tokens are an action within the limits
 abbrev pub IsAction : List Item → RawAction → Type 0

@@ -12,8 +12,8 @@ use Rattle.math_grammar.specs.declared.symbols.Symbol.{Symbol}
 use Rattle.math_grammar.specs.declared.symbols.Symbol.TheVariants as sym
 use Rattle.math_grammar.specs.Tokens.{Item}
 use Rattle.math_grammar.specs.Actions.{ref}
-use Rattle.math_parse.specs.Machine.{ParseState, want, step, ended, is_ready, is_full}
-use Rattle.math_parse.specs.PrivateReaders.{TokenReader}
+use Rattle.formula_parse.specs.Machine.{ParseState, want, step, ended, is_ready, is_full}
+use Rattle.formula_parse.specs.PrivateReaders.{TokenReader}
 use Rattle.math_action.specs.declared.stages.Head.{Head}
 use Rattle.math_action.specs.declared.stages.Head.TheVariants.{Assign, Argument, Apply, ChooseIn, ChooseSuch}
 

@@ -1,9 +1,9 @@
 -- What the reader's values in memory stand for.
 use Rattle.std.specs.Prelude.{◌≡◌, Option, Some, None, Result, Ok, Err}
 use Rattle.formula_core.specs.declared.raw.RawAction.{RawAction}
-use Rattle.math_parse.specs.declared.fault.StepFault.{StepFault}
-use Rattle.math_parse.specs.declared.fault.StepFault.TheVariants as fault
-use Rattle.math_parse.specs.View.{state_of}
+use Rattle.formula_parse.specs.declared.fault.StepFault.{StepFault}
+use Rattle.formula_parse.specs.declared.fault.StepFault.TheVariants as fault
+use Rattle.formula_parse.specs.View.{state_of}
 use Rattle.math_action.specs.declared.stages.Stage.{Stage}
 use Rattle.math_action.specs.declared.stages.Stage.TheVariants as stage
 use Rattle.math_action.specs.PrivateMachine.{ActionState, target, named, formula, applied}

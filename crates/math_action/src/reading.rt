@@ -3,8 +3,8 @@
 ghost use Rattle.std.specs.Prelude.{◌≡◌, IfOk, IfErr};
 ghost use Rattle.formula_core.specs.declared.raw.RawAction.{RawAction};
 ghost use Rattle.math_grammar.specs.Tokens.{items_of};
-ghost use Rattle.math_parse.specs.Limits.{FindsFormula};
-ghost use Rattle.math_parse.specs.PrivateReaders.{ReadsTokens};
+ghost use Rattle.formula_parse.specs.Limits.{FindsFormula};
+ghost use Rattle.formula_parse.specs.PrivateReaders.{ReadsTokens};
 ghost use Rattle.math_action.specs.Limits.{IsAction, IsActionFault};
 ghost use Rattle.math_action.specs.PrivateMachine.{is_full_action, action_reader};
 ghost use Rattle.math_action.specs.PrivateView.{action_state};
@@ -12,8 +12,8 @@ ghost use Rattle.math_action.specs.PrivateView.{action_state};
 use crate::stages::Stage;
 use crate::steps::{end_action, step};
 use formula_core::{List, RawAction};
+use formula_parse::{ParseFault, StepFault, bytes_of, is_full, open_after, passes};
 use math_grammar::symbol_of;
-use math_parse::{ParseFault, StepFault, bytes_of, is_full, open_after, passes};
 use math_tokens::Token;
 use std::alloc::Global;
 

@@ -4,8 +4,8 @@ ghost use Rattle.std.specs.Prelude.{◌≡◌};
 ghost use Rattle.math_action.specs.PrivateMachine.{hole_after, ends_at};
 
 use formula_core::{List, Raw, Ref};
+use formula_parse::Phase;
 use math_grammar::{Bracket, Hole, Symbol};
-use math_parse::Phase;
 
 /// What stands before a formula.
 #[derive(Drop)]

@@ -5,12 +5,12 @@ ghost use Rattle.math_action.specs.PrivateMachine.{begin_target, if_first, after
 ghost use Rattle.math_action.specs.declared.stages.Stage.TheVariants as stage;
 ghost use Rattle.math_action.specs.PrivateView.{action_state, ActionSteps, CompletesAction};
 ghost use Rattle.math_grammar.specs.Grammar.{item};
-ghost use Rattle.math_parse.specs.Machine.{want};
+ghost use Rattle.formula_parse.specs.Machine.{want};
 
 use crate::stages::{Head, Stage};
 use formula_core::{List, Raw, RawAction, Ref};
+use formula_parse::{Phase, StepFault, end, is_ready, read_name};
 use math_grammar::{Bracket, Symbol};
-use math_parse::{Phase, StepFault, end, is_ready, read_name};
 use std::alloc::{AllocError, Global};
 
 /// A list with one more at its end.
@@ -118,7 +118,7 @@ fn formula_step(
         let formula = end(alloc, goal, phase)?;
         separated(alloc, head, formula)
     } else {
-        let phase = math_parse::step(alloc, goal, phase, symbol, from, word)?;
+        let phase = formula_parse::step(alloc, goal, phase, symbol, from, word)?;
         Ok(Stage::Formula(head, phase))
     }
 }

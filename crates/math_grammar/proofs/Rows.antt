@@ -1,4 +1,4 @@
--- The spellings_of of the table of operators.
+-- The rows of the table of operators.
 use Rattle.std.proofs.Common.{◌≡◌, ◌∙◌, ap, refl, ℕ, zero, suc, Bool, true, false, ◌&&◌, List, [], ◌∷◌, slice_get, Some}
 use Rattle.std.specs.Option.{option_map_or}
 use Rattle.std.specs.List.{list_all}
@@ -11,7 +11,8 @@ use Rattle.formula_core.specs.declared.op.TheConstants.{OPERATORS, BINDERS}
 use Rattle.formula_core.specs.Numbers.{number_of, binder_number_of}
 use Rattle.math_grammar.specs.declared.operators.Form.{Form}
 use Rattle.math_grammar.specs.declared.operators.Form.TheVariants as form
-use Rattle.math_grammar.specs.Operators.{spellings_of, spellings, spelled_sign, spelled_form}
+use Rattle.math_grammar.specs.Operators.{spellings, spelled_sign, spelled_form}
+use Rattle.math_grammar.specs.Private.{spellings_of}
 
 pub sign_there : (table : List (Op × Bor (List ℕ) × Form)) (at : ℕ) → spelled_sign (spellings_of table) at ≡ option_map_or (λ row. row.1.now) (slice_get table at) []
 sign_there [] at = refl

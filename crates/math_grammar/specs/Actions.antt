@@ -51,7 +51,3 @@ pub data SpellsAction (limit : Option ℕ) : List Item → RawAction → Type 0 
   chooses_such : {targets : List Ref} {p : ℕ} {w : List ℕ} {s m : List Item} {t : Raw} →
       Targets [] s targets (item sym.BecomesSuch p w ∷ m) → Spells limit hole.Predicate m t →
       SpellsAction limit s (ChooseSuch targets t)
-
--- some action begins so
-abbrev pub BeginsAction : Option ℕ → List Item → Type 0
-BeginsAction limit tokens = (more : List Item) × (a : RawAction) × SpellsAction limit (tokens ++ more) a

@@ -190,7 +190,3 @@ pub record Spells (limit : Option ℕ) (h : Hole) (tokens : List Item) (t : Raw)
   pub g : Grade
   pub reads : Reads limit g tokens t []
   pub fit : fits h g ≡ true
-
--- some sentence begins so
-abbrev pub HasContinuation : Option ℕ → Hole → List Item → Type 0
-HasContinuation limit h tokens = (more : List Item) × (t : Raw) × Spells limit h (tokens ++ more) t

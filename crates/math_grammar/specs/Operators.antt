@@ -1,7 +1,6 @@
 -- How operators and binders are written: their signs, and the classes of the tokens by which they are known.
 use Rattle.std.specs.Prelude.{ℕ, List, [], map, slice_get}
 use Rattle.std.specs.Option.{option_map_or}
-use Rattle.std.specs.Borrow.{Bor}
 use Rattle.formula_core.specs.declared.op.Op.{Op}
 use Rattle.formula_core.specs.declared.op.Binder.{Binder}
 use Rattle.formula_core.specs.declared.op.Binder.TheVariants as binder
@@ -24,10 +23,6 @@ use Rattle.math_grammar.specs.declared.operators.TheConstants.{SPELLINGS}
 -- an operator, its sign, and how it stands to its operands
 abbrev pub Spelling : Type 0
 Spelling = Op × List ℕ × Form
-
--- the table of a program
-abbrev pub spellings_of : List (Op × Bor (List ℕ) × Form) → List Spelling
-spellings_of table = map (λ row. (row.0, row.1.now, row.2)) table
 
 abbrev pub spellings : List Spelling
 spellings = map (λ row. (row.0, row.1.now, row.2)) SPELLINGS

@@ -1,7 +1,8 @@
 //! How operators and binders are written: their signs, and the classes of the tokens by which they are known.
 
 ghost use Rattle.std.specs.Prelude.{◌≡◌};
-ghost use Rattle.math_grammar.specs.Operators.{spellings_of, spelled_sign, spelled_form, sign_of, op_form, form_class, class_of, raw_sign_of, raw_class_of, binder_sign_of, binder_class_of, raw_binder_sign_of, raw_binder_class_of};
+ghost use Rattle.math_grammar.specs.Private.{spellings_of};
+ghost use Rattle.math_grammar.specs.Operators.{spelled_sign, spelled_form, sign_of, op_form, form_class, class_of, raw_sign_of, raw_class_of, binder_sign_of, binder_class_of, raw_binder_sign_of, raw_binder_class_of};
 
 use crate::levels::{Binding, Bracket, Call, Level};
 use crate::symbols::Symbol;

@@ -1,9 +1,2 @@
-pub mod Depths
-pub mod Held
-pub mod Levels
-pub mod Names
-pub mod Printing
-pub mod Private
-pub mod Signs
-pub mod Types
-pub mod Written
+pub mod Grades
+pub mod Back

@@ -5,7 +5,7 @@ use Rattle.std.specs.Option.{option_map, option_map_or}
 use Rattle.formula_core.specs.declared.raw.Ref.{Ref}
 use Rattle.formula_core.specs.Formulas.{joined}
 use Rattle.formula_core.specs.Names.{is_name}
-use Rattle.type_core.proofs.Named.{all_append, all_front, all_back, all_each}
+use Rattle.type_formula.proofs.Named.{all_append, all_front, all_back, all_each}
 use Rattle.model_core.specs.declared.fault.Fault.{Fault}
 use Rattle.model_core.specs.declared.component.RawComponent.TheVariants as raw
 use Rattle.model_core.specs.declared.component.RawEvent.{RawEvent}

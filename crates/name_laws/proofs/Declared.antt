@@ -2,7 +2,7 @@
 use Rattle.std.proofs.Common.{◌≡◌, ap, refl, ℕ, Bool, true, false, cond, ◌||◌, List, [], ◌∷◌, ◌++◌, map, Option, Some, None, bytes_eq}
 use Rattle.std.specs.Prelude.{Ok, Err, MatchOption}
 use Rattle.std.specs.List.{AllByRecursion, IsDistinct}
-use Rattle.type_core.proofs.Named.{all_each}
+use Rattle.type_formula.proofs.Named.{all_each}
 use Rattle.formula_core.specs.declared.raw.Ref.{Ref}
 use Rattle.formula_core.specs.Formulas.{joined}
 use Rattle.model_core.specs.declared.fault.Fault.{Fault}

@@ -14,7 +14,7 @@ use Rattle.formula_core.specs.Formulas.{substituted}
 use Rattle.formula_core.specs.Same.{same_action}
 use Rattle.formula_core.specs.Types.{is_integer}
 use Rattle.formula_core.specs.Wellness.{type_of}
-use Rattle.type_core.proofs.Named.{all_each}
+use Rattle.type_formula.proofs.Named.{all_each}
 use Rattle.well_defined.specs.Conditions.{wd_of}
 use Rattle.well_defined.specs.Predicates.{conjunction, disjunction, member, not_empty}
 use Rattle.model_core.specs.declared.checked.Labelled.{Labelled}

@@ -4,7 +4,7 @@ use Rattle.std.specs.Prelude.{◌≢◌}
 use Rattle.std.specs.List.{AllByRecursion, IsDistinct, filter, filter_map, cons_option, find}
 use Rattle.std.specs.Cmp.Lexicographic.{same_text}
 use Rattle.std.proofs.lemmas.Cmp.{nat_list_eq_equiv}
-use Rattle.type_core.proofs.Named.{all_append, all_front, all_back, all_each}
+use Rattle.type_formula.proofs.Named.{all_append, all_front, all_back, all_each}
 use Rattle.model_core.specs.Each.{IsIn, is_among}
 use Rattle.name_laws.specs.Labels.{AreOnce}
 

@@ -6,7 +6,7 @@ use Rattle.std.specs.List.{AllByRecursion, find}
 use Rattle.formula_core.specs.declared.formula.Formula.{Formula}
 use Rattle.formula_core.specs.Types.{is_integer}
 use Rattle.formula_core.specs.Wellness.{type_of}
-use Rattle.type_core.proofs.Named.{all_each}
+use Rattle.type_formula.proofs.Named.{all_each}
 use Rattle.well_defined.specs.Conditions.{wd_of}
 use Rattle.well_defined.specs.Predicates.{finite}
 use Rattle.model_core.specs.declared.checked.Checked.TheVariants.{Context, Machine}

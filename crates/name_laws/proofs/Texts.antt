@@ -4,7 +4,7 @@ use Rattle.std.specs.Prelude.{◌≢◌, nat_le}
 use Rattle.std.specs.List.{list_all}
 use Rattle.std.specs.Cmp.Lexicographic.{same_text}
 use Rattle.std.proofs.lemmas.List.{take-append-drop}
-use Rattle.type_core.proofs.Named.{all_append}
+use Rattle.type_formula.proofs.Named.{all_append}
 use Rattle.formula_core.specs.Names.{prime, starts_word, is_in_word, is_word, is_reserved, unprimed}
 use Rattle.formula_core.specs.Texts.{is_in_label}
 use Rattle.name_laws.specs.Labels.{IsPlain}

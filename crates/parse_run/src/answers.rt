@@ -2,9 +2,8 @@
 
 use crate::tree::{write_action, write_formula};
 use formula_core::{Raw, RawAction};
-use math_action::action;
 use math_grammar::symbol_of;
-use math_parse::{ParseFault, expression, predicate};
+use math_parse::{ParseFault, action, expression, predicate};
 use math_tokens::{Token, TokenFault, TokenKind, token_at, tokens};
 use std::alloc::{AllocError, Global};
 

@@ -27,13 +27,13 @@ use Rattle.math_grammar.specs.Levels.{rank, level, right_of, takes_left, reaches
 use Rattle.math_grammar.specs.Tokens.{Item}
 use Rattle.math_grammar.specs.Grammar as grammar
 use Rattle.math_grammar.specs.Grammar.{item, lone, joined_shape, place_of, bound, between, type_with, Ends, Spells}
-use Rattle.math_parse.specs.declared.frames.Frame.{Frame}
-use Rattle.math_parse.specs.declared.frames.Frame.TheVariants as frame
-use Rattle.math_parse.specs.Machine.{hole_of, hole_wanted, ParseState, want, have, calling, shape_want, shape_have, after_shape, bound_from, bounds_from, binding_body, binding_opened, after_names}
-use Rattle.math_parse.proofs.Reach.{Stop, reach, outcome, run_reaches}
-use Rattle.math_parse.proofs.Basics.{name_of-name, typed_name_of-between, bound_of-name, bound_of-between, bounds_of-more, both, fits_reaches, reached, reached_least, reaches_left, fits_expression, declaration_rank, Opens, group_opens, prefix_begins, binding_begins}
-use Rattle.math_parse.proofs.Complete.{suffix_reaches, attach_on, attach_infix, attach_suffix, suffix_closes, ends_finished, takes_sign, begins, goes, Stops, complete_atom}
-use Rattle.math_parse.proofs.Place.{sentence_found}
+use Rattle.formula_parse.specs.declared.frames.Frame.{Frame}
+use Rattle.formula_parse.specs.declared.frames.Frame.TheVariants as frame
+use Rattle.formula_parse.specs.Machine.{hole_of, hole_wanted, ParseState, want, have, calling, shape_want, shape_have, after_shape, bound_from, bounds_from, binding_body, binding_opened, after_names}
+use Rattle.formula_parse.proofs.Reach.{Stop, reach, outcome, run_reaches}
+use Rattle.formula_parse.proofs.Basics.{name_of-name, typed_name_of-between, bound_of-name, bound_of-between, bounds_of-more, both, fits_reaches, reached, reached_least, reaches_left, fits_expression, declaration_rank, Opens, group_opens, prefix_begins, binding_begins}
+use Rattle.formula_parse.proofs.Complete.{suffix_reaches, attach_on, attach_infix, attach_suffix, suffix_closes, ends_finished, takes_sign, begins, goes, Stops, complete_atom}
+use Rattle.formula_parse.proofs.Place.{sentence_found}
 use Rattle.plain_grammar.specs.Plain as plain
 use Rattle.plain_grammar.specs.Plain.{Plain, PlainParts, PlainName, PlainNames, PlainBody, PlainLast, PlainPattern, PlainAtom, is_maplet, Accepts}
 use Rattle.plain_grammar.proofs.Tightness.{AsTight, itself, tighter, fits_tighter, takes_tighter, level_tight, left_tight, grouped_same}

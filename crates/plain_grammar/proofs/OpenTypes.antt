@@ -5,9 +5,9 @@ use Rattle.math_grammar.specs.declared.holes.Grade.TheVariants as grade
 use Rattle.math_grammar.specs.declared.holes.Hole.TheVariants as hole
 use Rattle.math_grammar.specs.Tokens.{Item}
 use Rattle.math_grammar.specs.Grammar.{Spells}
-use Rattle.math_parse.specs.Machine.{want}
-use Rattle.math_parse.specs.PrivateReaders.{found, run}
-use Rattle.math_parse.proofs.Place.{found_sentence}
+use Rattle.formula_parse.specs.Machine.{want}
+use Rattle.formula_parse.specs.PrivateReaders.{found, run}
+use Rattle.formula_parse.proofs.Place.{found_sentence}
 use Rattle.plain_grammar.specs.Plain as plain
 use Rattle.plain_grammar.specs.Plain.{Plain, PlainPattern, Accepts}
 use Rattle.plain_grammar.specs.OpenType.{lambda_sign, a, of_type_sign, maplet_sign, dot_sign, top_sign, bar_sign, open_type}

@@ -19,12 +19,12 @@ use Rattle.math_grammar.specs.declared.symbols.Symbol.{Symbol}
 use Rattle.math_grammar.specs.Levels.{rank, level, left_of, agrees, right_of, takes_left, least, most, reaches, fits, goes_on, infix_of, prefix_hole, prefix_grade, prefix_op, binding_grade, is_braced}
 use Rattle.math_grammar.specs.Tokens.{Item}
 use Rattle.math_grammar.specs.Grammar.{item, between, Ends}
-use Rattle.math_parse.specs.declared.frames.Frame.{Frame}
-use Rattle.math_parse.specs.declared.frames.Frame.TheVariants as frame
-use Rattle.math_parse.specs.Machine.{hole_of, want, have, finished}
-use Rattle.math_parse.proofs.Reach.{Stop, reach}
-use Rattle.math_parse.proofs.Basics.{both, level_rank, infix_goes}
-use Rattle.math_parse.proofs.Complete.{attach_infix, ends_finished, goes}
+use Rattle.formula_parse.specs.declared.frames.Frame.{Frame}
+use Rattle.formula_parse.specs.declared.frames.Frame.TheVariants as frame
+use Rattle.formula_parse.specs.Machine.{hole_of, want, have, finished}
+use Rattle.formula_parse.proofs.Reach.{Stop, reach}
+use Rattle.formula_parse.proofs.Basics.{both, level_rank, infix_goes}
+use Rattle.formula_parse.proofs.Complete.{attach_infix, ends_finished, goes}
 use Rattle.plain_grammar.proofs.Tightness.{level_low}
 
 -- a place for predicates alone, or for expressions alone

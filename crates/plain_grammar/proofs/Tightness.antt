@@ -9,7 +9,7 @@ use Rattle.math_grammar.specs.declared.holes.Hole.TheVariants as hole
 use Rattle.math_grammar.specs.declared.levels.Level.{Level}
 use Rattle.math_grammar.specs.declared.levels.Level.TheVariants as lev
 use Rattle.math_grammar.specs.Levels.{rank, typed, level, left_of, agrees, takes_left, least, most, reaches, fits, grouped, is_conjunct, is_disjunct}
-use Rattle.math_parse.proofs.Basics.{both, reached, reached_least, rank_most, level_rank}
+use Rattle.formula_parse.proofs.Basics.{both, reached, reached_least, rank_most, level_rank}
 
 -- a formula of the grade e may stand wherever one of the grade g may
 pub record AsTight (g e : Grade) : Type 0 where

@@ -14,7 +14,7 @@ use Rattle.po_rules.specs.Parts.{formulas, parts_of}
 use Rattle.model_core.specs.Refined.{refined_by}
 use Rattle.po_rules.specs.Rows.{labelled_rows, own_invariant_rows, variant_rows}
 use Rattle.po_rules.specs.Tables.{Row, guards, witnesses, strengthening, merging, actions, simulation, equality, invariants, variant, all_rows, row_of_event, event_rows, machine_rows, obligations_of}
-use Rattle.po_rules.specs.Members.{IsOfEvent, IsObligation}
+use Rattle.po_rules.specs.Members.{IsMachineObligation, by_own_invariant, by_variant, by_event, IsObligation}
 
 -- the table has each row
 is_row : (row : Row) → IsIn row all_rows
@@ -41,14 +41,14 @@ module _ (m : CheckedMachine) (abstraction : Option CheckedMachine) (o : Obligat
   abbrev events : List Obligation
   events = for_each (event_rows all_rows m abstraction) m.events
 
-  of_events : IsIn o events → IsOfEvent m abstraction o
+  of_events : IsIn o events → IsMachineObligation m abstraction o
   of_events h =
       let g = (given (event_rows all_rows m abstraction) m.events o).0 h in
       let k = (given (Of g.0) all_rows o).0 g.2 in
-      (g.0, k.0, g.1, k.2)
+      by_event g.0 k.0 g.1 k.2
 
-  in_events : IsOfEvent m abstraction o → IsIn o events
-  in_events h = (given (event_rows all_rows m abstraction) m.events o).1 (h.0, h.2, (given (Of h.0) all_rows o).1 (h.1, is_row h.1, h.3))
+  in_events : (e : CheckedEvent) (row : Row) → IsIn e m.events → IsIn o (Of e row) → IsIn o events
+  in_events e row at has = (given (event_rows all_rows m abstraction) m.events o).1 (e, at, (given (Of e) all_rows o).1 (row, is_row row, has))
 
   of_variant : (v : Option Formula) → IsIn o (for_each (variant_rows m) (option_to_list v)) → (w : Formula) × (v ≡ Some w) × IsIn o (variant_rows m w)
   of_variant None h = absurd h
@@ -57,27 +57,20 @@ module _ (m : CheckedMachine) (abstraction : Option CheckedMachine) (o : Obligat
   in_variant : (v : Option Formula) (w : Formula) → v ≡ Some w → IsIn o (variant_rows m w) → IsIn o (for_each (variant_rows m) (option_to_list v))
   in_variant v w e h = subst (λ u. IsIn o (for_each (variant_rows m) (option_to_list u))) (sym e) (in_first o (variant_rows m w) [] h)
 
-  abbrev inherited : Type 0
-  inherited = IsGivenBeside (labelled_rows m.name m.env (formulas m.axioms)) (take m.own_from m.invariants) (drop m.own_from m.invariants) o
-
-  of_machine : IsIn o (machine_rows m abstraction) → IsObligation (Machine m) abstraction o
+  of_machine : IsIn o (machine_rows m abstraction) → IsMachineObligation m abstraction o
   of_machine h = elim (in_either o (own_invariant_rows m ++ variants) events h) [
     | inl first ↦ elim (in_either o (own_invariant_rows m) variants first) [
-      | inl i ↦ inl (given_beside (labelled_rows m.name m.env (formulas m.axioms)) (take m.own_from m.invariants) (drop m.own_from m.invariants) o i)
-      | inr v ↦ inr (inl (of_variant m.variant v))
+      | inl i ↦ by_own_invariant (given_beside (labelled_rows m.name m.env (formulas m.axioms)) (take m.own_from m.invariants) (drop m.own_from m.invariants) o i)
+      | inr v ↦ let w = of_variant m.variant v in by_variant w.0 w.1 w.2
     ]
-    | inr e ↦ inr (inr (of_events e))
+    | inr e ↦ of_events e
   ]
 
-  in_machine : IsObligation (Machine m) abstraction o → IsIn o (machine_rows m abstraction)
-  in_machine h = elim h [
-    | inl i ↦ in_first o (own_invariant_rows m ++ variants) events (in_first o (own_invariant_rows m) variants
-        (is_beside (labelled_rows m.name m.env (formulas m.axioms)) (take m.own_from m.invariants) (drop m.own_from m.invariants) o i))
-    | inr more ↦ elim more [
-      | inl v ↦ in_first o (own_invariant_rows m ++ variants) events (in_second o (own_invariant_rows m) variants (in_variant m.variant v.0 v.1 v.2))
-      | inr e ↦ in_second o (own_invariant_rows m ++ variants) events (in_events e)
-    ]
-  ]
+  in_machine : IsMachineObligation m abstraction o → IsIn o (machine_rows m abstraction)
+  in_machine (by_own_invariant i) = in_first o (own_invariant_rows m ++ variants) events (in_first o (own_invariant_rows m) variants
+      (is_beside (labelled_rows m.name m.env (formulas m.axioms)) (take m.own_from m.invariants) (drop m.own_from m.invariants) o i))
+  in_machine (by_variant v is has) = in_first o (own_invariant_rows m ++ variants) events (in_second o (own_invariant_rows m) variants (in_variant m.variant v is has))
+  in_machine (by_event e row at has) = in_second o (own_invariant_rows m ++ variants) events (in_events e row at has)
 
 pub rows_give : (checked : Checked) (abstraction : Option CheckedMachine) (o : Obligation) → IsIn o (obligations_of checked abstraction) ↔ IsObligation checked abstraction o
 rows_give (Context c) abstraction o =

@@ -21,7 +21,7 @@ use Rattle.sequent_core.proofs.Nodes.{leaf_applies, node_applies, applied_rule, 
 use Rattle.proof_strategies.specs.declared.room.Room.{Room}
 use Rattle.proof_strategies.specs.declared.room.Times.{Times}
 use Rattle.proof_strategies.specs.declared.room.Times.TheVariants.{Once, Again}
-use Rattle.proof_strategies.specs.Growth.{GrowsInto, no_rule_left, run_at_leaf, at_rule, EachGrowsInto, no_tree, first_tree, LeafBecomes, refused, too_many, no_rule, once, again, beside, used_up}
+use Rattle.proof_strategies.specs.Growth.{GrowsInto, no_rule_left, run_at_leaf, at_rule, EachGrowsInto, no_tree, first_tree, LeafBecomes, refused, too_many, no_rule, once, again, used_up}
 use Rattle.proof_strategies.specs.Private.{HasGrown, HaveGrown, IsLeft, IsPlacedWithin, IsPut, WasTried}
 
 each_applies : (xs ys : List Tree) (as' bs : List Antecedent) (s : Sequent) → EachApplies xs as' s → EachApplies ys bs s → EachApplies (xs ++ ys) (as' ++ bs) s

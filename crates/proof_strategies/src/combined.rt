@@ -6,7 +6,7 @@ ghost use Rattle.proof_strategies.specs.Private.{ContinuesWith};
 ghost use Rattle.proof_strategies.specs.Strategies.{GivesOrElse, GivesRepeat, GivesThen, IfFound};
 
 use crate::count::rule_count;
-use crate::growing::grow;
+use crate::growing::{Grower, grow};
 use crate::room::{Room, Times};
 use crate::strategy::Strategy;
 use sequent_core::{Attempt, Sequent, Tree};
@@ -75,7 +75,11 @@ fn continued<B: Strategy>(
     ensures nodes { IfFound result (λ tree. node_count tree ≤ 2048) }
 {
     let mut room = room_beside(start, budget);
-    match grow(start, alloc, sequent, second, Times::Once, &mut room) {
+    let grower = Grower {
+        strategy: second,
+        times: Times::Once,
+    };
+    match grow(start, alloc, sequent, &grower, &mut room) {
         Ok(tree) => Attempt::Found(tree),
         Err(_) => Attempt::NoMemory,
     }
@@ -118,14 +122,11 @@ impl<T: Strategy> Strategy for Repeat<T> {
             rules: budget,
             nodes: MOST_MORE_NODES,
         };
-        match grow(
-            &Tree::Leaf,
-            alloc,
-            sequent,
-            &self.body,
-            Times::Again,
-            &mut room,
-        ) {
+        let grower = Grower {
+            strategy: &self.body,
+            times: Times::Again,
+        };
+        match grow(&Tree::Leaf, alloc, sequent, &grower, &mut room) {
             Ok(tree) => Attempt::Found(tree),
             Err(_) => Attempt::NoMemory,
         }

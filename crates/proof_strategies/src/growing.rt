@@ -14,33 +14,32 @@ use formula_core::{List, OutOfMemory};
 use sequent_core::{Antecedent, Attempt, Sequent, Tree};
 use std::alloc::Global;
 
+/// What makes a tree grow: a strategy that is run at its leaves, and how often.
+#[derive_where(Clone, Copy)]
+pub(crate) struct Grower<'a, S> {
+    pub strategy: &'a S,
+    pub times: Times,
+}
+
 /// The tree with what the strategy gives at its leaves. The room is what is left of it afterwards.
 #[cycle(grow)]
 pub(crate) fn grow<S: Strategy>(
     tree: &Tree,
     alloc: Global,
     sequent: &Sequent,
-    strategy: &S,
-    times: Times,
+    grower: &Grower<'_, S>,
     room: &mut Room,
 ) -> Result<Tree, OutOfMemory>
     requires applies { Applies tree.now sequent.now }
     requires most { room.old.rules ≤ 2000 }
-    ensures { IfOk result (λ new. HasGrown (S.gives strategy.now) times tree.now sequent.now room.old new room.new) }
+    ensures { IfOk result (λ new.
+        HasGrown (S.gives grower.now.strategy.now) grower.now.times tree.now sequent.now room.old new room.new) }
 {
     match tree {
-        Tree::Leaf => grow_leaf(alloc, sequent, strategy, times, room),
+        Tree::Leaf => grow_leaf(alloc, sequent, grower, room),
         Tree::Node(rule, children) => {
             let antecedents = rule.antecedents.items();
-            let grown = grow_each(
-                children.items(),
-                antecedents,
-                alloc,
-                sequent,
-                strategy,
-                times,
-                room,
-            )?;
+            let grown = grow_each(children.items(), antecedents, alloc, sequent, grower, room)?;
             let rule = rule.copy(alloc)?;
             Ok(Tree::Node(rule, grown))
         }
@@ -54,27 +53,18 @@ fn grow_each<S: Strategy>(
     antecedents: &[Antecedent],
     alloc: Global,
     sequent: &Sequent,
-    strategy: &S,
-    times: Times,
+    grower: &Grower<'_, S>,
     room: &mut Room,
 ) -> Result<List<Tree>, OutOfMemory>
     requires apply { EachApplies trees.now antecedents.now sequent.now }
     requires distinct { HaveDistinctIdentifiers antecedents.now }
     requires most { room.old.rules ≤ 2000 }
-    ensures { IfOk result (λ new.
-        HaveGrown (S.gives strategy.now) times trees.now antecedents.now sequent.now room.old new room.new) }
+    ensures { IfOk result (λ new. HaveGrown (S.gives grower.now.strategy.now) grower.now.times
+        trees.now antecedents.now sequent.now room.old new room.new) }
 {
     let mut grown = Vec::new(alloc);
     for i in 0..trees.len() {
-        let tree = grow_below(
-            &trees[i],
-            &antecedents[i],
-            alloc,
-            sequent,
-            strategy,
-            times,
-            room,
-        )?;
+        let tree = grow_below(&trees[i], &antecedents[i], alloc, sequent, grower, room)?;
         grown.push(tree)?;
     }
     Ok(List::of(grown))
@@ -87,19 +77,18 @@ fn grow_below<S: Strategy>(
     antecedent: &Antecedent,
     alloc: Global,
     sequent: &Sequent,
-    strategy: &S,
-    times: Times,
+    grower: &Grower<'_, S>,
     room: &mut Room,
 ) -> Result<Tree, OutOfMemory>
     requires fresh { IsFresh sequent.now antecedent.now }
     requires distinct { HasDistinctNames antecedent.now.idents }
     requires applies { Applies tree.now (extended sequent.now antecedent.now) }
     requires most { room.old.rules ≤ 2000 }
-    ensures { IfOk result (λ new.
-        HasGrown (S.gives strategy.now) times tree.now (extended sequent.now antecedent.now) room.old new room.new) }
+    ensures { IfOk result (λ new. HasGrown (S.gives grower.now.strategy.now) grower.now.times
+        tree.now (extended sequent.now antecedent.now) room.old new room.new) }
 {
     let below = extended(alloc, sequent, antecedent)?;
-    grow(tree, alloc, &below, strategy, times, room)
+    grow(tree, alloc, &below, grower, room)
 }
 
 /// What comes of a leaf.
@@ -107,19 +96,19 @@ fn grow_below<S: Strategy>(
 fn grow_leaf<S: Strategy>(
     alloc: Global,
     sequent: &Sequent,
-    strategy: &S,
-    times: Times,
+    grower: &Grower<'_, S>,
     room: &mut Room,
 ) -> Result<Tree, OutOfMemory>
     requires most { room.old.rules ≤ 2000 }
-    ensures { IfOk result (λ new. HasGrown (S.gives strategy.now) times Tree.Leaf sequent.now room.old new room.new) }
+    ensures { IfOk result (λ new.
+        HasGrown (S.gives grower.now.strategy.now) grower.now.times Tree.Leaf sequent.now room.old new room.new) }
 {
-    let Some(tree) = tried(alloc, sequent, strategy, room)? else {
+    let Some(tree) = tried(alloc, sequent, grower.strategy, room)? else {
         return Ok(Tree::Leaf);
     };
-    match times {
+    match grower.times {
         Times::Once => Ok(tree),
-        Times::Again => grow(&tree, alloc, sequent, strategy, times, room),
+        Times::Again => grow(&tree, alloc, sequent, grower, room),
     }
 }
 

@@ -7,8 +7,8 @@ use Rattle.formula_core.specs.declared.raw.RawAction.TheVariants as raw
 use Rattle.formula_core.specs.declared.ty.Ty.{Ty}
 use Rattle.formula_core.specs.Formulas.{joined}
 use Rattle.formula_core.specs.Names.{is_identifier}
-use Rattle.type_core.specs.CoreForms.{core_form}
-use Rattle.type_core.specs.Unknowns.{unknowns}
+use Rattle.type_formula.specs.CoreForms.{core_form}
+use Rattle.type_formula.specs.Unknowns.{unknowns}
 use Rattle.type_action.specs.CoreActions.{core_action, unknowns_of, unknown_targets, typed_targets, target_type, primed, with_all, with_target, env_after}
 use Rattle.model_core.specs.declared.fault.Fault.{Fault}
 use Rattle.model_core.specs.Each.{is_among}

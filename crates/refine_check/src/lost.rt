@@ -3,8 +3,8 @@ ghost use Rattle.std.specs.Prelude.{◌≡◌, ◌&&◌, ◌++◌, ◌∷◌, []
 ghost use Rattle.std.specs.List.{filter, list_any};
 ghost use Rattle.std.specs.Option.{option_copied};
 ghost use Rattle.formula_core.specs.Formulas.{joined};
-ghost use Rattle.type_core.specs.Unknowns.{unknowns, all_unknowns, type_unknowns, bound_names_in};
-ghost use Rattle.type_core.specs.Views.{bare_of, bares_of, bounds_of};
+ghost use Rattle.type_formula.specs.Unknowns.{unknowns, all_unknowns, type_unknowns, bound_names_in};
+ghost use Rattle.type_formula.specs.Views.{bare_of, bares_of, bounds_of};
 ghost use Rattle.type_action.specs.CoreActions.{core_action, unknowns_of};
 ghost use Rattle.model_core.specs.Each.{is_among};
 ghost use Rattle.model_core.specs.Faults.{first_by_place};
@@ -20,7 +20,7 @@ use model_core::{
     CheckedMachine, Fault, FaultKind, RawEvent, RawLabelled, RawStep, RawVariant, earlier, fault_at,
 };
 use std::alloc::Global;
-use type_core::{BoundNames, Tree, Trees, read};
+use type_formula::{BoundNames, Tree, Trees, read};
 
 /// The variables of a machine and of all that it refines, with their types.
 fn variables_of(machine: &CheckedMachine) -> &[(Name, Ty)]

@@ -4,7 +4,7 @@ use Rattle.std.proofs.lemmas.List.{append-nil, take_more, length-take-le}
 use Rattle.std.specs.Prelude.{codes}
 use Rattle.std.specs.Fmt.{decimal}
 use Rattle.formula_core.specs.declared.formula.Formula.{Formula}
-use Rattle.math_print.specs.Printing.{formula_text}
+use Rattle.formula_print.specs.Printing.{formula_text}
 use Rattle.formula_core.specs.Wellness.{is_well}
 use Rattle.formula_core.specs.Substitution.{AreWell}
 use Rattle.reply_text.specs.Statuses.{line}

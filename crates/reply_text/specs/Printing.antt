@@ -4,7 +4,7 @@ use Rattle.std.specs.Fmt.{decimal}
 use Rattle.std.specs.List.{flat_map}
 use Rattle.formula_core.specs.declared.formula.Formula.{Formula}
 use Rattle.math_grammar.specs.Characters.{bytes}
-use Rattle.math_print.specs.Printing.{formula_text}
+use Rattle.formula_print.specs.Printing.{formula_text}
 use Rattle.sequent_core.specs.declared.Sequent.{Sequent}
 use Rattle.core_steps.specs.declared.NodeLine.{NodeLine}
 use Rattle.rule_words.specs.RuleWords.{rule_word}

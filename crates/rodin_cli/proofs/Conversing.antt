@@ -1,5 +1,5 @@
 -- What the words `session WORKERS` come to.
-use Rattle.std.proofs.Common.{◌≡◌, ◌≢◌, ◌∙◌, inl, inr, ℕ, List, sym, subst, arith}
+use Rattle.std.proofs.Common.{◌≡◌, ◌≢◌, ℕ, List, subst, arith}
 use Rattle.outside.specs.Disk.{Sides}
 use Rattle.sequent_core.specs.declared.Sequent.{Sequent}
 use Rattle.sequent_core.specs.declared.Attempt.{Attempt}
@@ -7,7 +7,7 @@ use Rattle.core_steps.specs.declared.Durable.{Durable}
 use Rattle.core_steps.specs.declared.Event.{Event}
 use Rattle.session_streams.specs.Streams.{SourceState, Writing}
 use Rattle.session_ends.specs.Sessions.{Sessions}
-use Rattle.session_ends.specs.Statuses.{IsSessionStatus}
+use Rattle.session_ends.specs.Statuses.{IsSessionStatus, read_through, edit_left_open, reading_failed, writing_failed, disk_failed, no_project, limit_reached, no_memory}
 
 module _ {D : Type 0} {told : Type 0} {bytes_of : D → Sides} {images : D → Sides → Type 0} {faults : D → ℕ} {fair : Sequent → Attempt → Type 0} {sure : Sequent → Type 0} where
   -- one number of workers is the other
@@ -17,11 +17,11 @@ module _ {D : Type 0} {told : Type 0} {bytes_of : D → Sides} {images : D → S
 
 -- a session doesn't end with the status of words of no form
 pub session_not_2 : (status : ℕ) → IsSessionStatus status → status ≢ 2
-session_not_2 status (inl p) e = let q = sym p ∙ e in omega (arith, q)
-session_not_2 status (inr (inl p)) e = let q = sym p ∙ e in omega (arith, q)
-session_not_2 status (inr (inr (inl p))) e = let q = sym p ∙ e in omega (arith, q)
-session_not_2 status (inr (inr (inr (inl p)))) e = let q = sym p ∙ e in omega (arith, q)
-session_not_2 status (inr (inr (inr (inr (inl p))))) e = let q = sym p ∙ e in omega (arith, q)
-session_not_2 status (inr (inr (inr (inr (inr (inl p)))))) e = let q = sym p ∙ e in omega (arith, q)
-session_not_2 status (inr (inr (inr (inr (inr (inr (inl p))))))) e = let q = sym p ∙ e in omega (arith, q)
-session_not_2 status (inr (inr (inr (inr (inr (inr (inr p))))))) e = let q = sym p ∙ e in omega (arith, q)
+session_not_2 _ read_through e = omega (arith, e)
+session_not_2 _ edit_left_open e = omega (arith, e)
+session_not_2 _ reading_failed e = omega (arith, e)
+session_not_2 _ writing_failed e = omega (arith, e)
+session_not_2 _ disk_failed e = omega (arith, e)
+session_not_2 _ no_project e = omega (arith, e)
+session_not_2 _ limit_reached e = omega (arith, e)
+session_not_2 _ no_memory e = omega (arith, e)

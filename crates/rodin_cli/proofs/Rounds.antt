@@ -26,7 +26,8 @@ use Rattle.rodin_cli.specs.declared.outcome.Part.{Part}
 use Rattle.rodin_cli.specs.declared.round.Numbers.{Numbers}
 use Rattle.rodin_cli.specs.declared.session.Session.{Session}
 use Rattle.rodin_cli.specs.Completeness.{IsComplete}
-use Rattle.rodin_cli.specs.Demo.{is_discharged, discharged_in, edited_in, line_after, lasting, Counts, ComesAfter, Demonstrates}
+use Rattle.rodin_cli.specs.Demo.{is_discharged, discharged_in, edited_in, line_after, lasting, Counts, ComesAfter}
+use Rattle.rodin_cli.specs.Demo.{Demonstrates, shows_both, shows_cut, shows_full, shows_front, IsUnfailedDemoStatus, demo_whole, demo_too_large, demo_without_memory}
 use Rattle.rodin_cli.specs.Check.{HasNoHistory, LeadsToPart}
 use Rattle.rodin_cli.specs.Private.{Reaches, FinishesRun, LineStops, RoundShows, RoundStops, ReachesBoth, ReachesStop, ReportsStop, IsUntouched, stop_status}
 use Rattle.rodin_cli.specs.Script.{IsFullScript, IsRound, IsRoundFront}
@@ -55,24 +56,6 @@ ok_so (Err e) A B f a = tt
 pub err_so : {T E : Type 0} (r : Result T E) (P Q : E → Type 0) → ((e : E) → P e → Q e) → IfErr r P → IfErr r Q
 err_so (Ok x) P Q f p = tt
 err_so (Err e) P Q f p = f e p
-
-rose : (status : ℕ) (F : Type 0) → (status ≡ 0) ⊎ ((status ≡ 4) × F) ⊎ (status ≡ 7) ⊎ (status ≡ 9) → status ≡ 4 → F
-rose status F (inl a) e = absurd (omega (arith, a, e))
-rose status F (inr (inl a)) e = a.1
-rose status F (inr (inr (inl a))) e = absurd (omega (arith, a, e))
-rose status F (inr (inr (inr a))) e = absurd (omega (arith, a, e))
-
-without_rise : (status : ℕ) (F : Type 0) → (status ≡ 0) ⊎ ((status ≡ 4) × F) ⊎ (status ≡ 7) ⊎ (status ≡ 9) → (F → ⊥) → (status ≡ 0) ⊎ (status ≡ 7) ⊎ (status ≡ 9)
-without_rise status F (inl a) never = inl a
-without_rise status F (inr (inl a)) never = absurd (never a.1)
-without_rise status F (inr (inr (inl a))) never = inr (inl a)
-without_rise status F (inr (inr (inr a))) never = inr (inr a)
-
-other_status : (status k : ℕ) (F : Type 0) → (status ≡ 0) ⊎ ((status ≡ 4) × F) ⊎ (status ≡ 7) ⊎ (status ≡ 9) → status ≡ k → k ≢ 0 → k ≢ 4 → k ≢ 7 → k ≢ 9 → ⊥
-other_status status k F (inl a) e n0 n4 n7 n9 = n0 (sym e ∙ a)
-other_status status k F (inr (inl a)) e n0 n4 n7 n9 = n4 (sym e ∙ a.0)
-other_status status k F (inr (inr (inl a))) e n0 n4 n7 n9 = n7 (sym e ∙ a)
-other_status status k F (inr (inr (inr a))) e n0 n4 n7 n9 = n9 (sym e ∙ a)
 
 -- a status is one number
 pub not_other : (status a b : ℕ) → status ≡ a → status ≡ b → a ≢ b → ⊥
@@ -277,7 +260,7 @@ module _ (answers : Sequent → Attempt → Type 0) (sure : Sequent → Type 0) 
   -- nothing was done, for want of memory
   pub demo_ran_out_at_once : (seed n : ℕ) (sink : Writing) (part : Part) → part.status ≡ 9 → HasNoHistory part → Writes sink [] → Demonstrates answers sure seed n sink part
   demo_ran_out_at_once seed n sink part status nothing written =
-      inr (inr (inr (record {
+      shows_front (record {
         round = Models seed n;
         done = [];
         text = [];
@@ -287,7 +270,7 @@ module _ (answers : Sequent → Attempt → Type 0) (sure : Sequent → Type 0) 
         leads = record { state = opened no_texts; run = refl; legal = tt; history = nothing.0; last = nothing.1 };
         status_is = status;
         written = written;
-      })))
+      })
 
   module _ (seed n : ℕ) (old new : Session) (part : Part) (enters : EntersAll) (fresh : old.core ≡ opened no_texts) (empty : old.history.items ≡ [])
       (history : part.history.items ≡ new.history.items) (last : part.last ≡ new.core.durable) where
@@ -296,9 +279,9 @@ module _ (answers : Sequent → Attempt → Type 0) (sure : Sequent → Type 0) 
         leads answers sure old new (done ++ exchanges) part
         (record { enters = enters; fresh = fresh; empty = empty; extends = r.extends; legal = r.legal; history = history; last = last })
 
-    pub shows_both : (sink : Writing) → part.status ≡ 0 → ReachesBoth answers sure seed n old new sink → Demonstrates answers sure seed n sink part
-    shows_both sink status (done, text, exchanges, counted, f, written) =
-        inl (record {
+    pub demonstrates_both : (sink : Writing) → part.status ≡ 0 → ReachesBoth answers sure seed n old new sink → Demonstrates answers sure seed n sink part
+    demonstrates_both sink status (done, text, exchanges, counted, f, written) =
+        shows_both (record {
           done = done;
           text = text;
           exchanges = exchanges;
@@ -316,10 +299,10 @@ module _ (answers : Sequent → Attempt → Type 0) (sure : Sequent → Type 0) 
       untouched : (P : Writing → Type 0) → IsUntouched (writing w1 w2 f1 f2) → P (writing w0 w1 f0 f1) → P (writing w0 w2 f0 f2)
       untouched P (w, f) p = subst (λ u. P (writing w0 u f0 f2)) (sym w) (subst (λ g. P (writing w0 w1 f0 g)) (sym f) p)
 
-      pub shows_stop : (stop : Stop) → part.status ≡ stop_status stop → ReachesStop answers sure seed n old new (writing w0 w1 f0 f1) stop → ReportsStop (writing w1 w2 f1 f2) stop →
+      pub demonstrates_stop : (stop : Stop) → part.status ≡ stop_status stop → ReachesStop answers sure seed n old new (writing w0 w1 f0 f1) stop → ReportsStop (writing w1 w2 f1 f2) stop →
           Demonstrates answers sure seed n (writing w0 w2 f0 f2) part
-      shows_stop Full status (round, done, text, exchanges, r, full, written) last_line =
-          inr (inr (inl (record {
+      demonstrates_stop Full status (round, done, text, exchanges, r, full, written) last_line =
+          shows_full (record {
             round = round;
             done = done;
             text = text;
@@ -329,9 +312,9 @@ module _ (answers : Sequent → Attempt → Type 0) (sure : Sequent → Type 0) 
             leads = leads_so round done text exchanges r;
             status_is = status;
             written = Writes-then_last w0 w1 w2 f0 f1 f2 text (codes "full: table\n") written later last_line;
-          })))
-      shows_stop Cut status (round, done, text, exchanges, counted, f, written) kept =
-          inr (inl (record {
+          })
+      demonstrates_stop Cut status (round, done, text, exchanges, counted, f, written) kept =
+          shows_cut (record {
             round = round;
             done = done;
             text = text;
@@ -343,9 +326,9 @@ module _ (answers : Sequent → Attempt → Type 0) (sure : Sequent → Type 0) 
             complete = subst (λ d. IsComplete sure d (done ++ exchanges)) (sym last) f.complete;
             status_is = status;
             written = untouched (λ sink. WritesCut sink (text ++ line_after round counted)) kept written;
-          }))
-      shows_stop OutOfMemory status (round, done, text, exchanges, r, front, written) kept =
-          inr (inr (inr (record {
+          })
+      demonstrates_stop OutOfMemory status (round, done, text, exchanges, r, front, written) kept =
+          shows_front (record {
             round = round;
             done = done;
             text = text;
@@ -355,29 +338,34 @@ module _ (answers : Sequent → Attempt → Type 0) (sure : Sequent → Type 0) 
             leads = leads_so round done text exchanges r;
             status_is = status;
             written = untouched (λ sink. Writes sink text) kept written;
-          })))
+          })
 
   -- THE STATUS
 
-  pub demo_status : (seed n : ℕ) (sink : Writing) (part : Part) → Demonstrates answers sure seed n sink part → (part.status ≡ 0) ⊎ ((part.status ≡ 4) × SinkFailed sink) ⊎ (part.status ≡ 7) ⊎ (part.status ≡ 9)
-  demo_status seed n sink part (inl both) = inl both.status_is
-  demo_status seed n sink part (inr (inl cut)) = inr (inl (cut.status_is, cut.written.0))
-  demo_status seed n sink part (inr (inr (inl full))) = inr (inr (inl full.status_is))
-  demo_status seed n sink part (inr (inr (inr front))) = inr (inr (inr front.status_is))
-
   pub demo_rose : (seed n : ℕ) (sink : Writing) (part : Part) → Demonstrates answers sure seed n sink part → part.status ≡ 4 → SinkFailed sink
-  demo_rose seed n sink part d e = rose part.status (SinkFailed sink) (demo_status seed n sink part d) e
+  demo_rose seed n sink part (shows_both both) e = absurd (not_other part.status 0 4 both.status_is e (omega arith))
+  demo_rose seed n sink part (shows_cut cut) e = cut.written.0
+  demo_rose seed n sink part (shows_full full) e = absurd (not_other part.status 7 4 full.status_is e (omega arith))
+  demo_rose seed n sink part (shows_front lacking) e = absurd (not_other part.status 9 4 lacking.status_is e (omega arith))
 
-  pub demo_without_rise : (seed n : ℕ) (sink : Writing) (part : Part) → Demonstrates answers sure seed n sink part → (SinkFailed sink → ⊥) →
-      (part.status ≡ 0) ⊎ (part.status ≡ 7) ⊎ (part.status ≡ 9)
-  demo_without_rise seed n sink part d never = without_rise part.status (SinkFailed sink) (demo_status seed n sink part d) never
+  pub demo_without_rise : (seed n : ℕ) (sink : Writing) (part : Part) → Demonstrates answers sure seed n sink part → (SinkFailed sink → ⊥) → IsUnfailedDemoStatus part.status
+  demo_without_rise seed n sink part (shows_both both) never = demo_whole both.status_is
+  demo_without_rise seed n sink part (shows_cut cut) never = absurd (never cut.written.0)
+  demo_without_rise seed n sink part (shows_full full) never = demo_too_large full.status_is
+  demo_without_rise seed n sink part (shows_front lacking) never = demo_without_memory lacking.status_is
+
+  demo_not_other : (seed n : ℕ) (sink : Writing) (part : Part) → Demonstrates answers sure seed n sink part → (k : ℕ) → part.status ≡ k → 0 ≢ k → 4 ≢ k → 7 ≢ k → 9 ≢ k → ⊥
+  demo_not_other seed n sink part (shows_both both) k e not_0 not_4 not_7 not_9 = not_other part.status 0 k both.status_is e not_0
+  demo_not_other seed n sink part (shows_cut cut) k e not_0 not_4 not_7 not_9 = not_other part.status 4 k cut.status_is e not_4
+  demo_not_other seed n sink part (shows_full full) k e not_0 not_4 not_7 not_9 = not_other part.status 7 k full.status_is e not_7
+  demo_not_other seed n sink part (shows_front lacking) k e not_0 not_4 not_7 not_9 = not_other part.status 9 k lacking.status_is e not_9
 
   -- no status of `demo` is 2 or 3
   pub demo_not_2 : (seed n : ℕ) (sink : Writing) (part : Part) → Demonstrates answers sure seed n sink part → part.status ≢ 2
-  demo_not_2 seed n sink part d e = other_status part.status 2 (SinkFailed sink) (demo_status seed n sink part d) e (omega arith) (omega arith) (omega arith) (omega arith)
+  demo_not_2 seed n sink part d e = demo_not_other seed n sink part d 2 e (omega arith) (omega arith) (omega arith) (omega arith)
 
   pub demo_not_3 : (seed n : ℕ) (sink : Writing) (part : Part) → Demonstrates answers sure seed n sink part → part.status ≢ 3
-  demo_not_3 seed n sink part d e = other_status part.status 3 (SinkFailed sink) (demo_status seed n sink part d) e (omega arith) (omega arith) (omega arith) (omega arith)
+  demo_not_3 seed n sink part d e = demo_not_other seed n sink part d 3 e (omega arith) (omega arith) (omega arith) (omega arith)
 
   -- the same numbers say the same
   pub same_demo : (seed n s m : ℕ) → seed ≡ s → n ≡ m → (sink : Writing) (part : Part) → Demonstrates answers sure seed n sink part → Demonstrates answers sure s m sink part

@@ -117,15 +117,6 @@ pub record RanOut (answers : Sequent → Attempt → Type 0) (sure : Sequent →
   pub leads : LeadsToPart part exchanges
   pub text : WritesNothing sink
 
--- What comes of an input of these bytes: the answer, the last line where its table is too large or something is wrong
--- with the input, or out of memory.
-abbrev pub ComesOf : (Sequent → Attempt → Type 0) → (Sequent → Type 0) → List ℕ → Writing → Part → Type 0
-ComesOf answers sure bytes sink part =
-    IsAnswered answers sure bytes sink part
-    ⊎ IsTooFull bytes sink part
-    ⊎ ((fault : InputFault) × IsInput bytes (Err fault) × EndsWithLine 1 (input_line fault) sink part)
-    ⊎ RanOut answers sure bytes sink part
-
 -- the input was read: to its end, or its first 67,108,865 bytes
 pub record IsWholeInput (bytes : List ℕ) (source : SourceState) : Type 0 where
   pub taken : TakesBytes source bytes
@@ -136,14 +127,37 @@ pub record IsWholeInput (bytes : List ℕ) (source : SourceState) : Type 0 where
 abbrev pub IsReadInPart : SourceState → Type 0
 IsReadInPart source = (bytes : List ℕ) × TakesBytes source bytes
 
--- The input was read and answered; or it has more than 67,108,864 bytes; or the source failed; or memory ran out while
--- it was read.
-abbrev pub RunsCheck : (Sequent → Attempt → Type 0) → (Sequent → Type 0) → SourceState → Writing → Part → Type 0
-RunsCheck answers sure source sink part =
-    ((bytes : List ℕ) × IsWholeInput bytes source × (length bytes ≤ 67108864) × ComesOf answers sure bytes sink part)
-    ⊎ ((bytes : List ℕ) × IsWholeInput bytes source × (67108864 < length bytes) × EndsWithLine 7 (codes "full: input\n") sink part)
-    ⊎ (SourceFailed source × IsReadInPart source × EndsWithLine 3 (codes "input: read fault\n") sink part)
-    ⊎ (IsReadInPart source × (part.status ≡ 9) × HasNoHistory part × WritesNothing sink)
+module _ (answers : Sequent → Attempt → Type 0) (sure : Sequent → Type 0) where
+  -- What comes of an input of these bytes: the answer, the last line where its table is too large or something is wrong
+  -- with the input, or out of memory.
+  pub data ComesOf (bytes : List ℕ) (sink : Writing) (part : Part) : Type 0 where
+    an_answer : (answered : IsAnswered answers sure bytes sink part) → ComesOf bytes sink part
+    a_full_table : (full : IsTooFull bytes sink part) → ComesOf bytes sink part
+    a_bad_input : (fault : InputFault) (made : IsInput bytes (Err fault)) (ends : EndsWithLine 1 (input_line fault) sink part) → ComesOf bytes sink part
+    want_of_memory : (lacking : RanOut answers sure bytes sink part) → ComesOf bytes sink part
+
+  -- The input was read and answered; or it has more than 67,108,864 bytes; or the source failed; or memory ran out while
+  -- it was read.
+  pub data RunsCheck (source : SourceState) (sink : Writing) (part : Part) : Type 0 where
+    answers_input : (bytes : List ℕ) (read : IsWholeInput bytes source) (fits : length bytes ≤ 67108864) (comes : ComesOf bytes sink part) → RunsCheck source sink part
+    refuses_long_input : (bytes : List ℕ) (read : IsWholeInput bytes source) (long : 67108864 < length bytes) (ends : EndsWithLine 7 (codes "full: input\n") sink part)
+        → RunsCheck source sink part
+    meets_read_fault : (failed : SourceFailed source) (read : IsReadInPart source) (ends : EndsWithLine 3 (codes "input: read fault\n") sink part) → RunsCheck source sink part
+    runs_out_reading : (read : IsReadInPart source) (status_is : part.status ≡ 9) (nothing : HasNoHistory part) (unwritten : WritesNothing sink) → RunsCheck source sink part
+
+-- The exit statuses with which `check` has read its input to the end: nothing is wrong with the input, something is, or
+-- the answer is cut.
+pub data ReadsToEnd (status : ℕ) : Type 0 where
+  input_clean : status ≡ 0 → ReadsToEnd status
+  input_faulty : status ≡ 1 → ReadsToEnd status
+  answer_cut : status ≡ 4 → ReadsToEnd status
+
+-- The exit statuses of a `check` whose source and sink didn't fail.
+pub data IsUnfailedCheckStatus (status : ℕ) : Type 0 where
+  check_clean : status ≡ 0 → IsUnfailedCheckStatus status
+  check_faulty : status ≡ 1 → IsUnfailedCheckStatus status
+  check_too_large : status ≡ 7 → IsUnfailedCheckStatus status
+  check_without_memory : status ≡ 9 → IsUnfailedCheckStatus status
 
 -- the usage line, as the last one
 abbrev pub usage_line : List ℕ

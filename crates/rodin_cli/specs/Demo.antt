@@ -122,8 +122,17 @@ pub record ShowsFront (answers : Sequent → Attempt → Type 0) (sure : Sequent
   pub status_is : part.status ≡ 9
   pub written : Writes sink text
 
--- what `demo` did with this seed and this many models
-abbrev pub Demonstrates : (Sequent → Attempt → Type 0) → (Sequent → Type 0) → ℕ → ℕ → Writing → Part → Type 0
-Demonstrates answers sure seed n sink part =
-    ShowsBoth answers sure seed n sink part ⊎ ShowsCut answers sure seed n sink part
-    ⊎ ShowsFull answers sure seed n sink part ⊎ ShowsFront answers sure seed n sink part
+module _ (answers : Sequent → Attempt → Type 0) (sure : Sequent → Type 0) (seed n : ℕ) (sink : Writing) (part : Part) where
+  -- What `demo` did with this seed and this many models: both rounds are whole, or one stopped, for the sink, for the
+  -- size of its table, or for want of memory.
+  pub data Demonstrates : Type 0 where
+    shows_both : (both : ShowsBoth answers sure seed n sink part) → Demonstrates
+    shows_cut : (cut : ShowsCut answers sure seed n sink part) → Demonstrates
+    shows_full : (full : ShowsFull answers sure seed n sink part) → Demonstrates
+    shows_front : (lacking : ShowsFront answers sure seed n sink part) → Demonstrates
+
+-- The exit statuses of a `demo` whose sink didn't fail.
+pub data IsUnfailedDemoStatus (status : ℕ) : Type 0 where
+  demo_whole : status ≡ 0 → IsUnfailedDemoStatus status
+  demo_too_large : status ≡ 7 → IsUnfailedDemoStatus status
+  demo_without_memory : status ≡ 9 → IsUnfailedDemoStatus status

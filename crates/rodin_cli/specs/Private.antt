@@ -1,7 +1,10 @@
 -- What the clauses of private functions cite.
-use Rattle.std.specs.Prelude.{◌≡◌, ℕ, ◌≤◌, ◌<◌, ◌^◌, List, [], ◌∷◌, ◌++◌, codes}
+use Rattle.std.specs.Prelude.{◌≡◌, ℕ, ◌≤◌, ◌<◌, ◌^◌, List, [], ◌∷◌, ◌++◌, codes, Option}
 use Rattle.sequent_core.specs.declared.Sequent.{Sequent}
 use Rattle.sequent_core.specs.declared.Attempt.{Attempt}
+use Rattle.build_core.specs.declared.FaultLine.{FaultLine}
+use Rattle.proof_entries.specs.declared.Origin.{Origin}
+use Rattle.core_steps.specs.declared.Status.{Status}
 use Rattle.core_steps.specs.declared.Question.TheVariants.{Statuses as AskStatuses}
 use Rattle.core_steps.specs.Run.{Exchange, IsLegal}
 use Rattle.rodin_cli.specs.declared.session.Session.{Session}
@@ -10,12 +13,14 @@ use Rattle.rodin_cli.specs.declared.demo.Round.{Round}
 use Rattle.rodin_cli.specs.declared.demo.Round.TheVariants.{Models, Edit}
 use Rattle.rodin_cli.specs.declared.demo.Stop.{Stop}
 use Rattle.rodin_cli.specs.declared.demo.Stop.TheVariants.{Full, Cut, OutOfMemory}
+use Rattle.rodin_cli.specs.Check.{status_of}
 use Rattle.rodin_cli.specs.Completeness.{IsComplete}
 use Rattle.rodin_cli.specs.Demo.{edited_in, line_after, Counts, ComesAfter}
 use Rattle.rodin_cli.specs.Script.{IsFullScript, IsRoundFront}
 use Rattle.rodin_cli.specs.PrivateSession.{Extends}
 use Rattle.session_streams.specs.Streams.{Writing, Writes, WritesCut, WritesNothing}
 use Rattle.session_ends.specs.Written.{WritesOrFails}
+use Rattle.rodin_cli.specs.Texts.{printed_lines}
 use Rattle.rodin_cli.specs.Words.{IsNumberWord}
 
 -- the word `demo` and two numbers, the first of 64 bits and the second from 1 to 128
@@ -28,6 +33,12 @@ pub record AreDemoWords (word seed_word n_word : List ℕ) (seed n : ℕ) : Type
 pub record AreSessionWords (word workers_word : List ℕ) (workers : ℕ) : Type 0 where
   pub word_is : word ≡ codes "session"
   pub workers_is : IsNumberWord workers_word workers × (workers ≤ 8)
+
+-- what is written of an answer, by the exit status: all of it, a front of it, or nothing for want of memory
+pub data PrintsAnswer (told : List FaultLine) (warned : List (List ℕ × List ℕ)) (shown : List (List ℕ × Status × Option Origin)) (sink : Writing) (status : ℕ) : Type 0 where
+  prints_whole : (status_is : status ≡ status_of told) (written : Writes sink (printed_lines told warned shown)) → PrintsAnswer told warned shown sink status
+  prints_front : (status_is : status ≡ 4) (written : WritesCut sink (printed_lines told warned shown)) → PrintsAnswer told warned shown sink status
+  prints_nothing : (status_is : status ≡ 9) (unwritten : WritesNothing sink) → PrintsAnswer told warned shown sink status
 
 -- there are at most 128 models
 abbrev pub HasFewModels : Round → Type 0

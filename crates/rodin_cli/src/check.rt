@@ -11,11 +11,11 @@ ghost use Rattle.check_input.specs.Inputs.{IsInput};
 ghost use Rattle.rodin_cli.specs.Completeness.{IsComplete};
 ghost use Rattle.rodin_cli.specs.Script.{IsFullScript, IsWholeScript, IsFront};
 ghost use Rattle.rodin_cli.specs.PrivateSession.{Extends, IsUnchanged};
-ghost use Rattle.session_streams.specs.Streams.{reading, writing, Writes, WritesCut, WritesNothing};
+ghost use Rattle.session_streams.specs.Streams.{reading, writing, WritesNothing};
 ghost use Rattle.session_ends.specs.Written.{WritesOrFails};
-ghost use Rattle.rodin_cli.specs.Texts.{printed_lines};
 ghost use Rattle.check_input.specs.Lines.{input_line};
-ghost use Rattle.rodin_cli.specs.Check.{HasNoHistory, EndsWithLine, ComesOf, RunsCheck, status_of};
+ghost use Rattle.rodin_cli.specs.Check.{HasNoHistory, EndsWithLine, ComesOf, RunsCheck, ReadsToEnd, IsUnfailedCheckStatus, status_of};
+ghost use Rattle.rodin_cli.specs.Private.{PrintsAnswer};
 
 use crate::outcome::Part;
 use crate::round::work;
@@ -153,14 +153,8 @@ fn status_of(told: &[FaultLine]) -> u8
 
 // Prints what is told and shown. The status is 9 where memory ran out before anything was written.
 fn answer<O: Sink>(alloc: Global, output: &mut O, shown: &Shown) -> u8
-    ensures { ((result ≡ status_of shown.now.faults) × Writes
-        (writing (O.written output.old) (O.written output.new) (O.faults output.old) (O.faults output.new))
-        (printed_lines shown.now.faults shown.now.warnings shown.now.statuses))
-        ⊎ ((result ≡ 4) × WritesCut
-        (writing (O.written output.old) (O.written output.new) (O.faults output.old) (O.faults output.new))
-        (printed_lines shown.now.faults shown.now.warnings shown.now.statuses))
-        ⊎ ((result ≡ 9) × WritesNothing
-        (writing (O.written output.old) (O.written output.new) (O.faults output.old) (O.faults output.new))) }
+    ensures { PrintsAnswer shown.now.faults shown.now.warnings shown.now.statuses
+        (writing (O.written output.old) (O.written output.new) (O.faults output.old) (O.faults output.new)) result }
 {
     let faults = shown.faults.items();
     let text = match printed(
@@ -273,12 +267,11 @@ pub fn run_check<I: Source, O: Sink, P: Prover>(
     ensures checked { RunsCheck (P.answers prover.now) (P.sure prover.now)
         (reading (I.left input.old) (I.left input.new) (I.faults input.old) (I.faults input.new))
         (writing (O.written output.old) (O.written output.new) (O.faults output.old) (O.faults output.new)) result }
-    ensures ended { (result.status ≡ 0) ⊎ (result.status ≡ 1) ⊎ (result.status ≡ 4) → IsAtEnd (I.left input.new) }
+    ensures ended { ReadsToEnd result.status → IsAtEnd (I.left input.new) }
     ensures read_fault { result.status ≡ 3 → Rose (I.faults input.old) (I.faults input.new) }
     ensures write_fault { result.status ≡ 4 → Rose (O.faults output.old) (O.faults output.new) }
     ensures without_faults { (Rose (I.faults input.old) (I.faults input.new) → ⊥)
-        → (Rose (O.faults output.old) (O.faults output.new) → ⊥)
-        → (result.status ≡ 0) ⊎ (result.status ≡ 1) ⊎ (result.status ≡ 7) ⊎ (result.status ≡ 9) }
+        → (Rose (O.faults output.old) (O.faults output.new) → ⊥) → IsUnfailedCheckStatus result.status }
 {
     check_source(alloc, input, output, prover)
 }

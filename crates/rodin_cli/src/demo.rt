@@ -1,6 +1,6 @@
 // `demo`: models that are made from a seed are built and proved, then a machine is edited, built and proved again, and
 // each time a line with the numbers is printed.
-ghost use Rattle.std.specs.Prelude.{◌≡◌, ◌≢◌, ◌⊎◌, ◌<◌, ◌≤◌, ◌∷◌, [], List, ℕ, IfOk, IfErr, OnOk, OnErr, MatchOption, codes, string_bytes};
+ghost use Rattle.std.specs.Prelude.{◌≡◌, ◌≢◌, ◌<◌, ◌≤◌, ◌∷◌, [], List, ℕ, IfOk, IfErr, OnOk, OnErr, MatchOption, codes, string_bytes};
 ghost use Rattle.outside.specs.Cause.{Rose};
 ghost use Rattle.core_steps.specs.declared.Event.{Event};
 ghost use Rattle.core_steps.specs.declared.Question.{Question};
@@ -10,7 +10,7 @@ ghost use Rattle.core_steps.specs.State.{opened, no_texts};
 ghost use Rattle.rodin_cli.specs.Script.{IsFullScript, IsRoundFront};
 ghost use Rattle.rodin_cli.specs.PrivateSession.{Extends, IsUnchanged};
 ghost use Rattle.session_streams.specs.Streams.{writing, Writes};
-ghost use Rattle.rodin_cli.specs.Demo.{is_discharged, discharged_in, edited_in, line_after, Counts, Demonstrates};
+ghost use Rattle.rodin_cli.specs.Demo.{is_discharged, discharged_in, edited_in, line_after, Counts, Demonstrates, IsUnfailedDemoStatus};
 ghost use Rattle.rodin_cli.specs.Private.{HasFewModels, LineStops, RoundShows, RoundStops, ReachesBoth, ReachesStop, ReportsStop, stop_status};
 
 use crate::check::{no_part, part_from, write_last};
@@ -342,7 +342,7 @@ pub fn run_demo<O: Sink, P: Prover>(
         (writing (O.written output.old) (O.written output.new) (O.faults output.old) (O.faults output.new)) result }
     ensures write_fault { result.status ≡ 4 → Rose (O.faults output.old) (O.faults output.new) }
     ensures without_faults { (Rose (O.faults output.old) (O.faults output.new) → ⊥)
-        → (result.status ≡ 0) ⊎ (result.status ≡ 7) ⊎ (result.status ≡ 9) }
+        → IsUnfailedDemoStatus result.status }
 {
     let seeded = Seeded { seed, n };
     demonstrate::<Brand, O, P>(alloc, seeded, output, prover, Blank::new(1))

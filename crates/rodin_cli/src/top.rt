@@ -1,10 +1,10 @@
 // The top call: the words of the command line, and the tools, the streams and the disk that are handed in.
-ghost use Rattle.std.specs.Prelude.{◌≡◌, ◌⊎◌, ◌↔◌, ℕ};
+ghost use Rattle.std.specs.Prelude.{◌≡◌, ◌↔◌, ℕ};
 ghost use Rattle.std.specs.Io.KnownBytes.{IsAtEnd};
 ghost use Rattle.outside.specs.Cause.{Rose};
 ghost use Rattle.session_streams.specs.Streams.{reading, writing};
-ghost use Rattle.rodin_cli.specs.Check.{RunsCheck, EndsWithLine, IsCheckWords, usage_line};
-ghost use Rattle.rodin_cli.specs.Demo.{Demonstrates};
+ghost use Rattle.rodin_cli.specs.Check.{RunsCheck, ReadsToEnd, IsUnfailedCheckStatus, EndsWithLine, IsCheckWords, usage_line};
+ghost use Rattle.rodin_cli.specs.Demo.{Demonstrates, IsUnfailedDemoStatus};
 ghost use Rattle.prover_pool.specs.Shift.{fair};
 ghost use Rattle.session_ends.specs.Sessions.{Sessions};
 ghost use Rattle.rodin_cli.specs.Words.{HaveNoForm, IsDemoWords, IsSessionWords};
@@ -55,18 +55,16 @@ pub fn run<
     ensures untouched { (IsCheckWords words.now → ⊥) → ((workers : ℕ) → IsSessionWords words.now workers → ⊥) →
         input.new ≡ input.old }
     ensures disk { ((workers : ℕ) → IsSessionWords words.now workers → ⊥) → result.disk ≡ disk }
-    ensures ended { IsCheckWords words.now → (result.status ≡ 0) ⊎ (result.status ≡ 1) ⊎ (result.status ≡ 4) →
-        IsAtEnd (I.left input.new) }
+    ensures ended { IsCheckWords words.now → ReadsToEnd result.status → IsAtEnd (I.left input.new) }
     ensures read_fault { result.status ≡ 3 → Rose (I.faults input.old) (I.faults input.new) }
     ensures write_fault { result.status ≡ 4 → Rose (O.faults output.old) (O.faults output.new) }
     ensures disk_fault { (workers : ℕ) → IsSessionWords words.now workers →
         result.status ≡ 5 → Rose (D.faults disk) (D.faults result.disk) }
     ensures without_faults { IsCheckWords words.now →
         (Rose (I.faults input.old) (I.faults input.new) → ⊥) → (Rose (O.faults output.old) (O.faults output.new) → ⊥) →
-        (result.status ≡ 0) ⊎ (result.status ≡ 1) ⊎ (result.status ≡ 7) ⊎ (result.status ≡ 9) }
+        IsUnfailedCheckStatus result.status }
     ensures demo_without_faults { (seed n : ℕ) → IsDemoWords words.now seed n →
-        (Rose (O.faults output.old) (O.faults output.new) → ⊥) →
-        (result.status ≡ 0) ⊎ (result.status ≡ 7) ⊎ (result.status ≡ 9) }
+        (Rose (O.faults output.old) (O.faults output.new) → ⊥) → IsUnfailedDemoStatus result.status }
 {
     match command_of(words) {
         Some(Command::Check) => with_disk(

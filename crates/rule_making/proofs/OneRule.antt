@@ -4,9 +4,9 @@ use Rattle.formula_core.specs.declared.formula.Formula.{Formula}
 use Rattle.formula_core.specs.declared.raw.Raw.{Raw}
 use Rattle.formula_core.specs.declared.ty.Ty.{Ty}
 use Rattle.formula_core.specs.declared.ty.Ty.TheVariants as ty
-use Rattle.type_core.specs.Answers.{IsTheFormula}
-use Rattle.type_core.specs.Bare.{Bare}
-use Rattle.type_core.specs.CoreForms.{core_form}
+use Rattle.type_formula.specs.Answers.{IsTheFormula}
+use Rattle.type_formula.specs.Bare.{Bare}
+use Rattle.type_formula.specs.CoreForms.{core_form}
 use Rattle.rule_table.specs.declared.rule.Rule.{Rule}
 use Rattle.rule_table.specs.declared.rule.Body.{Body}
 use Rattle.rule_table.specs.declared.kind.RuleKind.{RuleKind}

@@ -5,11 +5,11 @@ use Rattle.formula_core.specs.declared.formula.Formula.{Formula}
 use Rattle.formula_core.specs.declared.raw.Raw.{Raw}
 use Rattle.formula_core.specs.declared.ty.Ty.{Ty}
 use Rattle.formula_core.specs.declared.ty.Ty.TheVariants.{Truth}
-use Rattle.type_core.specs.declared.predicate.TypeFault.{TypeFault}
-use Rattle.type_core.specs.declared.predicate.TypeFault.TheVariants as fault
-use Rattle.type_core.specs.CoreForms.{core_form}
-use Rattle.type_core.specs.Answers.{IsTheFormula, HasNoFormula, HasTwoFormulas}
-use Rattle.type_core.specs.Bare.{Bare}
+use Rattle.type_formula.specs.declared.predicate.TypeFault.{TypeFault}
+use Rattle.type_formula.specs.declared.predicate.TypeFault.TheVariants as fault
+use Rattle.type_formula.specs.CoreForms.{core_form}
+use Rattle.type_formula.specs.Answers.{IsTheFormula, HasNoFormula, HasTwoFormulas}
+use Rattle.type_formula.specs.Bare.{Bare}
 use Rattle.rule_table.specs.Rows.{first}
 use Rattle.rule_making.specs.Make.{IsTerm, IsTypedAlone, AreTerms, without_first}
 

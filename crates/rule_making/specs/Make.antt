@@ -12,9 +12,9 @@ use Rattle.formula_core.specs.declared.ty.Ty.TheVariants.{Truth}
 use Rattle.formula_core.specs.Env.{type_in}
 use Rattle.formula_core.specs.Same.{same_formula, same_list}
 use Rattle.formula_core.specs.Sizes.{IsWithinLimits, type_nodes}
-use Rattle.type_core.specs.Answers.{IsTheFormula}
-use Rattle.type_core.specs.Bare.{Bare}
-use Rattle.type_core.specs.CoreForms.{core_form}
+use Rattle.type_formula.specs.Answers.{IsTheFormula}
+use Rattle.type_formula.specs.Bare.{Bare}
+use Rattle.type_formula.specs.CoreForms.{core_form}
 use Rattle.sequent_core.specs.declared.hint.Hint.{Hint}
 use Rattle.sequent_core.specs.declared.sequent.Sequent.{Sequent}
 use Rattle.sequent_core.specs.Trees.{Fits}

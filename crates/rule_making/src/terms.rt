@@ -2,13 +2,13 @@
 ghost use Rattle.std.specs.Prelude.{◌≡◌, [], List, None, IfOk, MatchOption, slice_get};
 ghost use Rattle.std.specs.Option.{option_copied};
 ghost use Rattle.formula_core.specs.declared.formula.Formula.{Formula};
-ghost use Rattle.type_core.specs.Answers.{IsTheFormula};
-ghost use Rattle.type_core.specs.Views.{bare_of};
+ghost use Rattle.type_formula.specs.Answers.{IsTheFormula};
+ghost use Rattle.type_formula.specs.Views.{bare_of};
 ghost use Rattle.rule_making.specs.Make.{IsTerm, IsTypedAlone, AreTerms};
 
 use formula_core::{Env, Formula, List, OutOfMemory, Raw, Ty};
 use std::alloc::Global;
-use type_core::{Tree, TypeFault, read, type_tree};
+use type_formula::{Tree, TypeFault, read, type_tree};
 
 /// The terms, each with its one typing, the first ones of these types; None where one has no typing or several.
 #[tactic(auto, using(crate::proofs::TermPlaces::laws))]

@@ -1,7 +1,7 @@
 //! Rules and refusals, as they are printed.
 
 use formula_core::{Formula, Ty};
-use math_print::text;
+use formula_print::text;
 use rule_making::RuleFault;
 use rule_table::{Antecedent, Rule};
 use std::alloc::{AllocError, Global};

@@ -16,23 +16,23 @@ use Rattle.project_store.specs.declared.fault.OpenFault.{OpenFault}
 use Rattle.project_store.specs.declared.fault.OpenFault.TheVariants as opening
 use Rattle.project_store.specs.Store.{StoreState, HasCauseOf}
 use Rattle.session_streams.specs.Streams.{SourceState, Writing, SourceFailed, SinkFailed, WritesNothing}
-use Rattle.session_ends.specs.Sessions.{EndsBy, Sessions}
-use Rattle.session_ends.specs.Statuses.{IsSessionStatus, fault_status, opening_status, opening_line}
+use Rattle.session_ends.specs.Sessions.{EndsBy, read_to_its_end, inside_an_edit, at_read_fault, at_write_fault, with_full_input, at_store_fault, without_memory, Sessions}
+use Rattle.session_ends.specs.Statuses.{IsSessionStatus, read_through, edit_left_open, reading_failed, writing_failed, disk_failed, no_project, limit_reached, no_memory, fault_status, opening_status, opening_line}
 use Rattle.session_ends.specs.Written.{WritesOrFails}
 
 known_fault : (f : StoreFault) → IsSessionStatus (fault_status f)
-known_fault fault.SessionFull = inr (inr (inr (inr (inr (inr (inl refl))))))
-known_fault fault.JournalFull = inr (inr (inr (inr (inr (inr (inl refl))))))
-known_fault fault.OutOfMemory = inr (inr (inr (inr (inr (inr (inr refl))))))
-known_fault fault.DiskFault = inr (inr (inr (inr (inl refl))))
-known_fault fault.Failed = inr (inr (inr (inr (inl refl))))
+known_fault fault.SessionFull = limit_reached
+known_fault fault.JournalFull = limit_reached
+known_fault fault.OutOfMemory = no_memory
+known_fault fault.DiskFault = disk_failed
+known_fault fault.Failed = disk_failed
 
 known_opening : (f : OpenFault) → IsSessionStatus (opening_status f)
-known_opening (opening.Foreign side) = inr (inr (inr (inr (inr (inl refl)))))
-known_opening (opening.Damaged side at) = inr (inr (inr (inr (inr (inl refl)))))
-known_opening (opening.TableFull n) = inr (inr (inr (inr (inr (inr (inl refl))))))
-known_opening opening.DiskFault = inr (inr (inr (inr (inl refl))))
-known_opening opening.OutOfMemory = inr (inr (inr (inr (inr (inr (inr refl))))))
+known_opening (opening.Foreign side) = no_project
+known_opening (opening.Damaged side at) = no_project
+known_opening (opening.TableFull n) = limit_reached
+known_opening opening.DiskFault = disk_failed
+known_opening opening.OutOfMemory = no_memory
 
 -- neither of these is the status 3 or 4
 not_streams : (f : StoreFault) → ((fault_status f ≡ 3) ⊎ (fault_status f ≡ 4)) → ⊥
@@ -69,43 +69,43 @@ disk_opening opening.OutOfMemory e = absurd (omega (arith, e))
 
 module _ (fair : Sequent → Attempt → Type 0) (workers : ℕ) (status : ℕ) (kept : Option KeptFault) (source : SourceState) (sink : Writing) (xs : List (ℕ × Exchange)) (s : State) where
   known_end : EndsBy fair workers status kept source sink xs s → IsSessionStatus status
-  known_end (inl (is, none, rest)) = inl is
-  known_end (inr (inl (is, none, rest))) = inr (inl is)
-  known_end (inr (inr (inl (is, none, rest)))) = inr (inr (inl is))
-  known_end (inr (inr (inr (inl (is, none, rest))))) = inr (inr (inr (inl is)))
-  known_end (inr (inr (inr (inr (inl (is, none, rest)))))) = inr (inr (inr (inr (inr (inr (inl is))))))
-  known_end (inr (inr (inr (inr (inr (inl (k, has, is, rest))))))) = subst IsSessionStatus (sym is) (known_fault k.fault)
-  known_end (inr (inr (inr (inr (inr (inr (is, rest))))))) = inr (inr (inr (inr (inr (inr (inr is))))))
+  known_end (read_to_its_end is none how) = subst IsSessionStatus (sym is) read_through
+  known_end (inside_an_edit is none how) = subst IsSessionStatus (sym is) edit_left_open
+  known_end (at_read_fault is none how) = subst IsSessionStatus (sym is) reading_failed
+  known_end (at_write_fault is none how) = subst IsSessionStatus (sym is) writing_failed
+  known_end (with_full_input is none how) = subst IsSessionStatus (sym is) limit_reached
+  known_end (at_store_fault k met is how) = subst IsSessionStatus (sym is) (known_fault k.fault)
+  known_end (without_memory is how) = subst IsSessionStatus (sym is) no_memory
 
   read_end : status ≡ 3 → EndsBy fair workers status kept source sink xs s → SourceFailed source
-  read_end three (inl (is, none, rest)) = absurd (omega (arith, is, three))
-  read_end three (inr (inl (is, none, rest))) = absurd (omega (arith, is, three))
-  read_end three (inr (inr (inl (is, none, e)))) = e.failed
-  read_end three (inr (inr (inr (inl (is, none, rest))))) = absurd (omega (arith, is, three))
-  read_end three (inr (inr (inr (inr (inl (is, none, rest)))))) = absurd (omega (arith, is, three))
-  read_end three (inr (inr (inr (inr (inr (inl (k, has, is, rest))))))) = absurd (not_streams k.fault (inl (sym is ∙ three)))
-  read_end three (inr (inr (inr (inr (inr (inr (is, rest))))))) = absurd (omega (arith, is, three))
+  read_end three (read_to_its_end is none how) = absurd (omega (arith, is, three))
+  read_end three (inside_an_edit is none how) = absurd (omega (arith, is, three))
+  read_end three (at_read_fault is none e) = e.failed
+  read_end three (at_write_fault is none how) = absurd (omega (arith, is, three))
+  read_end three (with_full_input is none how) = absurd (omega (arith, is, three))
+  read_end three (at_store_fault k met is how) = absurd (not_streams k.fault (inl (sym is ∙ three)))
+  read_end three (without_memory is how) = absurd (omega (arith, is, three))
 
   write_end : status ≡ 4 → EndsBy fair workers status kept source sink xs s → SinkFailed sink
-  write_end four (inl (is, none, rest)) = absurd (omega (arith, is, four))
-  write_end four (inr (inl (is, none, rest))) = absurd (omega (arith, is, four))
-  write_end four (inr (inr (inl (is, none, rest)))) = absurd (omega (arith, is, four))
-  write_end four (inr (inr (inr (inl (is, none, e))))) = e.failed
-  write_end four (inr (inr (inr (inr (inl (is, none, rest)))))) = absurd (omega (arith, is, four))
-  write_end four (inr (inr (inr (inr (inr (inl (k, has, is, rest))))))) = absurd (not_streams k.fault (inr (sym is ∙ four)))
-  write_end four (inr (inr (inr (inr (inr (inr (is, rest))))))) = absurd (omega (arith, is, four))
+  write_end four (read_to_its_end is none how) = absurd (omega (arith, is, four))
+  write_end four (inside_an_edit is none how) = absurd (omega (arith, is, four))
+  write_end four (at_read_fault is none how) = absurd (omega (arith, is, four))
+  write_end four (at_write_fault is none e) = e.failed
+  write_end four (with_full_input is none how) = absurd (omega (arith, is, four))
+  write_end four (at_store_fault k met is how) = absurd (not_streams k.fault (inr (sym is ∙ four)))
+  write_end four (without_memory is how) = absurd (omega (arith, is, four))
 
   abbrev Kept : Type 0
   Kept = (k : KeptFault) × (kept ≡ Some k) × (fault_status k.fault ≡ 5)
 
   disk_end : status ≡ 5 → EndsBy fair workers status kept source sink xs s → Kept
-  disk_end five (inl (is, none, rest)) = absurd (omega (arith, is, five))
-  disk_end five (inr (inl (is, none, rest))) = absurd (omega (arith, is, five))
-  disk_end five (inr (inr (inl (is, none, rest)))) = absurd (omega (arith, is, five))
-  disk_end five (inr (inr (inr (inl (is, none, rest))))) = absurd (omega (arith, is, five))
-  disk_end five (inr (inr (inr (inr (inl (is, none, rest)))))) = absurd (omega (arith, is, five))
-  disk_end five (inr (inr (inr (inr (inr (inl (k, has, is, rest))))))) = (k, has, sym is ∙ five)
-  disk_end five (inr (inr (inr (inr (inr (inr (is, rest))))))) = absurd (omega (arith, is, five))
+  disk_end five (read_to_its_end is none how) = absurd (omega (arith, is, five))
+  disk_end five (inside_an_edit is none how) = absurd (omega (arith, is, five))
+  disk_end five (at_read_fault is none how) = absurd (omega (arith, is, five))
+  disk_end five (at_write_fault is none how) = absurd (omega (arith, is, five))
+  disk_end five (with_full_input is none how) = absurd (omega (arith, is, five))
+  disk_end five (at_store_fault k met is how) = (k, met, sym is ∙ five)
+  disk_end five (without_memory is how) = absurd (omega (arith, is, five))
 
 disk_cause : {D : Type 0} (faults : D → ℕ) (st : StoreState D) (f : StoreFault) (event : Event) → fault_status f ≡ 5 → HasCauseOf faults st f event → Rose st.count (faults st.journal.disk)
 disk_cause faults st fault.SessionFull event e cause = absurd (omega (arith, e))
@@ -126,7 +126,7 @@ module _ {D : Type 0} (told : Type 0) (bytes_of : D → Sides) (images : D → S
   known (inl r) = refused r.ends where
     refused : Told r.fault → IsSessionStatus status
     refused (inl (is, w)) = subst IsSessionStatus (sym is) (known_opening r.fault)
-    refused (inr (is, w)) = inr (inr (inr (inr (inr (inr (inr is))))))
+    refused (inr (is, w)) = subst IsSessionStatus (sym is) no_memory
   known (inr p) = known_end fair workers status p.store.kept source sink p.xs p.store.core p.ends
 
   pub read_fault : Ran → status ≡ 3 → SourceFailed source

@@ -26,7 +26,7 @@ use Rattle.session_streams.specs.Streams.{SourceState, Writing, writing, Writes}
 use Rattle.session_talk.specs.declared.Ending.{Ending}
 use Rattle.session_talk.specs.declared.Ending.TheVariants.{Read, Quit, CutEdit, WriteFault, OutOfMemory as Untold, Store}
 use Rattle.session_ends.specs.Ends.{HasAnswered, EndsAtStoreFault, EndsWithoutMemory}
-use Rattle.session_ends.specs.Sessions.{EndsBy}
+use Rattle.session_ends.specs.Sessions.{EndsBy, read_to_its_end, inside_an_edit, at_read_fault, at_write_fault, with_full_input, at_store_fault, without_memory}
 use Rattle.session_ends.specs.Statuses.{fault_status, store_fault_line}
 use Rattle.session_ends.specs.Private.{end_status, end_line, status_at, ending_line}
 use Rattle.session_ends.specs.Written.{WritesThen, WritesOrFails, WritesAt, WritesUpTo}
@@ -121,63 +121,47 @@ module _ (laws : CoreLaws) (fair : Sequent → Attempt → Type 0) (workers : �
   By status = EndsBy fair workers status kept source sink xs s
 
   abbrev lacking : WithoutMemory → By 9
-  lacking e = inr (inr (inr (inr (inr (inr (refl, e))))))
+  lacking e = without_memory refl e
 
   abbrev faulted : (k : KeptFault) → kept ≡ Some k → EndsAtStoreFault fair workers source sink xs k.act.1 (store_fault_line k.fault) s → By (fault_status k.fault)
-  faulted k is e = inr (inr (inr (inr (inr (inl (k, is, refl, e))))))
+  faulted k is e = at_store_fault k is refl e
 
   -- no fault of the store
   pub by_none : kept ≡ None → HaveFinished fair workers xs → (ending : Ending) (over : Overs ending) → Failed ending over → Wrote (end_line ending) → By (end_status ending)
   by_none none finished (Read Ended) (t, writes, why) failed w =
-      inl (refl, none, record { answered = all t; finished = finished; over = inl why; written = nothing_then text writes w })
+      read_to_its_end refl none (record { answered = all t; finished = finished; over = inl why; written = nothing_then text writes w })
   by_none none finished Quit (t, writes, next) failed w =
-      inl (refl, none, record { answered = all t; finished = finished; over = inr next; written = nothing_then text writes w })
-  by_none none finished CutEdit (t, writes, next) failed w = inr (inl (
-    refl,
-    none,
-    record {
-      answered = all t;
-      finished = finished;
-      over = (cut_at_end (take 67108864 taken) ended read.given left read.in_order next, next);
-      written = line_then (end_line CutEdit) writes w;
-    },
-  ))
-  by_none none finished (Read ReadFault) (t, writes, (rose, open_, nothing)) failed w = inr (inr (inl (
-    refl,
-    none,
-    record {
-      failed = rose;
-      answered = all t;
-      finished = finished;
-      over = (open_, nothing);
-      written = line_then (end_line (Read ReadFault)) writes w;
-    },
-  )))
-  by_none none finished WriteFault (line, said, next, t, rose, (n, front)) failed w = inr (inr (inr (inl (
-    refl,
-    none,
-    record {
-      failed = rose_then before after_ last f g h low high rose;
-      reached = (comes WriteFault (line, said, next, t, rose, (n, front))).reach;
-      finished = finished;
-      line = line;
-      said = said;
-      over = refl;
-      front = n;
-      written = nothing_then (text ++ take n said) front w;
-    },
-  ))))
-  by_none none finished (Read FullInput) (t, writes, (full, open_, nothing)) failed w = inr (inr (inr (inr (inl (
-    refl,
-    none,
-    record {
-      answered = all t;
-      finished = finished;
-      full = full;
-      over = (open_, nothing);
-      written = line_then (end_line (Read FullInput)) writes w;
-    },
-  )))))
+      read_to_its_end refl none (record { answered = all t; finished = finished; over = inr next; written = nothing_then text writes w })
+  by_none none finished CutEdit (t, writes, next) failed w = inside_an_edit refl none (record {
+    answered = all t;
+    finished = finished;
+    over = (cut_at_end (take 67108864 taken) ended read.given left read.in_order next, next);
+    written = line_then (end_line CutEdit) writes w;
+  })
+  by_none none finished (Read ReadFault) (t, writes, (rose, open_, nothing)) failed w = at_read_fault refl none (record {
+    failed = rose;
+    answered = all t;
+    finished = finished;
+    over = (open_, nothing);
+    written = line_then (end_line (Read ReadFault)) writes w;
+  })
+  by_none none finished WriteFault (line, said, next, t, rose, (n, front)) failed w = at_write_fault refl none (record {
+    failed = rose_then before after_ last f g h low high rose;
+    reached = (comes WriteFault (line, said, next, t, rose, (n, front))).reach;
+    finished = finished;
+    line = line;
+    said = said;
+    over = refl;
+    front = n;
+    written = nothing_then (text ++ take n said) front w;
+  })
+  by_none none finished (Read FullInput) (t, writes, (full, open_, nothing)) failed w = with_full_input refl none (record {
+    answered = all t;
+    finished = finished;
+    full = full;
+    over = (open_, nothing);
+    written = line_then (end_line (Read FullInput)) writes w;
+  })
   by_none none finished (Read OutOfMemory) over failed w = lacking (no_line_read over failed w)
   by_none none finished Untold over failed w = lacking (not_told over failed w)
   by_none none finished (Store fault) over failed w =

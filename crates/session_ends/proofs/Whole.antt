@@ -1,5 +1,5 @@
 -- A whole session on an opened store, from what its play and its store tell.
-use Rattle.std.proofs.Common.{◌≡◌, inr, ◌∙◌, sym, ap, subst, refl, ℕ, ◌≤◌, true, false, List, [], ◌∷◌, ◌++◌, map, arith}
+use Rattle.std.proofs.Common.{◌≡◌, ◌∙◌, sym, ap, subst, refl, ℕ, ◌≤◌, true, false, List, [], ◌∷◌, ◌++◌, map, arith}
 use Rattle.std.specs.Prelude.{Option, Some, None}
 use Rattle.std.specs.Option.{option_map}
 use Rattle.outside.specs.Disk.{Sides}
@@ -28,7 +28,7 @@ use Rattle.session_talk.specs.declared.Ending.{Ending}
 use Rattle.session_ends.specs.Ends.{IsClean, HasHistory, EndsWithoutMemory}
 use Rattle.session_play.specs.Playing.{IsPlayed}
 use Rattle.session_ends.specs.Private.{PlaysEnd, status_at, ending_line}
-use Rattle.session_ends.specs.Sessions.{EndsBy, IsSession, Opens}
+use Rattle.session_ends.specs.Sessions.{EndsBy, without_memory, IsSession, Opens}
 use Rattle.session_ends.specs.Written.{WritesOrFails}
 use Rattle.session_ends.proofs.Closing.{Came, came, users, then_nothing}
 use Rattle.session_ends.proofs.Endings.{by_none, by_some}
@@ -178,7 +178,7 @@ module _ {D : Type 0} (told : Type 0) (bytes_of : D → Sides) (images : D → S
     stops = sound.stops;
     later = subst (λ n. n ≤ faults st.journal.disk) o.counted sound.counted;
     cause = sound.cause;
-    ends = subst (λ k. EndsBy fair workers 9 k (reading left left lost lost) (writing before last f h) [] st.core) (sym open_) (inr (inr (inr (inr (inr (inr (refl, unread)))))));
+    ends = subst (λ k. EndsBy fair workers 9 k (reading left left lost lost) (writing before last f h) [] st.core) (sym open_) (without_memory refl unread);
   }
 
 pub plays_end : {D : Type 0} (told : Type 0) (bytes_of : D → Sides) (images : D → Sides → Type 0) (faults : D → ℕ) (fair : Sequent → Attempt → Type 0) (sure : Sequent → Type 0) →

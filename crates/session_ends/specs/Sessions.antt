@@ -21,19 +21,24 @@ use Rattle.session_ends.specs.Ends.{EndsWithFullInput, EndsAtStoreFault, EndsWit
 use Rattle.session_ends.specs.Statuses.{fault_status, store_fault_line, opening_status, opening_line}
 use Rattle.session_ends.specs.Written.{WritesOrFails}
 
-module _ (fair : Sequent → Attempt → Type 0) (workers : ℕ) where
+module _ (fair : Sequent → Attempt → Type 0) (workers : ℕ) (status : ℕ) (kept : Option KeptFault)
+    (source : SourceState) (sink : Writing) (xs : List (ℕ × Exchange)) (s : State) where
   -- How an opened session ended: by its status, and the first fault of the store, if it met one. A fault of the store
   -- goes before all but want of memory of the commands.
-  abbrev pub EndsBy : ℕ → Option KeptFault → SourceState → Writing → List (ℕ × Exchange) → State → Type 0
-  EndsBy status kept source sink xs s =
-      ((status ≡ 0) × (kept ≡ None) × EndsWell fair workers source sink xs)
-      ⊎ ((status ≡ 1) × (kept ≡ None) × EndsInsideEdit fair workers source sink xs)
-      ⊎ ((status ≡ 3) × (kept ≡ None) × EndsAtReadFault fair workers source sink xs)
-      ⊎ ((status ≡ 4) × (kept ≡ None) × EndsAtWriteFault fair workers source sink xs)
-      ⊎ ((status ≡ 7) × (kept ≡ None) × EndsWithFullInput fair workers source sink xs)
-      ⊎ ((k : KeptFault) × (kept ≡ Some k) × (status ≡ fault_status k.fault)
-      × EndsAtStoreFault fair workers source sink xs k.act.1 (store_fault_line k.fault) s)
-      ⊎ ((status ≡ 9) × EndsWithoutMemory fair workers source sink xs (option_map (λ k. k.act.1) kept) s)
+  pub data EndsBy : Type 0 where
+    read_to_its_end : (is : status ≡ 0) (none : kept ≡ None) (how : EndsWell fair workers source sink xs) → EndsBy
+    inside_an_edit : (is : status ≡ 1) (none : kept ≡ None) (how : EndsInsideEdit fair workers source sink xs) → EndsBy
+    at_read_fault : (is : status ≡ 3) (none : kept ≡ None) (how : EndsAtReadFault fair workers source sink xs) → EndsBy
+    at_write_fault :
+        (is : status ≡ 4) (none : kept ≡ None) (how : EndsAtWriteFault fair workers source sink xs) → EndsBy
+    with_full_input :
+        (is : status ≡ 7) (none : kept ≡ None) (how : EndsWithFullInput fair workers source sink xs) → EndsBy
+    at_store_fault :
+        (k : KeptFault) (met : kept ≡ Some k) (is : status ≡ fault_status k.fault)
+        (how : EndsAtStoreFault fair workers source sink xs k.act.1 (store_fault_line k.fault) s) → EndsBy
+    without_memory :
+        (is : status ≡ 9)
+        (how : EndsWithoutMemory fair workers source sink xs (option_map (λ k. k.act.1) kept) s) → EndsBy
 
 module _ {D : Type 0} (told : Type 0) (bytes_of : D → Sides) (images : D → Sides → Type 0) (faults : D → ℕ) where
   -- The project on the disk was opened: its sides stand for the base, and for nothing else.

@@ -1,5 +1,5 @@
 -- Exit statuses and last lines.
-use Rattle.std.specs.Prelude.{◌≡◌, ◌⊎◌, ℕ, List, [], ◌++◌, codes}
+use Rattle.std.specs.Prelude.{ℕ, List, [], ◌++◌, codes}
 use Rattle.std.specs.Fmt.{decimal}
 use Rattle.outside.specs.declared.side.Side.{Side}
 use Rattle.outside.specs.declared.side.Side.TheVariants.{Left, Right}
@@ -44,6 +44,12 @@ opening_line opening.DiskFault = codes "project: disk fault\n"
 opening_line opening.OutOfMemory = []
 
 -- the exit statuses of a session
-abbrev pub IsSessionStatus : ℕ → Type 0
-IsSessionStatus status =
-    (status ≡ 0) ⊎ (status ≡ 1) ⊎ (status ≡ 3) ⊎ (status ≡ 4) ⊎ (status ≡ 5) ⊎ (status ≡ 6) ⊎ (status ≡ 7) ⊎ (status ≡ 9)
+pub data IsSessionStatus : ℕ → Type 0 where
+  read_through : IsSessionStatus 0
+  edit_left_open : IsSessionStatus 1
+  reading_failed : IsSessionStatus 3
+  writing_failed : IsSessionStatus 4
+  disk_failed : IsSessionStatus 5
+  no_project : IsSessionStatus 6
+  limit_reached : IsSessionStatus 7
+  no_memory : IsSessionStatus 9

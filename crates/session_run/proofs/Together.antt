@@ -27,7 +27,7 @@ use Rattle.store_log.specs.History.{exchanges_of, own}
 use Rattle.store_log.specs.StoreLog.{chair_of, done, marks, store_meaning}
 use Rattle.session_run.specs.Workers.{Works, begins as none_yet, finds_nothing, takes, finishes, HaveWorked, HaveFinished}
 use Rattle.session_run.specs.Dialogue.{Next, owes, Answering, one_begins, one_answered, auto_begins, auto_takes, auto_refused, auto_finishes, wait_begins, wait_takes, wait_finishes, wait_finds_nothing, wait_is_busy, wait_is_idle, refused, Dialogue, begins, answers_line}
-use Rattle.session_run.specs.OneHistory.{IsUsersEvent, IsUsersLine, with_begun, Reached, Played, IsFailedEvent, OneHistory}
+use Rattle.session_run.specs.OneHistory.{IsUsersEvent, IsUsersLine, with_begun, Reached, Played, IsFailedEvent, next_of_chair_0, take_of_worker, fair_finish, OneHistory}
 use Rattle.session_run.proofs.Runs.{CoreLaws}
 use Rattle.session_run.proofs.Steps.{is_finish, is_take}
 use Rattle.session_run.proofs.Legal.{Hands, hands_both, hands_one, given, GivesByTakes, takes_give, own_all, EndsFairly, ends_fairly, fair_legal}
@@ -230,13 +230,13 @@ module _ (fair : Sequent → Attempt → Type 0) where
     marked_log chair event is = p.store.entries ∙ ap (λ m. map done xs ++ marks m) is
 
     failed_worker : (chair : ℕ) (event : Event) → mark ≡ Some (chair, event) → Fails laws fair base chair event (own chair xs) → IsFailedEvent fair begun s event
-    failed_worker chair event is (inl take) = inr (inl take)
+    failed_worker chair event is (inl take) = take_of_worker take
     failed_worker chair event is (inr (t, a, works, finish, good)) =
-        inr (inr (t, a, fairly.out chair t (hands_one fair None (each_hands chair).0 (Some t) (own chair xs) (each_hands chair).1 (works_hands fair works)), finish, good))
+        fair_finish t a (fairly.out chair t (hands_one fair None (each_hands chair).0 (Some t) (own chair xs) (each_hands chair).1 (works_hands fair works))) finish good
 
     failed_event : (chair : ℕ) (event : Event) → mark ≡ Some (chair, event) → IsFailedEvent fair begun s event
     failed_event chair event is = dite (ℕ_discrete chair 0)
-        (λ zero_. inl (p.own_mark event (is ∙ ap (λ c. Some (c, event)) zero_)))
+        (λ zero_. next_of_chair_0 (p.own_mark event (is ∙ ap (λ c. Some (c, event)) zero_)))
         (λ other. let above : 0 < chair = omega (arith, other) in by above)
       where
         by : 0 < chair → IsFailedEvent fair begun s event

@@ -1,5 +1,5 @@
 -- The law of a session over lists alone: from what each chair knows to the one history.
-use Rattle.std.specs.Prelude.{◌≡◌, ◌⊎◌, ℕ, ◌+◌, ◌<◌, List, [], ◌∷◌, ◌++◌, Option, Some, None}
+use Rattle.std.specs.Prelude.{◌≡◌, ℕ, ◌+◌, ◌<◌, List, [], ◌∷◌, ◌++◌, Option, Some, None}
 use Rattle.std.specs.List.{AllByRecursion}
 use Rattle.sequent_core.specs.declared.Sequent.{Sequent}
 use Rattle.sequent_core.specs.declared.Ticket.{Ticket}
@@ -61,11 +61,10 @@ module _ (fair : Sequent → Attempt → Type 0) where
 
   -- The event at which the store met its first fault: the next one of chair 0, a take of a worker, or the fair finish of a
   -- ticket that is out.
-  abbrev pub IsFailedEvent : Option (Line × Next) → State → Event → Type 0
-  IsFailedEvent begun s event =
-      IsNextOf begun event
-      ⊎ (event ≡ Take None)
-      ⊎ ((t : Ticket) × (a : Attempt) × Among t s.out × (event ≡ Finish t.number a) × fair t.sequent a)
+  pub data IsFailedEvent (begun : Option (Line × Next)) (s : State) (event : Event) : Type 0 where
+    next_of_chair_0 : IsNextOf begun event → IsFailedEvent begun s event
+    take_of_worker : event ≡ Take None → IsFailedEvent begun s event
+    fair_finish : (t : Ticket) (a : Attempt) → Among t s.out → event ≡ Finish t.number a → fair t.sequent a → IsFailedEvent begun s event
 
   -- Then the history is legal, each finish in it is one of a ticket that is out, with a fair attempt, the workers did what
   -- workers do, and without a mark each of them took at least once and finished what it took.

@@ -7,7 +7,7 @@ use crate::line::{Line, LineFault};
 use crate::speaking::{spoken_line, text_of};
 use core_steps::Event;
 use formula_core::{Name, OutOfMemory, Text, is_identifier};
-use math_parse::read_name;
+use formula_parse::read_name;
 use session_lines::Command;
 use std::alloc::Global;
 

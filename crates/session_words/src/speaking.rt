@@ -17,7 +17,7 @@ use crate::said::Said;
 use crate::verbs::{Verb, verb_named};
 use core_steps::{Event, Question};
 use formula_core::{List, NameFault, OutOfMemory, PoName};
-use math_parse::read_name;
+use formula_parse::read_name;
 use rule_words::rule_named;
 use sequent_core::{Hint, Path};
 use session_lines::{after_blanks, first_word};

@@ -3,8 +3,8 @@ use Rattle.std.proofs.Common.{◌≡◌, ◌∙◌, inl, inr, sym, ap, subst, �
 use Rattle.std.specs.Prelude.{Ok, Err, MatchOption}
 use Rattle.formula_core.specs.declared.raw.Ref.{Ref}
 use Rattle.formula_core.specs.declared.formula.Formula.{Formula}
-use Rattle.type_core.specs.Answers.{HasNoFormula, HasTwoFormulas}
-use Rattle.type_core.specs.CoreForms.{core_form}
+use Rattle.type_formula.specs.Answers.{HasNoFormula, HasTwoFormulas}
+use Rattle.type_formula.specs.CoreForms.{core_form}
 use Rattle.model_core.specs.declared.fault.Fault.{Fault}
 use Rattle.model_core.specs.declared.component.RawEvent.{RawEvent}
 use Rattle.model_core.specs.declared.component.RawComponent.{RawComponent}

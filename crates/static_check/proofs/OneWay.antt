@@ -1,7 +1,7 @@
 -- Formulas are typed in one way, and have one list of faults.
 use Rattle.std.proofs.Common.{◌≡◌, ◌∙◌, inl, inr, sym, ap, subst, ℕ, List, [], ◌∷◌, Option, Some, None}
 use Rattle.formula_core.specs.declared.formula.Formula.{Formula}
-use Rattle.type_core.specs.Answers.{HasNoTyping, HasTwoTypings}
+use Rattle.type_formula.specs.Answers.{HasNoTyping, HasTwoTypings}
 use Rattle.type_action.specs.Answers.{IsActionTyping}
 use Rattle.type_action.specs.Results.{HasNone, HasTwo}
 use Rattle.model_core.specs.declared.fault.Fault.{Fault}
@@ -10,7 +10,7 @@ use Rattle.model_core.specs.declared.component.RawLabelled.{RawLabelled}
 use Rattle.model_core.specs.declared.component.RawStep.{RawStep}
 use Rattle.model_core.specs.declared.checked.Labelled.{Labelled}
 use Rattle.model_core.specs.Faults.{fault_at}
-use Rattle.check_rules.specs.Typed.{Entries, LabelledAction, IsMistyped, IsMistypedPredicate, HasTyping, AreTyped, AreTypedActions, labelled_of}
+use Rattle.check_rules.specs.Typed.{Entries, LabelledAction, IsMistyped, unknown_name, types_clash, no_single_type, IsMistypedPredicate, HasTyping, AreTyped, AreTypedActions, labelled_of}
 
 some_none : {A P : Type 0} (o : Option A) (x : A) → o ≡ Some x → o ≡ None → P
 some_none o x e f = absurd (never (sym f ∙ e))
@@ -24,23 +24,23 @@ same_some x y e = cc
 -- a formula has one fault of kinds 13 to 15
 pub mistyped_one : (component : List ℕ) (unknown : Option (List ℕ × ℕ)) (Clashes IsOpen : Type 0) (first : ℕ) (f g : Fault) → (Clashes → IsOpen → ⊥) →
     IsMistyped component unknown Clashes IsOpen first f → IsMistyped component unknown Clashes IsOpen first g → f ≡ g
-mistyped_one component unknown Clashes IsOpen first f g apart (inl a) (inl b) =
-    a.3 ∙ ap (λ p. fault_at component kind.Unknown p.1 p.0) (same_some (a.0, a.1) (b.0, b.1) (sym a.2 ∙ b.2)) ∙ sym b.3
-mistyped_one component unknown Clashes IsOpen first f g apart (inl a) (inr (inl b)) = some_none unknown (a.0, a.1) a.2 b.0
-mistyped_one component unknown Clashes IsOpen first f g apart (inl a) (inr (inr b)) = some_none unknown (a.0, a.1) a.2 b.0
-mistyped_one component unknown Clashes IsOpen first f g apart (inr (inl a)) (inl b) = some_none unknown (b.0, b.1) b.2 a.0
-mistyped_one component unknown Clashes IsOpen first f g apart (inr (inl a)) (inr (inl b)) = a.2 ∙ sym b.2
-mistyped_one component unknown Clashes IsOpen first f g apart (inr (inl a)) (inr (inr b)) = absurd (apart a.1 b.1)
-mistyped_one component unknown Clashes IsOpen first f g apart (inr (inr a)) (inl b) = some_none unknown (b.0, b.1) b.2 a.0
-mistyped_one component unknown Clashes IsOpen first f g apart (inr (inr a)) (inr (inl b)) = absurd (apart b.1 a.1)
-mistyped_one component unknown Clashes IsOpen first f g apart (inr (inr a)) (inr (inr b)) = a.2 ∙ sym b.2
+mistyped_one component unknown Clashes IsOpen first f g apart (unknown_name n p u is) (unknown_name m q v same) =
+    is ∙ ap (λ w. fault_at component kind.Unknown w.1 w.0) (same_some (n, p) (m, q) (sym u ∙ v)) ∙ sym same
+mistyped_one component unknown Clashes IsOpen first f g apart (unknown_name n p u is) (types_clash v c same) = some_none unknown (n, p) u v
+mistyped_one component unknown Clashes IsOpen first f g apart (unknown_name n p u is) (no_single_type v o same) = some_none unknown (n, p) u v
+mistyped_one component unknown Clashes IsOpen first f g apart (types_clash u c is) (unknown_name m q v same) = some_none unknown (m, q) v u
+mistyped_one component unknown Clashes IsOpen first f g apart (types_clash u c is) (types_clash v d same) = is ∙ sym same
+mistyped_one component unknown Clashes IsOpen first f g apart (types_clash u c is) (no_single_type v o same) = absurd (apart c o)
+mistyped_one component unknown Clashes IsOpen first f g apart (no_single_type u o is) (unknown_name m q v same) = some_none unknown (m, q) v u
+mistyped_one component unknown Clashes IsOpen first f g apart (no_single_type u o is) (types_clash v c same) = absurd (apart c o)
+mistyped_one component unknown Clashes IsOpen first f g apart (no_single_type u o is) (no_single_type v k same) = is ∙ sym same
 
 -- what has its typing has none of them
 pub not_mistyped : (component : List ℕ) (unknown : Option (List ℕ × ℕ)) (Clashes IsOpen : Type 0) (first : ℕ) (f : Fault) → unknown ≡ None → (Clashes → ⊥) → (IsOpen → ⊥) →
     IsMistyped component unknown Clashes IsOpen first f → ⊥
-not_mistyped component unknown Clashes IsOpen first f e c o (inl a) = some_none unknown (a.0, a.1) a.2 e
-not_mistyped component unknown Clashes IsOpen first f e c o (inr (inl a)) = c a.1
-not_mistyped component unknown Clashes IsOpen first f e c o (inr (inr a)) = o a.1
+not_mistyped component unknown Clashes IsOpen first f e c o (unknown_name n p u is) = some_none unknown (n, p) u e
+not_mistyped component unknown Clashes IsOpen first f e c o (types_clash u clashes is) = c clashes
+not_mistyped component unknown Clashes IsOpen first f e c o (no_single_type u several is) = o several
 
 predicate_typed : (component : List ℕ) (env : Entries) (wanted : List (List ℕ)) (l : RawLabelled) (f : Formula) (next : Entries) (fault : Fault) →
     HasTyping env wanted l.formula f next → IsMistypedPredicate component env wanted l fault → ⊥

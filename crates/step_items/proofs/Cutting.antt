@@ -10,9 +10,9 @@ use Rattle.math_tokens.specs.declared.cutting.TokenFault.{TokenFault}
 use Rattle.math_tokens.specs.declared.cutting.TokenFault.TheVariants as fault
 use Rattle.math_grammar.specs.declared.holes.Hole.{Hole}
 use Rattle.math_grammar.specs.Tokens.{items_of}
-use Rattle.math_parse.specs.Limits.{IsSentence, FindsFormula}
-use Rattle.math_parse.specs.declared.fault.ParseFault.{ParseFault}
-use Rattle.math_parse.specs.declared.fault.ParseFault.TheVariants as parse
+use Rattle.formula_parse.specs.Limits.{IsSentence, FindsFormula}
+use Rattle.formula_parse.specs.declared.fault.ParseFault.{ParseFault}
+use Rattle.formula_parse.specs.declared.fault.ParseFault.TheVariants as parse
 use Rattle.step_items.specs.Terms.{IsTermText}
 use Rattle.step_items.proofs.OneWay.{tokens_in}
 

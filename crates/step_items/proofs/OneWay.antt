@@ -10,7 +10,7 @@ use Rattle.math_tokens.specs.declared.cutting.TokenFault.{TokenFault}
 use Rattle.math_grammar.specs.declared.holes.Hole.{Hole}
 use Rattle.math_grammar.specs.Tokens.{Item as Symbol, items_of}
 use Rattle.math_grammar.specs.Grammar.{Spells}
-use Rattle.math_parse.specs.Limits.{most_parts, IsSentence}
+use Rattle.formula_parse.specs.Limits.{most_parts, IsSentence}
 use Rattle.sequent_core.specs.declared.hint.Hint.{Hint}
 use Rattle.step_items.specs.declared.item.Item.{Item}
 use Rattle.step_items.specs.Hints.{terms_in_item, laws_of, only_law, IsHint}

@@ -7,7 +7,7 @@ use Rattle.math_tokens.specs.SignForms.{sign_forms}
 use Rattle.math_tokens.specs.Texts.{Cut}
 use Rattle.math_grammar.specs.declared.holes.Hole.{Hole}
 use Rattle.math_grammar.specs.Tokens.{items_of}
-use Rattle.math_parse.specs.Limits.{IsSentence}
+use Rattle.formula_parse.specs.Limits.{IsSentence}
 
 -- The bytes spell the formula, a predicate or an expression as the hole says.
 pub record IsTermText (hole : Hole) (bytes : List ℕ) (t : Raw) : Type 0 where

@@ -9,7 +9,7 @@ use crate::item::Item;
 use crate::numbers::{multiplier_of, number_of, small_number_of};
 use crate::paths::path_of;
 use formula_core::{List, OutOfMemory};
-use math_parse::read_name;
+use formula_parse::read_name;
 use session_lines::{after_blanks, first_word};
 use std::alloc::Global;
 

@@ -4,7 +4,7 @@ ghost use Rattle.sequent_core.specs.declared.hint.Hint.{Hint};
 ghost use Rattle.step_items.specs.declared.item.Item.{Item};
 ghost use Rattle.step_items.specs.Hints.{IsHint};
 
-use math_parse::one_formula;
+use formula_parse::one_formula;
 use math_tokens::cut_one_way;
 
 /// Items give at most one hint.

@@ -7,11 +7,11 @@ ghost use Rattle.math_tokens.specs.SignForms.{sign_forms};
 ghost use Rattle.math_tokens.specs.Texts.{Cut};
 ghost use Rattle.math_grammar.specs.declared.holes.Hole.TheVariants as hole;
 ghost use Rattle.math_grammar.specs.Tokens.{items_of};
-ghost use Rattle.math_parse.specs.Limits.{IsSentence};
+ghost use Rattle.formula_parse.specs.Limits.{IsSentence};
 ghost use Rattle.step_items.specs.Terms.{IsTermText};
 
 use formula_core::{OutOfMemory, Raw};
-use math_parse::{ParseFault, expression, predicate};
+use formula_parse::{ParseFault, expression, predicate};
 use math_tokens::{Token, TokenFault, cut_one_way, tokens};
 use std::alloc::Global;
 

@@ -11,13 +11,13 @@ use Rattle.formula_core.specs.Env.{type_in}
 use Rattle.formula_core.specs.Identifiers.{carriers}
 use Rattle.formula_core.specs.Typed.{Stands, HasCarriers, IsTypedIn}
 use Rattle.formula_core.specs.Wellness.{type_of}
-use Rattle.type_core.specs.Answers.{with_typed_name}
-use Rattle.type_core.specs.Bare.{Bare}
-use Rattle.type_core.proofs.Named.{Entries, all_each, IsWithin, within_name, found_has, name_has}
-use Rattle.type_core.proofs.Settled.{IsOver, over-Truth, over-Pow}
-use Rattle.type_core.proofs.Retyped.{retyped, typing_retyped}
-use Rattle.type_core.proofs.Standing.{stands_after}
-use Rattle.type_core.proofs.WellTyped.{formula_well}
+use Rattle.type_formula.specs.Answers.{with_typed_name}
+use Rattle.type_formula.specs.Bare.{Bare}
+use Rattle.type_formula.proofs.Named.{Entries, all_each, IsWithin, within_name, found_has, name_has}
+use Rattle.type_formula.proofs.Settled.{IsOver, over-Truth, over-Pow}
+use Rattle.type_formula.proofs.Retyped.{retyped, typing_retyped}
+use Rattle.type_formula.proofs.Standing.{stands_after}
+use Rattle.type_formula.proofs.WellTyped.{formula_well}
 use Rattle.type_action.specs.CoreActions.{CoreAction, Assign, ChooseIn, ChooseSuch, core_action, typed_targets, primed, primed_targets, with_all, env_after}
 use Rattle.type_action.specs.Laws.{IsActionIn, TypedActionsStand}
 use Rattle.type_action.specs.Results.{IsOnly}

@@ -1,8 +1,8 @@
 -- What the answers about parts say of the whole.
 use Rattle.std.proofs.Common.{◌≡◌, ◌∙◌, sym, ap, subst, refl, ℕ, List, [], ◌∷◌, ◌++◌, append_assoc, Option, Some, None, Result, Ok, Err, IfOk, IfErr, IsOk, OnOk}
 use Rattle.std.specs.Result.{IsErrOf}
-use Rattle.type_core.specs.declared.predicate.TypeFault.{TypeFault}
-use Rattle.type_core.specs.declared.predicate.TypeFault.TheVariants as fault
+use Rattle.type_formula.specs.declared.predicate.TypeFault.{TypeFault}
+use Rattle.type_formula.specs.declared.predicate.TypeFault.TheVariants as fault
 use Rattle.type_action.specs.Results.{IsOnly, HasNone, HasTwo}
 use Rattle.type_action.specs.Private.{IsAdded, TellsFault, TellsAfter}
 

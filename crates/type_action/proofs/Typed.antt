@@ -10,12 +10,12 @@ use Rattle.formula_core.specs.declared.raw.Action.{Action}
 use Rattle.formula_core.specs.declared.raw.Action.TheVariants as action
 use Rattle.formula_core.specs.Env.{type_in}
 use Rattle.formula_core.specs.Names.{is_identifier}
-use Rattle.type_core.specs.Bare.{Bare}
-use Rattle.type_core.specs.Answers.{HasTwoFormulas}
-use Rattle.type_core.proofs.WellTyped.{formula_well}
+use Rattle.type_formula.specs.Bare.{Bare}
+use Rattle.type_formula.specs.Answers.{HasTwoFormulas}
+use Rattle.type_formula.proofs.WellTyped.{formula_well}
 use Rattle.type_action.specs.CoreActions.{CoreAction, Assign, ChooseIn, ChooseSuch, target_type, with_target, typed_targets, unknown_targets, primed_targets, agree, env_after}
 use Rattle.type_action.specs.Typings.{IsFormulaOf, IsTypedAssignment, AreTypedAssignments, IsActionOf, IsWellAs, IsWellAction}
-use Rattle.type_core.specs.declared.predicate.TypeFault.{TypeFault}
+use Rattle.type_formula.specs.declared.predicate.TypeFault.{TypeFault}
 use Rattle.type_action.specs.Results.{IsOnly, HasNone, HasTwo}
 use Rattle.type_action.specs.Private.{IsAdded, TellsFault}
 use Rattle.type_action.proofs.Told.{IsFormOf, IsListOf, list_added, first_none, rest_fault, first_untyped}

@@ -3,7 +3,7 @@ use Rattle.std.proofs.Common.{◌≡◌, ◌∙◌, sym, ap, refl, ℕ, Bool, tr
 use Rattle.std.specs.Prelude.{nat_lt, is_some}
 use Rattle.formula_core.specs.declared.ty.Ty.{Ty}
 use Rattle.formula_core.specs.declared.raw.Ref.{Ref}
-use Rattle.type_core.specs.Unknowns.{earlier_name, first_name_by_place}
+use Rattle.type_formula.specs.Unknowns.{earlier_name, first_name_by_place}
 use Rattle.type_action.specs.CoreActions.{target_type, unknown_targets}
 
 abbrev Names : Type 0

@@ -11,10 +11,10 @@ use Rattle.formula_core.specs.Env.{type_in}
 use Rattle.formula_core.specs.Formulas.{joined}
 use Rattle.formula_core.specs.Names.{is_identifier, prime}
 use Rattle.formula_core.specs.Types.{same_type}
-use Rattle.type_core.specs.Answers.{with_typed_name}
-use Rattle.type_core.specs.Bare.{Bare, Identifier, Form}
-use Rattle.type_core.specs.CoreForms.{core_form, single_part, two}
-use Rattle.type_core.specs.Unknowns.{unknowns, first_name_by_place}
+use Rattle.type_formula.specs.Answers.{with_typed_name}
+use Rattle.type_formula.specs.Bare.{Bare, Identifier, Form}
+use Rattle.type_formula.specs.CoreForms.{core_form, single_part, two}
+use Rattle.type_formula.specs.Unknowns.{unknowns, first_name_by_place}
 
 -- an action in core form
 pub data CoreAction : Type 0 where

@@ -2,9 +2,9 @@
 use Rattle.std.specs.Prelude.{◌≡◌, List, ◌++◌, ℕ, Option, Some, None, Result, Ok, Err}
 use Rattle.formula_core.specs.declared.ty.Ty.{Ty}
 use Rattle.formula_core.specs.declared.raw.Action.{Action}
-use Rattle.type_core.specs.declared.predicate.TypeFault.{TypeFault}
-use Rattle.type_core.specs.declared.predicate.TypeFault.TheVariants as fault
-use Rattle.type_core.specs.Unknowns.{first_name_by_place}
+use Rattle.type_formula.specs.declared.predicate.TypeFault.{TypeFault}
+use Rattle.type_formula.specs.declared.predicate.TypeFault.TheVariants as fault
+use Rattle.type_formula.specs.Unknowns.{first_name_by_place}
 use Rattle.type_action.specs.Results.{IsOnly, HasNone, HasTwo}
 use Rattle.type_action.specs.CoreActions.{CoreAction, unknowns_of}
 use Rattle.type_action.specs.Typings.{IsActionOf}

@@ -10,8 +10,8 @@ use Rattle.formula_core.specs.declared.raw.Action.{Action}
 use Rattle.formula_core.specs.declared.raw.Action.TheVariants as action
 use Rattle.formula_core.specs.Env.{type_in}
 use Rattle.formula_core.specs.Wellness.{is_well, type_of}
-use Rattle.type_core.specs.Answers.{IsTypedAs}
-use Rattle.type_core.specs.Bare.{Bare}
+use Rattle.type_formula.specs.Answers.{IsTypedAs}
+use Rattle.type_formula.specs.Bare.{Bare}
 use Rattle.type_action.specs.CoreActions.{CoreAction, Assign, ChooseIn, ChooseSuch, target_type, typed_targets, unknown_targets, primed_targets, env_after, agree}
 
 -- a formula of this type, in which no name is wanted

@@ -2,9 +2,9 @@
 ghost use Rattle.std.specs.Prelude.{◌≡◌, ℕ, [], ◌∷◌, ◌++◌, List, map, IfErr, IfOk, IsErrOf, IsOk, None, Some};
 ghost use Rattle.std.specs.Option.{option_map};
 ghost use Rattle.formula_core.specs.Typed.{HasCarriers};
-ghost use Rattle.type_core.specs.CoreForms.{core_form};
-ghost use Rattle.type_core.specs.Unknowns.{first_name_by_place, unknowns};
-ghost use Rattle.type_core.specs.Views.{bare_of};
+ghost use Rattle.type_formula.specs.CoreForms.{core_form};
+ghost use Rattle.type_formula.specs.Unknowns.{first_name_by_place, unknowns};
+ghost use Rattle.type_formula.specs.Views.{bare_of};
 ghost use Rattle.type_action.specs.Answers.{IsActionTyping};
 ghost use Rattle.type_action.specs.Private.{TellsAction, TellsFault};
 ghost use Rattle.type_action.specs.CoreActions.{Assign, ChooseIn, ChooseSuch, core_action, overridden, target_type, typed_targets, unknown_in_action, unknown_targets, unknowns_of, primed_targets, env_after};
@@ -19,7 +19,7 @@ use crate::values::{add_values, keep_unknowns, override_at, read_all, type_as, t
 use formula_core::{Action, Boxed, Env, Formula, List, Name, OutOfMemory, Raw, RawAction, Ref, Ty};
 use std::alloc::Global;
 use std::slice;
-use type_core::{Tree, TypeFault, keep_unknown, read};
+use type_formula::{Tree, TypeFault, keep_unknown, read};
 
 /// Types an action. A target is an identifier of the environment without a prime.
 pub fn type_action(alloc: Global, env: &Env, raw: &RawAction) -> Result<Action, TypeFault>

@@ -2,13 +2,13 @@
 ghost use Rattle.std.specs.Prelude.{◌≡◌, ◌∷◌, [], fold, IfOk, IfSome, IsTrue, OnOk, Some};
 ghost use Rattle.std.specs.Option.{option_copied};
 ghost use Rattle.formula_core.specs.Names.{is_identifier};
-ghost use Rattle.type_core.specs.Answers.{with_typed_name};
-ghost use Rattle.type_core.specs.Unknowns.{earlier_name};
+ghost use Rattle.type_formula.specs.Answers.{with_typed_name};
+ghost use Rattle.type_formula.specs.Unknowns.{earlier_name};
 ghost use Rattle.type_action.specs.CoreActions.{target_type, typed_targets, unknown_targets, primed_targets, with_all, agree};
 
 use formula_core::{Env, EnvFault, Name, OutOfMemory, Ref, Ty};
 use std::alloc::Global;
-use type_core::keep_earlier;
+use type_formula::keep_earlier;
 
 /// The type of a target. One with a prime is unknown.
 pub(crate) fn target_type<'a>(env: &'a Env, name: &Name) -> Option<&'a Ty>

@@ -1,9 +1,9 @@
 //! The right sides of an action.
 ghost use Rattle.std.specs.Prelude.{◌≡◌, ◌∷◌, [], fold, map, IfErr, IfOk, OnOk};
 ghost use Rattle.formula_core.specs.Formulas.{joined};
-ghost use Rattle.type_core.specs.CoreForms.{core_form};
-ghost use Rattle.type_core.specs.Unknowns.{earlier_name, unknowns};
-ghost use Rattle.type_core.specs.Views.{bare_of};
+ghost use Rattle.type_formula.specs.CoreForms.{core_form};
+ghost use Rattle.type_formula.specs.Unknowns.{earlier_name, unknowns};
+ghost use Rattle.type_formula.specs.Views.{bare_of};
 ghost use Rattle.type_action.specs.CoreActions.{overridden};
 ghost use Rattle.type_action.specs.Results.{IsOnly};
 ghost use Rattle.type_action.specs.Private.{IsAdded, TellsFault};
@@ -12,7 +12,7 @@ ghost use Rattle.type_action.specs.Typings.{IsFormulaOf, IsTypedAssignment, AreT
 use crate::targets::target_type;
 use formula_core::{Env, Formula, Name, Op, OutOfMemory, Raw, Ref, Ty};
 use std::alloc::Global;
-use type_core::{Tree, Trees, TypeFault, before, form, keep_unknown, pair, read, type_tree};
+use type_formula::{Tree, Trees, TypeFault, before, form, keep_unknown, pair, read, type_tree};
 
 pub(crate) fn read_all(alloc: Global, values: &[Raw]) -> Result<Vec<Tree>, OutOfMemory>
     ensures { IfOk result (λ v. map bare_of v.items ≡ map core_form values.now) }

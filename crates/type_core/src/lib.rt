@@ -1,23 +1,8 @@
-//! The one typing of a formula.
+//! The one typing of formulas and actions: `type_predicate`, `type_expression` and `type_action` give the formula or action that a tree
+//! is in an environment, or their first fault; the laws say that what was typed still is in an environment with more names.
 #![tactic(auto)]
 
-mod build;
-mod collect;
-mod denote;
-mod forms;
-mod free;
-mod laws;
-mod partition;
-mod predicate;
-mod reading;
-mod rows;
-mod scope;
-mod terms;
-mod tree;
-mod unknown;
-
-pub use laws::{typed_formulas_stand, typed_predicates_stand};
-pub use predicate::{TypeFault, type_expression, type_predicate, type_tree};
-pub use reading::read;
-pub use tree::{BoundNames, Tree, Trees, before, form, pair};
-pub use unknown::{keep_earlier, keep_unknown};
+pub use type_action::{type_action, typed_actions_stand};
+pub use type_formula::{
+    TypeFault, type_expression, type_predicate, typed_formulas_stand, typed_predicates_stand,
+};

@@ -1,4 +1,4 @@
-//! Tests of equations between types and of typing, over public calls alone: `unification` and `type_core` aren't proved again for them.
+//! Tests of equations between types and of typing, over public calls alone: `unification` and `type_formula` aren't proved again for them.
 #![tactic(auto)]
 
 #[cfg(test)]

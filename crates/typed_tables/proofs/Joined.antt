@@ -14,7 +14,7 @@ use Rattle.formula_core.specs.Typed.{Stands, IsTypedIn, IsPredicateIn}
 use Rattle.formula_core.specs.Types.{members_at, members}
 use Rattle.formula_core.specs.Wellness.{type_of}
 use Rattle.formula_core.proofs.TypedIn.{predicate_more}
-use Rattle.type_core.proofs.Named.{all_each, sooner, later}
+use Rattle.type_formula.proofs.Named.{all_each, sooner, later}
 use Rattle.type_action.specs.CoreActions.{primed, with_all}
 use Rattle.type_action.specs.Laws.{IsActionIn}
 use Rattle.model_core.specs.declared.checked.Checked.{Checked}

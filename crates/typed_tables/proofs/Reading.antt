@@ -5,10 +5,10 @@ use Rattle.std.specs.List.{AllByRecursion}
 use Rattle.formula_core.specs.Names.{is_identifier}
 use Rattle.formula_core.specs.declared.raw.RawAction.{RawAction}
 use Rattle.formula_core.specs.declared.raw.Ref.{Ref}
-use Rattle.type_core.proofs.Named.{all_append, all_each}
+use Rattle.type_formula.proofs.Named.{all_append, all_each}
 use Rattle.math_grammar.specs.Tokens.{Item}
 use Rattle.math_grammar.specs.Actions.{ref, Targets, last_target, next_target, SpellsAction, assigns, applies, chooses_in, chooses_such}
-use Rattle.math_parse.specs.Limits.{most_parts}
+use Rattle.formula_parse.specs.Limits.{most_parts}
 use Rattle.model_core.specs.declared.component.Convergence.{Convergence}
 use Rattle.model_core.specs.declared.component.Convergence.TheVariants.{Ordinary, Convergent, Anticipated}
 use Rattle.model_core.specs.declared.component.RawEvent.{RawEvent}

@@ -6,7 +6,7 @@ use Rattle.std.specs.Map.{keys_of}
 use Rattle.formula_core.specs.declared.raw.Ref.{Ref}
 use Rattle.formula_core.specs.declared.ty.Ty.{Ty}
 use Rattle.formula_core.specs.Env.{type_in}
-use Rattle.type_core.proofs.Named.{all_append, all_each}
+use Rattle.type_formula.proofs.Named.{all_append, all_each}
 use Rattle.type_action.proofs.Standing.{actions_stand}
 use Rattle.model_core.specs.Components.{heading}
 use Rattle.model_core.specs.declared.fault.Fault.{Fault}

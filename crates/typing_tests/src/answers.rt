@@ -4,8 +4,7 @@ use crate::reading::{read_action, read_expression, read_predicate};
 use crate::showing::{write_action, write_entries, write_fault, write_formula};
 use formula_core::{Action, Env, Formula, Name, Raw, RawAction, Ty};
 use std::alloc::{AllocError, Global};
-use type_action::type_action;
-use type_core::{TypeFault, type_expression, type_predicate};
+use type_core::{TypeFault, type_action, type_expression, type_predicate};
 
 fn write_typed_predicate(
     alloc: Global,

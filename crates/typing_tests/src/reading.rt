@@ -1,8 +1,7 @@
 //! Texts as formulas and actions.
 
 use formula_core::{Raw, RawAction};
-use math_action::action;
-use math_parse::{expression, predicate};
+use math_parse::{action, expression, predicate};
 use math_tokens::{Token, tokens};
 use std::alloc::Global;
 

@@ -1,6 +1,6 @@
 use Rattle.std.proofs.Common.{ap, Err}
-use Rattle.type_core.specs.Answers.{HasNoTyping, HasTwoTypings}
-use Rattle.type_core.specs.Unknowns.{unknown_in}
+use Rattle.type_formula.specs.Answers.{HasNoTyping, HasTwoTypings}
+use Rattle.type_formula.specs.Unknowns.{unknown_in}
 use Rattle.context_check.proofs.Typings.{mistyped}
 use Rattle.context_check.proofs.typing.type_one.Goals as goal
 

@@ -1,7 +1,7 @@
 use Rattle.std.proofs.Common.{[], ap, Err, None}
-use Rattle.type_core.specs.Answers.{HasNoFormula, HasTwoFormulas}
-use Rattle.type_core.specs.CoreForms.{core_form}
-use Rattle.type_core.specs.Unknowns.{unknown_in}
+use Rattle.type_formula.specs.Answers.{HasNoFormula, HasTwoFormulas}
+use Rattle.type_formula.specs.CoreForms.{core_form}
+use Rattle.type_formula.specs.Unknowns.{unknown_in}
 use Rattle.context_check.proofs.Typings.{mistyped, variant_told}
 use Rattle.context_check.proofs.typing.type_variant.Goals as goal
 

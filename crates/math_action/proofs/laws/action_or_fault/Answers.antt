@@ -1,4 +1,4 @@
-use Rattle.math_parse.proofs.Readers.{decided}
+use Rattle.formula_parse.proofs.Readers.{decided}
 use Rattle.math_action.proofs.Place.{reads_actions}
 use Rattle.math_action.proofs.laws.action_or_fault.Goals as goal
 

@@ -1,4 +1,4 @@
-use Rattle.math_parse.proofs.Readers.{one_value}
+use Rattle.formula_parse.proofs.Readers.{one_value}
 use Rattle.math_action.proofs.Place.{reads_actions}
 use Rattle.math_action.proofs.laws.one_action.Goals as goal
 

@@ -1,5 +1,5 @@
 use Rattle.math_grammar.specs.Actions.{SpellsAction}
-use Rattle.math_parse.proofs.Readers.{one_place}
+use Rattle.formula_parse.proofs.Readers.{one_place}
 use Rattle.math_action.proofs.laws.one_action_fault.Goals as goal
 
 pub returns : goal.returns

@@ -1,4 +1,4 @@
-use Rattle.math_parse.proofs.Limited.{answer_found, answer_only, answer_fault}
+use Rattle.formula_parse.proofs.Limited.{answer_found, answer_only, answer_fault}
 use Rattle.math_action.proofs.Place.{reads_actions}
 use Rattle.math_action.proofs.reading.action.Goals as goal
 

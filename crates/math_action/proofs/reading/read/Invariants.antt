@@ -1,6 +1,6 @@
 -- what is left, read from the state so far, gives what all tokens give
 use Rattle.std.proofs.Common.{◌≡◌, ◌≤◌, [], drop}
-use Rattle.math_parse.specs.PrivateReaders.{limited_reading}
+use Rattle.formula_parse.specs.PrivateReaders.{limited_reading}
 use Rattle.math_action.specs.PrivateMachine.{target, action_reader}
 use Rattle.math_action.specs.PrivateView.{action_state}
 use Rattle.math_action.proofs.reading.read.Given as goal

@@ -18,4 +18,4 @@ decreases-grow_leaf g l = l.room.now.rules * 8192 + 2
 
 abbrev pub invariant-grow_each-loop-i : goal.invariant-grow_each-loop-i
 invariant-grow_each-loop-i g l =
-    HaveGrown (g.S.Strategy.gives l.strategy) l.times (take l.i l.trees) (take l.i l.antecedents) l.sequent l.initial.room l.grown.items l.room
+    HaveGrown (g.S.Strategy.gives l.grower.strategy.now) l.grower.times (take l.i l.trees) (take l.i l.antecedents) l.sequent l.initial.room l.grown.items l.room

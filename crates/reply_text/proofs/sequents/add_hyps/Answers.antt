@@ -1,7 +1,7 @@
 use Rattle.std.proofs.Common.{◌+◌, take, ◌++◌}
 use Rattle.std.specs.Prelude.{string_bytes, codes}
 use Rattle.std.specs.Fmt.{decimal}
-use Rattle.math_print.specs.Printing.{formula_text}
+use Rattle.formula_print.specs.Printing.{formula_text}
 use Rattle.reply_text.specs.Printing.{hyp_lines_after}
 use Rattle.reply_text.specs.Statuses.{line}
 use Rattle.reply_text.proofs.Hyps.{grows, hyp_added}

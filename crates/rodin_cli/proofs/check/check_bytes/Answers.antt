@@ -1,4 +1,5 @@
-use Rattle.std.proofs.Common.{ap, inr, Err}
+use Rattle.std.proofs.Common.{ap, Err}
+use Rattle.rodin_cli.specs.Check.{want_of_memory}
 use Rattle.rodin_cli.proofs.Sessions.{Keeps-same}
 use Rattle.rodin_cli.proofs.Answering.{comes_of_refusal, ran_out_at_once}
 use Rattle.rodin_cli.proofs.check.check_bytes.Goals as goal
@@ -10,5 +11,5 @@ returns-in-Err-Fault g c =
 
 pub returns-in-Err-OutOfMemory : goal.returns-in-Err-OutOfMemory
 returns-in-Err-OutOfMemory g c =
-    inr (inr (inr (ran_out_at_once (g.P.Prover.answers c.args.prover.now) (g.P.Prover.sure c.args.prover.now) c.args.bytes.now _ c.no_part.result
-    c.no_part.ensures.status c.no_part.ensures.nothing (Keeps-same _))))
+    want_of_memory (ran_out_at_once (g.P.Prover.answers c.args.prover.now) (g.P.Prover.sure c.args.prover.now) c.args.bytes.now _ c.no_part.result
+    c.no_part.ensures.status c.no_part.ensures.nothing (Keeps-same _))

@@ -1,5 +1,5 @@
-use Rattle.std.proofs.Common.{inl, inr}
 use Rattle.rodin_cli.specs.declared.session.Session.{Session}
+use Rattle.rodin_cli.specs.Check.{a_full_table, want_of_memory}
 use Rattle.rodin_cli.proofs.Legal.{full_legal}
 use Rattle.rodin_cli.proofs.Sessions.{Keeps-same}
 use Rattle.rodin_cli.proofs.Answering.{comes_of_answer, ran_out, ran_out_at_once, too_full}
@@ -7,8 +7,8 @@ use Rattle.rodin_cli.proofs.check.check_parts.Goals as goal
 
 pub returns-in-Err : goal.returns-in-Err
 returns-in-Err g c bytes made =
-    inr (inr (inr (ran_out_at_once (g.P.Prover.answers c.args.prover.now) (g.P.Prover.sure c.args.prover.now) bytes _ c.no_part.result
-    c.no_part.ensures.status c.no_part.ensures.nothing (Keeps-same _))))
+    want_of_memory (ran_out_at_once (g.P.Prover.answers c.args.prover.now) (g.P.Prover.sure c.args.prover.now) bytes _ c.no_part.result
+    c.no_part.ensures.status c.no_part.ensures.nothing (Keeps-same _))
 
 pub returns-in-Ok-Some : goal.returns-in-Ok-Some
 returns-in-Ok-Some g c bytes made =
@@ -31,7 +31,7 @@ pub returns-in-Ok-None : goal.returns-in-Ok-None
 returns-in-Ok-None g c bytes made =
     let old : Session = c.in-Ok.session in
     let full = rw c.in-Ok-None.field-0-is at c.in-Ok-None.ensures.whole in
-    inr (inl (too_full (g.P.Prover.answers c.args.prover.now) (g.P.Prover.sure c.args.prover.now) old c.play.new.session full.0 c.part_from-in-Ok-None.result
+    a_full_table (too_full (g.P.Prover.answers c.args.prover.now) (g.P.Prover.sure c.args.prover.now) old c.play.new.session full.0 c.part_from-in-Ok-None.result
     (record {
       enters = c.enters_all.ensures;
       fresh = c.in-Ok.ensures.core;
@@ -41,13 +41,13 @@ returns-in-Ok-None g c bytes made =
       history = c.part_from-in-Ok-None.ensures.history;
       last = c.part_from-in-Ok-None.ensures.last;
     })
-    bytes _ c.args.parts.items c.part_from-in-Ok-None.ensures.status made full.1 c.write_last.ensures))
+    bytes _ c.args.parts.items c.part_from-in-Ok-None.ensures.status made full.1 c.write_last.ensures)
 
 pub returns : goal.returns
 returns g c bytes made =
     let old : Session = c.in-Ok.session in
     let front = c.in-Err-play.ensures.front in
-    inr (inr (inr (ran_out (g.P.Prover.answers c.args.prover.now) (g.P.Prover.sure c.args.prover.now) old c.play.new.session front.0 c.part_from-in-Err-play.result
+    want_of_memory (ran_out (g.P.Prover.answers c.args.prover.now) (g.P.Prover.sure c.args.prover.now) old c.play.new.session front.0 c.part_from-in-Err-play.result
     (record {
       enters = c.enters_all.ensures;
       fresh = c.in-Ok.ensures.core;
@@ -57,4 +57,4 @@ returns g c bytes made =
       history = c.part_from-in-Err-play.ensures.history;
       last = c.part_from-in-Err-play.ensures.last;
     })
-    bytes _ c.args.parts.items c.part_from-in-Err-play.ensures.status made front.1 (Keeps-same _))))
+    bytes _ c.args.parts.items c.part_from-in-Err-play.ensures.status made front.1 (Keeps-same _))

@@ -1,5 +1,5 @@
 use Rattle.std.proofs.lemmas.Result.{IfOk-weaker}
-use Rattle.type_core.specs.Views.{bare_of}
+use Rattle.type_formula.specs.Views.{bare_of}
 use Rattle.rule_making.proofs.TermPlaces.{at_none, either}
 use Rattle.rule_making.proofs.terms.typed_alone.Goals as goal
 

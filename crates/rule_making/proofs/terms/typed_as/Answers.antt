@@ -1,6 +1,6 @@
 use Rattle.std.specs.Option.{option_copied}
 use Rattle.std.proofs.lemmas.Result.{IfOk-weaker, MatchResult-from_both}
-use Rattle.type_core.specs.Views.{bare_of}
+use Rattle.type_formula.specs.Views.{bare_of}
 use Rattle.rule_making.proofs.TermPlaces.{none_typed, not_typed, Typed, both_ok}
 use Rattle.rule_making.proofs.terms.typed_as.Goals as goal
 

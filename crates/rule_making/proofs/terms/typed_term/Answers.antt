@@ -1,7 +1,7 @@
 use Rattle.std.proofs.Common.{ap}
 use Rattle.std.specs.Option.{option_copied}
 use Rattle.std.proofs.lemmas.Result.{IfOk-weaker}
-use Rattle.type_core.specs.Views.{bare_of}
+use Rattle.type_formula.specs.Views.{bare_of}
 use Rattle.rule_making.proofs.TermPlaces.{as_term, alone_term}
 use Rattle.rule_making.proofs.terms.typed_term.Goals as goal
 

@@ -1,6 +1,6 @@
 use Rattle.math_grammar.specs.declared.holes.Hole.TheVariants as hole
 use Rattle.math_grammar.specs.Tokens.{items_of}
-use Rattle.math_parse.specs.Limits.{IsSentence}
+use Rattle.formula_parse.specs.Limits.{IsSentence}
 use Rattle.step_items.proofs.Cutting.{no_formula, too_large}
 use Rattle.step_items.proofs.terms.expression_of.Goals as goal
 

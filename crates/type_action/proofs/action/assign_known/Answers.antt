@@ -1,7 +1,7 @@
 use Rattle.std.proofs.Common.{◌≡◌, sym, subst, map, IfErr}
 use Rattle.std.proofs.lemmas.Result.{err_from_is_err_and}
 use Rattle.formula_core.specs.declared.raw.Action.TheVariants as action
-use Rattle.type_core.specs.Views.{bare_of}
+use Rattle.type_formula.specs.Views.{bare_of}
 use Rattle.type_action.specs.Private.{TellsFault}
 use Rattle.type_action.specs.CoreActions.{Assign}
 use Rattle.type_action.specs.Typings.{AreTypedAssignments, IsActionOf}

@@ -1,6 +1,6 @@
 use Rattle.std.proofs.Common.{sym, subst}
 use Rattle.formula_core.specs.declared.raw.Action.TheVariants as action
-use Rattle.type_core.specs.Views.{bare_of}
+use Rattle.type_formula.specs.Views.{bare_of}
 use Rattle.type_action.specs.CoreActions.{ChooseIn}
 use Rattle.type_action.specs.Results.{IsOnly}
 use Rattle.type_action.specs.Typings.{IsFormulaOf, IsActionOf}

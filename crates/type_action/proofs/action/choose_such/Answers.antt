@@ -1,6 +1,6 @@
 use Rattle.std.proofs.Common.{◌∙◌, sym, []}
-use Rattle.type_core.specs.Unknowns.{unknowns}
-use Rattle.type_core.specs.Views.{bare_of}
+use Rattle.type_formula.specs.Unknowns.{unknowns}
+use Rattle.type_formula.specs.Views.{bare_of}
 use Rattle.type_action.specs.CoreActions.{unknown_targets}
 use Rattle.type_action.proofs.UnknownNames.{none_first}
 use Rattle.type_action.proofs.action.choose_such.Goals as goal

@@ -2,7 +2,7 @@ use Rattle.std.proofs.Common.{◌≡◌, ◌∙◌, sym, ap, subst, rules, true}
 use Rattle.formula_core.specs.declared.raw.Action.{Action}
 use Rattle.formula_core.specs.declared.raw.Action.TheVariants as action
 use Rattle.formula_core.specs.declared.ty.Ty.TheVariants as ty
-use Rattle.type_core.specs.Views.{bare_of}
+use Rattle.type_formula.specs.Views.{bare_of}
 use Rattle.type_action.specs.Private.{TellsFault}
 use Rattle.type_action.specs.CoreActions.{ChooseSuch, typed_targets, env_after, agree}
 use Rattle.type_action.specs.Results.{IsOnly}

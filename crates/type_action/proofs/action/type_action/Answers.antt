@@ -1,4 +1,4 @@
-use Rattle.type_core.specs.Unknowns.{first_name_by_place}
+use Rattle.type_formula.specs.Unknowns.{first_name_by_place}
 use Rattle.type_action.specs.CoreActions.{core_action, unknowns_of}
 use Rattle.type_action.specs.Laws.{IsActionIn}
 use Rattle.type_action.specs.Results.{IsOnly}

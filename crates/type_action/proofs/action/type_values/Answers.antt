@@ -1,5 +1,5 @@
 use Rattle.std.proofs.Common.{◌∙◌, ap, subst, map}
-use Rattle.type_core.specs.Views.{bare_of}
+use Rattle.type_formula.specs.Views.{bare_of}
 use Rattle.type_action.specs.Private.{TellsAction}
 use Rattle.type_action.specs.CoreActions.{Assign}
 use Rattle.type_action.proofs.action.type_values.Goals as goal

@@ -1,5 +1,5 @@
 use Rattle.std.proofs.Common.{◌≡◌, ◌∙◌, sym, ap, subst, map}
-use Rattle.type_core.specs.CoreForms.{core_form}
+use Rattle.type_formula.specs.CoreForms.{core_form}
 use Rattle.type_action.specs.Private.{TellsAction}
 use Rattle.type_action.specs.CoreActions.{Assign, ChooseSuch, core_action}
 use Rattle.type_action.proofs.action.type_written.Goals as goal

@@ -1,5 +1,5 @@
 use Rattle.std.proofs.Common.{◌≡◌, ◌∙◌, ◌∷◌, ◌<◌, ◌+◌, sym, ap, suc, length, drop, drop-cons, add-one, fold, arith}
-use Rattle.type_core.specs.Unknowns.{earlier_name}
+use Rattle.type_formula.specs.Unknowns.{earlier_name}
 use Rattle.type_action.specs.CoreActions.{unknown_targets}
 use Rattle.type_action.proofs.UnknownNames.{target_first}
 use Rattle.type_action.proofs.targets.keep_unknown_targets.Goals as goal

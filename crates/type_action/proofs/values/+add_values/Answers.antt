@@ -1,5 +1,5 @@
 use Rattle.std.proofs.Common.{ap, subst, map}
-use Rattle.type_core.specs.Views.{bare_of}
+use Rattle.type_formula.specs.Views.{bare_of}
 use Rattle.type_action.specs.Results.{HasNone, HasTwo}
 use Rattle.type_action.specs.Private.{IsAdded, TellsFault}
 use Rattle.type_action.specs.Typings.{IsTypedAssignment, AreTypedAssignments}

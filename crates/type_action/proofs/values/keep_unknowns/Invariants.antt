@@ -1,7 +1,7 @@
 use Rattle.std.proofs.Common.{◌≡◌, [], fold, map, drop}
 use Rattle.formula_core.specs.Formulas.{joined}
-use Rattle.type_core.specs.Unknowns.{earlier_name, unknowns}
-use Rattle.type_core.specs.Views.{bare_of}
+use Rattle.type_formula.specs.Unknowns.{earlier_name, unknowns}
+use Rattle.type_formula.specs.Views.{bare_of}
 use Rattle.type_action.proofs.values.keep_unknowns.Given as goal
 
 abbrev pub invariant-loop-tree : goal.invariant-loop-tree

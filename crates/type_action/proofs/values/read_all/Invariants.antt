@@ -1,6 +1,6 @@
 use Rattle.std.proofs.Common.{◌≡◌, map, take}
-use Rattle.type_core.specs.CoreForms.{core_form}
-use Rattle.type_core.specs.Views.{bare_of}
+use Rattle.type_formula.specs.CoreForms.{core_form}
+use Rattle.type_formula.specs.Views.{bare_of}
 use Rattle.type_action.proofs.values.read_all.Given as goal
 
 abbrev pub invariant-loop-value : goal.invariant-loop-value

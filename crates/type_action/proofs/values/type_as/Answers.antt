@@ -1,4 +1,4 @@
-use Rattle.type_core.specs.Views.{bare_of}
+use Rattle.type_formula.specs.Views.{bare_of}
 use Rattle.type_action.specs.Typings.{IsFormulaOf}
 use Rattle.type_action.proofs.Told.{tree_fault}
 use Rattle.type_action.proofs.Typed.{two_formulas}

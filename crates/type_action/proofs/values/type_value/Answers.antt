@@ -1,5 +1,5 @@
 use Rattle.std.proofs.Common.{sym, subst}
-use Rattle.type_core.specs.Views.{bare_of}
+use Rattle.type_formula.specs.Views.{bare_of}
 use Rattle.type_action.specs.Results.{IsOnly}
 use Rattle.type_action.specs.Typings.{IsFormulaOf, IsTypedAssignment}
 use Rattle.type_action.proofs.Told.{form_only, form_fault}

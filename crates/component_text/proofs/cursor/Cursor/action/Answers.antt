@@ -1,4 +1,4 @@
-use Rattle.math_parse.specs.declared.fault.ParseFault.TheVariants as fault
+use Rattle.formula_parse.specs.declared.fault.ParseFault.TheVariants as fault
 use Rattle.component_text.specs.Machines.{IsActionWithin}
 use Rattle.component_text.proofs.Marks.{formula_read, formula_unexpected, formula_too_large, action_fails}
 use Rattle.component_text.proofs.cursor.Cursor.action.Goals as goal

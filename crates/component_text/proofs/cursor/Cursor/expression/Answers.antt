@@ -1,5 +1,5 @@
 use Rattle.math_grammar.specs.declared.holes.Hole.TheVariants as hole
-use Rattle.math_parse.specs.declared.fault.ParseFault.TheVariants as fault
+use Rattle.formula_parse.specs.declared.fault.ParseFault.TheVariants as fault
 use Rattle.component_text.specs.Grammar.{IsPlaced}
 use Rattle.component_text.proofs.Marks.{formula_read, formula_unexpected, formula_too_large, formula_fails}
 use Rattle.component_text.proofs.cursor.Cursor.expression.Goals as goal

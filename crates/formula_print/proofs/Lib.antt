@@ -1,0 +1,9 @@
+pub mod Equations
+pub mod FreshNames
+pub mod Letters
+pub mod NamedScopes
+pub mod NumberedNames
+pub mod Texts
+pub mod TypeTexts
+pub mod TypedBack
+pub mod Literals

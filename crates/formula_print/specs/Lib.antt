@@ -1,0 +1,9 @@
+pub mod Depths
+pub mod Held
+pub mod Levels
+pub mod Names
+pub mod Printing
+pub mod Private
+pub mod Signs
+pub mod Types
+pub mod Written

@@ -1,5 +1,0 @@
-use Rattle.math_reread.proofs.Reread.{read_back}
-use Rattle.math_reread.proofs.laws.read_back.Goals as goal
-
-pub returns : goal.returns
-returns c = read_back

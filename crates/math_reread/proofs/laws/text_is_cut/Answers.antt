@@ -1,5 +1,0 @@
-use Rattle.math_reread.proofs.CutBack.{text_cut}
-use Rattle.math_reread.proofs.laws.text_is_cut.Goals as goal
-
-pub returns : goal.returns
-returns c = text_cut

@@ -1,5 +1,0 @@
-use Rattle.math_reread.proofs.OtherPlaces.{typed_again, formula_again}
-use Rattle.math_reread.proofs.laws.typed_at_other_places.Goals as goal
-
-pub returns : goal.returns
-returns c = record { typings = typed_again; the_formula = formula_again }

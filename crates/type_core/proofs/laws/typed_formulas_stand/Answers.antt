@@ -1,5 +1,0 @@
-use Rattle.type_core.proofs.Standing.{formulas_stand}
-use Rattle.type_core.proofs.laws.typed_formulas_stand.Goals as goal
-
-pub returns : goal.returns
-returns c = formulas_stand

@@ -1,5 +1,0 @@
-use Rattle.type_core.proofs.Standing.{predicates_stand}
-use Rattle.type_core.proofs.laws.typed_predicates_stand.Goals as goal
-
-pub returns : goal.returns
-returns c = predicates_stand

@@ -1,5 +1,0 @@
-use Rattle.std.proofs.Common.{length}
-use Rattle.type_core.proofs.scope.+find_bound.Given as goal
-
-abbrev pub decreases-find_bound : goal.decreases-find_bound
-decreases-find_bound l = length l.scope.now
