@@ -1,106 +1,173 @@
-//! The disk of two files.
+//! The disk of two files: it makes them at the first write, keeps them for itself, and tries again where they can't be opened.
 
-use crate::disks::{empty, faults, length, read, sync, tell, write};
+use crate::disks::{Call, Change, EMPTY, OnSide, SYNC, cut_at, make_calls, make_each, write_at};
+use crate::rows::{row, tell};
 use outside::{Disk, FilePair, Side};
 use std::fs::{self, File};
 use std::io;
 use std::rt::Files;
 
-fn absent<R: Print + Files<File = File>>(
-    rt: &R,
-    disk: &mut FilePair<'_, R>,
-    side: Side,
-) -> io::Result<()> {
-    length(rt, "no file", disk, side)?;
-    read(rt, "no file", disk, side, 0)?;
-    empty(rt, "no file", disk, side)?;
-    sync(rt, "no file", disk, side)
+// One step over two disks of the same files.
+#[derive(Clone, Copy)]
+enum Step<'a> {
+    First(OnSide<'a>),
+    Second(OnSide<'a>),
+    // A write of the first disk, on the left from this byte on.
+    Write(u32, &'a str),
+    // A cut of the first disk, on the left, to 5 bytes.
+    Cut,
+    // Whether each file is there and can be read.
+    There(&'a str),
+    // A folder has the name of the left file.
+    MakeFolder,
+    RemoveFolder,
 }
 
-fn write_file<R: Print + Files<File = File>>(
-    rt: &R,
-    disk: &mut FilePair<'_, R>,
-    at: u32,
-    piece: &str,
-) -> io::Result<()> {
-    let answer = disk.write_at(Side::Left, u64::from(at), piece.as_bytes());
-    println!(rt; "files: write '{piece}' at {at}\t{answer:?}")
+// Calls that fail where the files can't be opened.
+const EACH: [Call<'_>; 6] = [
+    Call::Length,
+    Call::Read(0),
+    EMPTY,
+    Call::Make(Change::Write("second")),
+    SYNC,
+    Call::Faults,
+];
+
+const WITHOUT_FILE: [Call<'_>; 4] = [Call::Length, Call::Read(0), EMPTY, SYNC];
+
+// Two files, which the first write makes, and a second disk beside the first one.
+const WRITTEN: [Step<'_>; 11] = [
+    Step::First(("no file", Side::Left, &WITHOUT_FILE)),
+    Step::First(("no file", Side::Right, &WITHOUT_FILE)),
+    Step::There("before the first write"),
+    Step::Write(0, "abcdef"),
+    Step::Write(6, "g"),
+    Step::Write(1, "xy"),
+    Step::Cut,
+    Step::First((
+        "files, right",
+        Side::Right,
+        &[Call::Make(Change::Write("r"))],
+    )),
+    Step::First(("files", Side::Left, &[SYNC, Call::Length, Call::Faults])),
+    Step::Second(("files, a second disk", Side::Right, &EACH)),
+    Step::First(("files", Side::Right, &[Call::Read(0)])),
+];
+
+// What the second disk reads once the first one is dropped.
+const FREED: [OnSide<'_>; 2] = [
+    ("files again", Side::Left, &[Call::Read(0)]),
+    ("files again", Side::Right, &[Call::Read(0)]),
+];
+
+// Two disks have found no file. Only one of them makes it.
+const MADE_ONCE: [Step<'_>; 6] = [
+    Step::First(("files, first", Side::Left, &[Call::Length])),
+    Step::Second(("files, second", Side::Left, &[Call::Length])),
+    Step::First((
+        "files, first",
+        Side::Left,
+        &[Call::Make(Change::Write("first"))],
+    )),
+    Step::Second((
+        "files, second",
+        Side::Left,
+        &[Call::Make(Change::Write("2"))],
+    )),
+    Step::First(("files, first", Side::Left, &[Call::Read(0)])),
+    Step::Second(("files, second", Side::Left, &[Call::Faults])),
+];
+
+// What has the name of a file is none. The next call tries again.
+const REFUSED: [Step<'_>; 6] = [
+    Step::MakeFolder,
+    Step::First(("files, a folder", Side::Right, &[Call::Faults])),
+    Step::First(("files, a folder", Side::Right, &EACH)),
+    Step::There("beside a folder"),
+    Step::RemoveFolder,
+    Step::First(("files, no folder", Side::Left, &[Call::Length])),
+];
+
+fn write_file<D: Disk>(rt: &impl Print, disk: &mut D, at: u32, piece: &str) -> io::Result<()>
+    requires untold { D.told → ⊥ }
+{
+    print!(rt; "files: write '{piece}' at {at}")?;
+    row(rt, "", write_at(disk, Side::Left, at, piece))
 }
 
-fn cut_file<R: Print + Files<File = File>>(rt: &R, disk: &mut FilePair<'_, R>) -> io::Result<()> {
-    let answer = disk.cut(Side::Left, 5);
-    tell(rt, "files", "cut at 5", answer)
-}
-
-fn write_files<R: Print + Files<File = File>>(
-    rt: &R,
-    disk: &mut FilePair<'_, R>,
-) -> io::Result<()> {
-    write_file(rt, disk, 0, "abcdef")?;
-    write_file(rt, disk, 6, "g")?;
-    write_file(rt, disk, 1, "xy")?;
-    cut_file(rt, disk)?;
-    write(rt, "files, right", disk, Side::Right, "r")?;
-    sync(rt, "files", disk, Side::Left)?;
-    length(rt, "files", disk, Side::Left)?;
-    faults(rt, "files", disk)
-}
-
-// Each call of it fails.
-fn each_call<R: Print + Files<File = File>>(
-    rt: &R,
-    name: &str,
-    disk: &mut FilePair<'_, R>,
-) -> io::Result<()> {
-    length(rt, name, disk, Side::Right)?;
-    read(rt, name, disk, Side::Right, 0)?;
-    empty(rt, name, disk, Side::Right)?;
-    write(rt, name, disk, Side::Right, "second")?;
-    sync(rt, name, disk, Side::Right)?;
-    faults(rt, name, disk)
-}
-
-// Whether a file is there that can be read.
-fn there<R: Print + Files<File = File> + Alloc>(rt: &R, when: &str) -> io::Result<()> {
-    let left = fs::read(rt, "rodin.left").is_ok();
-    let right = fs::read(rt, "rodin.right").is_ok();
+fn print_there(rt: &impl Print, when: &str, left: bool, right: bool) -> io::Result<()> {
     println!(rt; "files there {when}\t{left} {right}")
 }
 
-/// Two files, which the first write makes, and a second disk beside the first one.
-pub fn written<R: Print + Files<File = File> + Alloc>(rt: &R) -> io::Result<()> {
-    let mut disk = FilePair::new(rt);
-    absent(rt, &mut disk, Side::Left)?;
-    absent(rt, &mut disk, Side::Right)?;
-    there(rt, "before the first write")?;
-    write_files(rt, &mut disk)?;
-    let mut second = FilePair::new(rt);
-    each_call(rt, "files, a second disk", &mut second)?;
-    read(rt, "files", &mut disk, Side::Right, 0)?;
-    drop(disk);
-    read(rt, "files again", &mut second, Side::Left, 0)?;
-    read(rt, "files again", &mut second, Side::Right, 0)
+fn there<R: Print + Files<File = File> + Alloc>(rt: &R, when: &str) -> io::Result<()> {
+    let left = fs::read(rt, "rodin.left").is_ok();
+    let right = fs::read(rt, "rodin.right").is_ok();
+    print_there(rt, when, left, right)
 }
 
-/// Two disks have found no file. Only one of them makes it.
-pub fn made_once<R: Print + Files<File = File> + Alloc>(rt: &R) -> io::Result<()> {
+fn take<R: Print + Files<File = File> + Alloc, D: Disk>(
+    rt: &R,
+    first: &mut D,
+    second: &mut D,
+    step: Step<'_>,
+) -> io::Result<()>
+    requires untold { D.told → ⊥ }
+{
+    match step {
+        Step::First(row) => make_calls(rt, first, row),
+        Step::Second(row) => make_calls(rt, second, row),
+        Step::Write(at, piece) => write_file(rt, first, at, piece),
+        Step::Cut => tell(rt, "files", "cut at 5", cut_at(first, Side::Left, 5)),
+        Step::There(when) => there(rt, when),
+        Step::MakeFolder => fs::create_dir(rt, "rodin.left"),
+        Step::RemoveFolder => fs::remove_dir(rt, "rodin.left"),
+    }
+}
+
+fn take_each<R: Print + Files<File = File> + Alloc, D: Disk>(
+    rt: &R,
+    first: &mut D,
+    second: &mut D,
+    steps: &[Step<'_>],
+) -> io::Result<()>
+    requires untold { D.told → ⊥ }
+{
+    for step in steps {
+        take(rt, first, second, *step)?;
+    }
+    Ok(())
+}
+
+// The first disk is dropped when its steps are done.
+fn beside<'a, R: Print + Files<File = File> + Alloc>(
+    rt: &'a R,
+    second: &mut FilePair<'a, R>,
+    steps: &[Step<'_>],
+) -> io::Result<()> {
     let mut first = FilePair::new(rt);
-    let mut second = FilePair::new(rt);
-    length(rt, "files, first", &mut first, Side::Left)?;
-    length(rt, "files, second", &mut second, Side::Left)?;
-    write(rt, "files, first", &mut first, Side::Left, "first")?;
-    write(rt, "files, second", &mut second, Side::Left, "2")?;
-    read(rt, "files, first", &mut first, Side::Left, 0)?;
-    faults(rt, "files, second", &second)
+    take_each(rt, &mut first, second, steps)
 }
 
-/// What has the name of a file is none. The next call tries again.
-pub fn refused<R: Print + Files<File = File> + Alloc>(rt: &R) -> io::Result<()> {
-    fs::create_dir(rt, "rodin.left")?;
-    let mut disk = FilePair::new(rt);
-    faults(rt, "files, a folder", &disk)?;
-    each_call(rt, "files, a folder", &mut disk)?;
-    there(rt, "beside a folder")?;
-    fs::remove_dir(rt, "rodin.left")?;
-    length(rt, "files, no folder", &mut disk, Side::Left)
+fn no_files(rt: &impl Files) {
+    let _ = fs::remove_dir(rt, "rodin.left");
+    let _ = fs::remove_file(rt, "rodin.left");
+    let _ = fs::remove_file(rt, "rodin.right");
+}
+
+// These steps over two disks where there are no files, and calls of the second disk after the first one is dropped.
+fn from_nothing<R: Print + Files<File = File> + Alloc>(
+    rt: &R,
+    steps: &[Step<'_>],
+    after: &[OnSide<'_>],
+) -> io::Result<()> {
+    no_files(rt);
+    let mut second = FilePair::new(rt);
+    beside(rt, &mut second, steps)?;
+    make_each(rt, &mut second, after)
+}
+
+pub fn two_disks<R: Print + Files<File = File> + Alloc>(rt: &R) -> io::Result<()> {
+    from_nothing(rt, &WRITTEN, &FREED)?;
+    from_nothing(rt, &MADE_ONCE, &[])?;
+    from_nothing(rt, &REFUSED, &[])
 }

@@ -1,9 +1,54 @@
 //! Journals: what a start over two sides gives, and what acts leave.
 
+use crate::disks::disk_of;
+use crate::rows::row;
 use journal_core::{AppendFault, Journal, JournalFault, Piece};
-use outside::{Disk, MemoryDisk, Side, SureDisk};
+use outside::{Disk, Side, SureDisk};
 use std::alloc::{AllocError, Global};
 use std::io;
+
+/// An act on a journal, with the body of the record.
+#[derive(Clone, Copy)]
+pub enum Act<'a> {
+    Append(&'a [u8]),
+    Checkpoint(&'a [u8]),
+}
+
+/// What one act is answered.
+pub fn perform<D: Disk>(journal: &mut Journal<D>, act: Act<'_>) -> Result<(), AppendFault> {
+    match act {
+        Act::Append(bytes) => journal.append(bytes),
+        Act::Checkpoint(bytes) => journal.checkpoint(bytes),
+    }
+}
+
+fn print_acts<D: Disk>(
+    rt: &impl Print,
+    journal: &mut Journal<D>,
+    acts: &[(&str, Act<'_>)],
+) -> io::Result<()> {
+    for (name, act) in acts {
+        let answer = perform(journal, *act);
+        row(rt, name, answer)?;
+    }
+    Ok(())
+}
+
+// A row for each act on a journal that is started on this disk.
+fn play<D: Disk>(
+    rt: &impl Print,
+    alloc: Global,
+    disk: D,
+    acts: &[(&str, Act<'_>)],
+) -> (D, io::Result<()>) {
+    match Journal::start(alloc, disk) {
+        Ok((mut journal, _pieces)) => {
+            let printed = print_acts(rt, &mut journal, acts);
+            (journal.into_disk(), printed)
+        }
+        Err((disk, fault)) => (disk, row(rt, "no journal", fault)),
+    }
+}
 
 // A side of generation 1 with one record of 13 bytes.
 const ONE: &[u8; 35] =
@@ -22,42 +67,44 @@ const CUT_TWO: &[u8; 34] =
 // The body of the first record.
 const FIRST: &[u8; 13] = b"\x01\x01\x01\0\0\0a\x02\0\0\0x\n";
 
-type Start = Result<Vec<Piece>, JournalFault>;
+/// The records of a start, or why there are none.
+pub type Start = Result<Vec<Piece>, JournalFault>;
+
+fn start_on<D: Disk>(alloc: Global, disk: D) -> (D, Start) {
+    match Journal::start(alloc, disk) {
+        Ok((journal, pieces)) => (journal.into_disk(), Ok(pieces)),
+        Err((disk, fault)) => (disk, Err(fault)),
+    }
+}
 
 /// What a start over these sides gives.
 pub fn start_over(alloc: Global, left: &[u8], right: &[u8]) -> Result<Start, AllocError> {
-    let disk = MemoryDisk::new(
-        alloc,
-        left.to_vec(alloc)?,
-        right.to_vec(alloc)?,
-        100,
-        100,
-        Vec::new(alloc),
-    )?;
-    match Journal::start(alloc, disk) {
-        Ok((journal, pieces)) => {
-            let _disk = journal.into_disk();
-            Ok(Ok(pieces))
-        }
-        Err((_disk, fault)) => Ok(Err(fault)),
+    let disk = disk_of(alloc, left, right, 100, 100, &[])?;
+    let (_disk, start) = start_on(alloc, disk);
+    Ok(start)
+}
+
+fn print_piece(rt: &impl Print, piece: &Piece) -> io::Result<()> {
+    println!(rt;
+        "{:?} {}\t{:?}",
+        piece.side,
+        piece.at,
+        piece.bytes.as_slice()
+    )
+}
+
+fn print_pieces(rt: &impl Print, name: &str, pieces: &[Piece]) -> io::Result<()> {
+    println!(rt; "{name}\t{} records", pieces.len())?;
+    for piece in pieces {
+        print_piece(rt, piece)?;
     }
+    Ok(())
 }
 
 fn print_start(rt: &impl Print, name: &str, start: &Start) -> io::Result<()> {
     match start {
-        Ok(pieces) => {
-            println!(rt; "{name}\t{} records", pieces.len())?;
-            for piece in pieces {
-                println!(rt;
-                    "{:?} {}\t{:?}",
-                    piece.side,
-                    piece.at,
-                    piece.bytes.as_slice()
-                )?;
-            }
-            Ok(())
-        }
-        Err(fault) => println!(rt; "{name}\t{fault:?}"),
+        Ok(pieces) => print_pieces(rt, name, pieces),
+        Err(fault) => row(rt, name, *fault),
     }
 }
 
@@ -133,80 +180,69 @@ pub fn standing(rt: &impl Print, alloc: Global) -> io::Result<()> {
 }
 
 // An append, and then a checkpoint with that record, on a new journal.
-fn append_and_checkpoint(alloc: Global, disk: MemoryDisk) -> Result<MemoryDisk, AppendFault> {
-    let Ok((mut journal, _)) = Journal::start(alloc, disk) else {
-        return Err(AppendFault::DiskFault);
-    };
-    let appended = journal.append(FIRST);
-    let done = journal.checkpoint(FIRST);
-    let disk = journal.into_disk();
-    appended?;
-    done?;
-    Ok(disk)
-}
+const TURN: [(&str, Act<'_>); 2] = [
+    ("a new journal: an append", Act::Append(FIRST)),
+    ("a new journal: a checkpoint", Act::Checkpoint(FIRST)),
+];
 
-fn print_side(rt: &impl Print, disk: &mut MemoryDisk, side: Side) -> io::Result<()> {
+fn print_side<D: Disk>(rt: &impl Print, disk: &mut D, side: Side) -> io::Result<()> {
     let mut bytes = [0; 40];
     let count = disk.read_at(side, 0, &mut bytes);
     println!(rt; "{side:?} then\t{count:?}\t{:?}", bytes.as_slice())
 }
 
+fn print_sides<D: Disk>(rt: &impl Print, disk: &mut D) -> io::Result<()> {
+    print_side(rt, disk, Side::Left)?;
+    print_side(rt, disk, Side::Right)
+}
+
 /// What an append and a checkpoint leave on both sides.
 pub fn written(rt: &impl Print, alloc: Global) -> io::Result<()> {
-    let (left, right) = (Vec::new(alloc), Vec::new(alloc));
-    let disk = MemoryDisk::new(alloc, left, right, 200, 100, Vec::new(alloc))?;
-    match append_and_checkpoint(alloc, disk) {
-        Ok(mut disk) => {
-            print_side(rt, &mut disk, Side::Left)?;
-            print_side(rt, &mut disk, Side::Right)
-        }
-        Err(fault) => println!(rt; "an append and a checkpoint\t{fault:?}"),
-    }
+    let disk = disk_of(alloc, b"", b"", 200, 100, &[])?;
+    let (mut disk, played) = play(rt, alloc, disk, &TURN);
+    let printed = print_sides(rt, &mut disk);
+    drop(disk);
+    played?;
+    printed
 }
+
+// A side of the last generation with the record `z`.
+const LAST: &[u8; 23] = b"RODINJ1\n\xff\xff\xff\xff\xff\xff\xff\xff\x01\x01\0\0\0z\0";
+
+const AT_THE_LAST: [(&str, Act<'_>); 2] = [
+    (
+        "the last generation: a checkpoint",
+        Act::Checkpoint(b"more"),
+    ),
+    ("the last generation: an append", Act::Append(b"more")),
+];
 
 /// A checkpoint behind the last generation is refused.
 pub fn last_generation(rt: &impl Print, alloc: Global) -> io::Result<()> {
-    let left = b"RODINJ1\n\xff\xff\xff\xff\xff\xff\xff\xff\x01\x01\0\0\0z\0".to_vec(alloc)?;
-    let disk = MemoryDisk::new(alloc, left, Vec::new(alloc), 200, 100, Vec::new(alloc))?;
-    let Ok((mut journal, _)) = Journal::start(alloc, disk) else {
-        return println!(rt; "the last generation\tno journal");
-    };
-    let done = journal.checkpoint(b"more");
-    let appended = journal.append(b"more");
-    let _disk = journal.into_disk();
-    println!(rt; "the last generation: a checkpoint\t{done:?}")?;
-    println!(rt; "the last generation: an append\t{appended:?}")
+    let disk = disk_of(alloc, LAST, b"", 200, 100, &[])?;
+    let (_disk, played) = play(rt, alloc, disk, &AT_THE_LAST);
+    played
 }
 
-// What an append and a checkpoint of 67,108,843 bytes are answered, an append of one byte less, and one of nothing then.
-fn fill(journal: &mut Journal<SureDisk>, body: &[u8]) -> [Result<(), AppendFault>; 4] {
-    let appended = journal.append(body);
-    let done = journal.checkpoint(body);
-    let less = match body {
-        [] => Ok(()),
-        [_, rest @ ..] => journal.append(rest),
-    };
-    [appended, done, less, journal.append(b"")]
+// An append and a checkpoint of 67,108,843 bytes, an append of one byte less, and one of nothing then.
+fn fill<'a>(rt: &impl Print, alloc: Global, body: &'a [u8], less: &'a [u8]) -> io::Result<()> {
+    let acts = [
+        ("67108843 bytes: an append", Act::Append(body)),
+        ("67108843 bytes: a checkpoint", Act::Checkpoint(body)),
+        ("67108842 bytes: an append", Act::Append(less)),
+        ("nothing more: an append", Act::Append(b"")),
+    ];
+    let disk = SureDisk::new(Vec::new(alloc), Vec::new(alloc));
+    let (mut disk, played) = play(rt, alloc, disk, &acts);
+    let len = disk.len(Side::Left);
+    drop(disk);
+    played?;
+    row(rt, "the greatest side", len)
 }
 
 /// A side takes 67,108,864 bytes and no more.
 pub fn full(rt: &impl Print, alloc: Global) -> io::Result<()> {
     let mut body = Vec::new(alloc);
     body.resize(67_108_843, 0)?;
-    let disk = SureDisk::new(Vec::new(alloc), Vec::new(alloc));
-    let Ok((mut journal, _)) = Journal::start(alloc, disk) else {
-        return println!(rt; "the greatest side\tno journal");
-    };
-    let answers = fill(&mut journal, &body);
-    let mut disk = journal.into_disk();
-    let names = [
-        "67108843 bytes: an append",
-        "67108843 bytes: a checkpoint",
-        "67108842 bytes: an append",
-        "nothing more: an append",
-    ];
-    for (name, answer) in names.iter().zip(&answers) {
-        println!(rt; "{name}\t{answer:?}")?;
-    }
-    println!(rt; "the greatest side\t{:?}", disk.len(Side::Left))
+    fill(rt, alloc, &body, &body[1..])
 }

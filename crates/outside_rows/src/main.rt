@@ -5,18 +5,12 @@
 mod disks;
 mod files;
 mod journals;
+mod rows;
 mod sinks;
 mod sources;
 mod stops;
 
-use std::rt::Files;
-use std::{fs, io};
-
-fn no_files(rt: &impl Files) {
-    let _ = fs::remove_dir(rt, "rodin.left");
-    let _ = fs::remove_file(rt, "rodin.left");
-    let _ = fs::remove_file(rt, "rodin.right");
-}
+use std::io;
 
 fn main(rt: HostRuntime) -> io::Result<()> {
     let alloc = rt.alloc();
@@ -30,12 +24,7 @@ fn main(rt: HostRuntime) -> io::Result<()> {
     disks::memory(&rt, alloc)?;
     disks::images(&rt, alloc)?;
     disks::sure(&rt, alloc)?;
-    no_files(&rt);
-    files::written(&rt)?;
-    no_files(&rt);
-    files::made_once(&rt)?;
-    no_files(&rt);
-    files::refused(&rt)?;
+    files::two_disks(&rt)?;
     journals::refused(&rt, alloc)?;
     journals::standing(&rt, alloc)?;
     journals::written(&rt, alloc)?;

@@ -1,42 +1,83 @@
-//! Sinks.
+//! Sinks: what each write and each flush gives, at a call that fails, and where there is no room.
 
-use crate::sources::text;
+use crate::rows::{text, with_faults};
 use outside::{MemorySink, Sink, StreamSink, SureSink};
-use std::alloc::Global;
+use std::alloc::{AllocError, Global};
 use std::collections::VecDeque;
 use std::io;
 use std::io::{ErrorKind, Write};
 
-fn write<S: Sink>(rt: &impl Print, name: &str, sink: &mut S, piece: &str) -> io::Result<()> {
+// A call of a sink.
+#[derive(Clone, Copy)]
+enum Call {
+    Write(&'static str),
+    Flush,
+}
+
+fn write<S: Sink>(rt: &impl Print, sink: &mut S, piece: &str) -> io::Result<()> {
     let answer = sink.write(piece.as_bytes());
-    let faults = sink.faults();
-    println!(rt; "{name} takes '{piece}'\t{answer:?}\t{faults} faults")
+    with_faults(rt, answer, sink.faults())
 }
 
-fn flush<S: Sink>(rt: &impl Print, name: &str, sink: &mut S) -> io::Result<()> {
+fn flush<S: Sink>(rt: &impl Print, sink: &mut S) -> io::Result<()> {
     let answer = sink.flush();
-    let faults = sink.faults();
-    println!(rt; "{name} flushed\t{answer:?}\t{faults} faults")
+    with_faults(rt, answer, sink.faults())
 }
 
-/// The second and the fifth call of this sink fail, and it takes 6 bytes.
-pub fn memory(rt: &impl Print, alloc: Global) -> io::Result<()> {
-    let mut sink = MemorySink::new(alloc, 6, [2, 5].to_vec(alloc)?)?;
-    for piece in ["abc", "xy", "", "defgh", "", "g", ""] {
-        write(rt, "memory sink", &mut sink, piece)?;
-        println!(rt; "memory sink has\t{}", text(sink.taken()))?;
+fn make_call<S: Sink>(rt: &impl Print, name: &str, sink: &mut S, call: Call) -> io::Result<()> {
+    match call {
+        Call::Write(piece) => {
+            print!(rt; "{name} takes '{piece}'\t")?;
+            write(rt, sink, piece)
+        }
+        Call::Flush => {
+            print!(rt; "{name} flushed\t")?;
+            flush(rt, sink)
+        }
     }
-    flush(rt, "memory sink", &mut sink)?;
-    let mut flushed = MemorySink::new(alloc, 6, [1].to_vec(alloc)?)?;
-    flush(rt, "memory sink whose first call fails", &mut flushed)?;
-    flush(rt, "memory sink whose first call fails", &mut flushed)
 }
+
+fn make_each<S: Sink>(rt: &impl Print, name: &str, sink: &mut S, calls: &[Call]) -> io::Result<()> {
+    for it in calls {
+        make_call(rt, name, sink, *it)?;
+    }
+    Ok(())
+}
+
+fn has(rt: &impl Print, name: &str, bytes: &[u8]) -> io::Result<()> {
+    println!(rt; "{name} has\t{}", text(bytes))
+}
+
+// The second and the fifth call of this sink fail, and it takes 6 bytes.
+fn some_listed(rt: &impl Print, sink: &mut MemorySink) -> io::Result<()> {
+    for piece in &["abc", "xy", "", "defgh", "", "g", ""] {
+        make_call(rt, "memory sink", sink, Call::Write(*piece))?;
+        has(rt, "memory sink", sink.taken())?;
+    }
+    make_call(rt, "memory sink", sink, Call::Flush)
+}
+
+fn memory_sink(alloc: Global, fails: &[u64]) -> Result<MemorySink, AllocError> {
+    MemorySink::new(alloc, 6, fails.to_vec(alloc)?)
+}
+
+pub fn memory(rt: &impl Print, alloc: Global) -> io::Result<()> {
+    let mut sink = memory_sink(alloc, &[2, 5])?;
+    some_listed(rt, &mut sink)?;
+    let mut flushed = memory_sink(alloc, &[1])?;
+    let calls = [Call::Flush, Call::Flush];
+    make_each(
+        rt,
+        "memory sink whose first call fails",
+        &mut flushed,
+        &calls,
+    )
+}
+
+const TAKEN: [Call; 3] = [Call::Write("abc"), Call::Write(""), Call::Flush];
 
 pub fn sure(rt: &impl Print) -> io::Result<()> {
-    let mut sink = SureSink::new();
-    write(rt, "sure sink", &mut sink, "abc")?;
-    write(rt, "sure sink", &mut sink, "")?;
-    flush(rt, "sure sink", &mut sink)
+    make_each(rt, "sure sink", &mut SureSink::new(), &TAKEN)
 }
 
 // A writer whose every call fails.
@@ -54,28 +95,27 @@ impl Write for Broken {
 }
 
 fn held(rt: &impl Print, held: &mut VecDeque<u8>) -> io::Result<()> {
-    let mut sink = StreamSink::new(held);
-    write(rt, "stream sink", &mut sink, "abc")?;
-    write(rt, "stream sink", &mut sink, "")?;
-    flush(rt, "stream sink", &mut sink)
+    make_each(rt, "stream sink", &mut StreamSink::new(held), &TAKEN)
 }
 
-/// A writer that is full takes 0 bytes, which is a fault unless the piece is empty.
+// A writer that is full takes 0 bytes, which is a fault unless the piece is empty.
 fn full(rt: &impl Print) -> io::Result<()> {
     let mut room = [0; 2];
     let mut sink = StreamSink::new(room.as_mut_slice());
-    for piece in ["abc", "c", ""] {
-        write(rt, "stream sink of two bytes", &mut sink, piece)?;
-    }
-    Ok(())
+    let calls = [Call::Write("abc"), Call::Write("c"), Call::Write("")];
+    make_each(rt, "stream sink of two bytes", &mut sink, &calls)
+}
+
+fn broken_writer(rt: &impl Print) -> io::Result<()> {
+    let calls = [Call::Write("abc"), Call::Flush];
+    let mut sink = StreamSink::new(Broken);
+    make_each(rt, "stream sink of a broken writer", &mut sink, &calls)
 }
 
 pub fn stream(rt: &impl Print, alloc: Global) -> io::Result<()> {
     let mut bytes = VecDeque::new(alloc);
     held(rt, &mut bytes)?;
-    println!(rt; "stream sink has\t{}", text(bytes.make_contiguous()))?;
+    has(rt, "stream sink", bytes.make_contiguous())?;
     full(rt)?;
-    let mut broken = StreamSink::new(Broken);
-    write(rt, "stream sink of a broken writer", &mut broken, "abc")?;
-    flush(rt, "stream sink of a broken writer", &mut broken)
+    broken_writer(rt)
 }

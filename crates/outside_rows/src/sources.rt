@@ -1,44 +1,51 @@
-//! Sources.
+//! Sources: what each read gives, at a call that fails and at the end too.
 
-use outside::{MemorySource, Source, StreamSource, SureSource};
+use crate::rows::text;
+use outside::{Failed, MemorySource, Source, StreamSource, SureSource};
 use std::alloc::Global;
-use std::io::{Cursor, ErrorKind, Read};
-use std::{io, str};
+use std::io::{self, Cursor, ErrorKind, Read};
 
-/// Bytes as a text.
-pub fn text(bytes: &[u8]) -> &str {
-    str::from_utf8(bytes).unwrap_or("no text")
+fn print_read(
+    rt: &impl Print,
+    got: Result<usize, Failed>,
+    bytes: &[u8],
+    faults: u64,
+) -> io::Result<()> {
+    println!(rt; "{got:?} {}\t{faults} faults", text(bytes))
 }
 
-/// A read into a slice of so many bytes, at most 8.
-fn read<S: Source>(rt: &impl Print, name: &str, source: &mut S, room: usize) -> io::Result<()> {
+// A read into a slice of so many bytes, at most 8.
+fn read<S: Source>(rt: &impl Print, source: &mut S, room: usize) -> io::Result<()> {
     let mut into = [0; 8];
     let into = &mut into[..room.min(8)];
     let got = source.read(into);
     let count = got.unwrap_or(0);
-    let faults = source.faults();
-    println!(rt;
-        "{name} into {room}\t{got:?} {}\t{faults} faults",
-        text(&into[..count])
-    )
+    print_read(rt, got, &into[..count], source.faults())
+}
+
+fn each_read<S: Source>(
+    rt: &impl Print,
+    name: &str,
+    source: &mut S,
+    rooms: &[usize],
+) -> io::Result<()> {
+    for room in rooms {
+        print!(rt; "{name} into {room}\t")?;
+        read(rt, source, *room)?;
+    }
+    Ok(())
 }
 
 /// The second and the fifth call of this source fail.
 pub fn memory(rt: &impl Print, alloc: Global) -> io::Result<()> {
     let bytes = b"abcdefg".to_vec(alloc)?;
     let mut source = MemorySource::new(bytes, 3, [2, 5].to_vec(alloc)?);
-    for room in [8, 8, 2, 0, 8, 8, 8, 8] {
-        read(rt, "memory source", &mut source, room)?;
-    }
-    Ok(())
+    each_read(rt, "memory source", &mut source, &[8, 8, 2, 0, 8, 8, 8, 8])
 }
 
 pub fn sure(rt: &impl Print, alloc: Global) -> io::Result<()> {
     let mut source = SureSource::new(b"abcde".to_vec(alloc)?, 2);
-    for room in [8, 8, 8, 8] {
-        read(rt, "sure source", &mut source, room)?;
-    }
-    Ok(())
+    each_read(rt, "sure source", &mut source, &[8, 8, 8, 8])
 }
 
 // A reader whose every call fails.
@@ -54,12 +61,7 @@ impl Read for Broken {
 pub fn stream(rt: &impl Print) -> io::Result<()> {
     let bytes: &[u8] = b"abcde";
     let mut source = StreamSource::new(Cursor::new(bytes));
-    for room in [3, 3, 3] {
-        read(rt, "stream source", &mut source, room)?;
-    }
+    each_read(rt, "stream source", &mut source, &[3, 3, 3])?;
     let mut broken = StreamSource::new(Broken);
-    for room in [3, 3] {
-        read(rt, "stream source of a broken reader", &mut broken, room)?;
-    }
-    Ok(())
+    each_read(rt, "stream source of a broken reader", &mut broken, &[3, 3])
 }
