@@ -1,7 +1,7 @@
-//! The items of a step.
+//! The items of a step, as a hint.
 
-use crate::reading::{read_expression, read_predicate};
-use formula_core::{List, Name, Raw};
+use crate::reading::{path_of, put, written};
+use formula_core::{Env, List, Name, Raw};
 use sequent_core::Hint;
 use std::alloc::Global;
 
@@ -13,67 +13,63 @@ struct Items {
     names: Vec<Name>,
     terms: Vec<Raw>,
     law: u8,
-    place: Vec<u32>,
+    place: List<u32>,
 }
 
 fn add_hyp(items: &mut Items, text: &str) -> Option<()> {
-    match text.split_once(' ') {
-        Some((number, multiplier)) => {
-            items.hyps.push(number.parse::<u32>().ok()?).ok()?;
-            items
-                .multipliers
-                .push(multiplier.parse::<i128>().ok()?)
-                .ok()
-        }
-        None => items.hyps.push(text.parse::<u32>().ok()?).ok(),
-    }
-}
-
-fn add_law(items: &mut Items, text: &str) -> Option<()> {
-    let (law, place) = text.split_once(' ')?;
-    items.law = law.parse::<u8>().ok()?;
-    if place == "-" {
+    let (number, multiplier) = text.split_once(' ').unwrap_or((text, ""));
+    put(&mut items.hyps, number.parse::<u32>().ok()?).ok()?;
+    if multiplier.is_empty() {
         return Some(());
     }
-    for number in place.split('.') {
-        items.place.push(number.parse::<u32>().ok()?).ok()?;
-    }
+    put(&mut items.multipliers, multiplier.parse::<i128>().ok()?).ok()
+}
+
+fn add_law(alloc: Global, items: &mut Items, text: &str) -> Option<()> {
+    let (law, place) = text.split_once(' ')?;
+    items.law = law.parse::<u8>().ok()?;
+    items.place = path_of(alloc, place)?;
     Some(())
 }
 
-fn add_item(alloc: Global, items: &mut Items, text: &str) -> Option<()> {
+fn add_item(alloc: Global, names: &Env, items: &mut Items, text: &str) -> Option<()> {
     let (letter, rest) = text.split_once(' ')?;
     match letter {
         "h" => add_hyp(items, rest),
-        "n" => items.names.push(Name::read(alloc, rest).ok()?).ok(),
-        "e" => items.terms.push(read_expression(alloc, rest)?).ok(),
-        "p" => items.terms.push(read_predicate(alloc, rest)?).ok(),
-        "w" => add_law(items, rest),
+        "n" => put(&mut items.names, Name::read(alloc, rest).ok()?).ok(),
+        "e" => put(&mut items.terms, written(alloc, names, false, rest)?).ok(),
+        "p" => put(&mut items.terms, written(alloc, names, true, rest)?).ok(),
+        "w" => add_law(alloc, items, rest),
         _ => None,
     }
 }
 
-/// The hint that items give, which are separated by ` ;; `.
-pub fn read_hint(alloc: Global, text: &str) -> Option<Hint> {
+fn add_items(alloc: Global, names: &Env, items: &mut Items, text: &str) -> Option<()> {
+    if text != "-" {
+        for item in text.split(" ;; ") {
+            add_item(alloc, names, items, item)?;
+        }
+    }
+    Some(())
+}
+
+/// The hint that items give.
+pub fn read_hint(alloc: Global, names: &Env, text: &str) -> Option<Hint> {
     let mut items = Items {
         hyps: Vec::new(alloc),
         multipliers: Vec::new(alloc),
         names: Vec::new(alloc),
         terms: Vec::new(alloc),
         law: 0,
-        place: Vec::new(alloc),
+        place: List::of(Vec::new(alloc)),
     };
-    if text != "-" {
-        for item in text.split(" ;; ") {
-            add_item(alloc, &mut items, item)?;
-        }
-    }
+    add_items(alloc, names, &mut items, text)?;
     Some(Hint {
         hyps: List::of(items.hyps),
         multipliers: List::of(items.multipliers),
         names: List::of(items.names),
         terms: List::of(items.terms),
         law: items.law,
-        place: List::of(items.place),
+        place: items.place,
     })
 }
