@@ -1,4 +1,0 @@
-use Rattle.event_rows.proofs.acts.acts_of.Given as goal
-
-abbrev pub ghosts-start_counted : goal.ghosts-start_counted
-ghosts-start_counted a = record { name = a.blank.name; parts = a.blank.parts }

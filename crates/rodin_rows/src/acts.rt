@@ -1,0 +1,182 @@
+//! Rows of events on a store.
+ghost use Rattle.std.specs.Prelude.{◌≡◌, ◌<◌};
+
+use crate::cores::add_replies;
+use crate::events::told_event;
+use crate::replies::add_reply_line;
+use core_steps::{Event, Reply};
+use formula_core::Steps;
+use outside::SureDisk;
+use project_store::{OpenFault, Store, StoreFault};
+use sequent_core::Ticket;
+use session_words::{Commands, Line};
+use std::alloc::{AllocError, Global};
+use std::marker::Brand;
+use std::sync::ledger::{Blank, Ledger};
+
+// Each with a counter of steps that nobody reads.
+fn start_counted<L: Ledger>(
+    alloc: Global,
+    disk: SureDisk,
+    blank: Blank,
+) -> Result<Store<SureDisk>, (SureDisk, OpenFault)>
+    requires name { blank.name ≡ L.name }
+    requires parts { blank.parts ≡ L.parts }
+    requires some { 0 < blank.parts }
+{
+    let mut steps = Steps::<L>::open(blank);
+    Store::start(alloc, disk, &mut steps)
+}
+
+fn apply_counted<L: Ledger>(
+    store: &mut Store<SureDisk>,
+    event: Event,
+    blank: Blank,
+) -> Result<Reply, StoreFault>
+    requires name { blank.name ≡ L.name }
+    requires parts { blank.parts ≡ L.parts }
+    requires some { 0 < blank.parts }
+{
+    let mut steps = Steps::<L>::open(blank);
+    store.apply(0, event, &mut steps)
+}
+
+fn apply(store: &mut Store<SureDisk>, event: Event) -> Result<Reply, StoreFault> {
+    apply_counted::<Brand>(store, event, Blank::new(1))
+}
+
+// Keeps the ticket that a reply gives.
+fn keep(tickets: &mut Vec<Ticket>, reply: Reply) -> Result<(), AllocError> {
+    match reply {
+        Reply::Taken(ticket) => {
+            tickets.push(ticket)?;
+            Ok(())
+        }
+        other => {
+            drop(other);
+            Ok(())
+        }
+    }
+}
+
+// Does an event, and adds its reply.
+fn act(
+    store: &mut Store<SureDisk>,
+    tickets: &mut Vec<Ticket>,
+    event: Event,
+    out: &mut String,
+) -> Result<(), AllocError> {
+    match apply(store, event) {
+        Ok(reply) => {
+            let told = add_reply_line(out, &reply);
+            keep(tickets, reply)?;
+            told
+        }
+        Err(fault) => add_fault(out, &fault),
+    }
+}
+
+fn add_fault(out: &mut String, fault: &StoreFault) -> Result<(), AllocError> {
+    writeln!(out, "fault {fault:?}")?;
+    Ok(())
+}
+
+// The event of a session's line that is one.
+fn event_of(line: Line) -> Option<Event> {
+    match line {
+        Line::One(event) => Some(event),
+        other => {
+            drop(other);
+            None
+        }
+    }
+}
+
+// The next event of the session's lines that are whole.
+fn next_event(commands: &mut Commands) -> Result<Option<Event>, AllocError> {
+    match commands.next() {
+        Ok(Some(line)) => Ok(event_of(line)),
+        Ok(None) => Ok(None),
+        Err(_) => Err(AllocError),
+    }
+}
+
+// Reads a line of a session, and does the event that it ends.
+fn act_on_line(
+    store: &mut Store<SureDisk>,
+    tickets: &mut Vec<Ticket>,
+    commands: &mut Commands,
+    line: &str,
+    out: &mut String,
+) -> Result<(), AllocError> {
+    if commands.feed(line.as_bytes()).is_err() || commands.feed(b"\n").is_err() {
+        return Err(AllocError);
+    }
+    match next_event(commands)? {
+        Some(event) => act(store, tickets, event, out),
+        None => Ok(()),
+    }
+}
+
+fn act_all(
+    alloc: Global,
+    store: &mut Store<SureDisk>,
+    tickets: &mut Vec<Ticket>,
+    commands: &mut Commands,
+    text: &str,
+    out: &mut String,
+) -> Result<(), AllocError> {
+    for line in text.split('\n') {
+        match told_event(alloc, tickets, line) {
+            Some(event) => act(store, tickets, event, out)?,
+            None => act_on_line(store, tickets, commands, line, out)?,
+        }
+    }
+    Ok(())
+}
+
+// Does the events of a row one after another, with the tickets that they take.
+fn play(
+    alloc: Global,
+    store: &mut Store<SureDisk>,
+    text: &str,
+    out: &mut String,
+) -> Result<(), AllocError> {
+    let mut tickets = Vec::new(alloc);
+    let mut commands = Commands::new(alloc);
+    act_all(alloc, store, &mut tickets, &mut commands, text, out)
+}
+
+// Does the events of a row on a store, and the same acts on a core. Adds the replies of each.
+fn acts_of(
+    alloc: Global,
+    text: &str,
+    told: &mut String,
+    by_core: &mut String,
+) -> Result<(), AllocError> {
+    let disk = SureDisk::new(Vec::new(alloc), Vec::new(alloc));
+    let Ok(mut store) = start_counted::<Brand>(alloc, disk, Blank::new(1)) else {
+        return Err(AllocError);
+    };
+    let done = play(alloc, &mut store, text, told);
+    let (disk, acts, durable) = store.into_parts();
+    drop(disk);
+    drop(durable);
+    match done {
+        Ok(()) => add_replies(alloc, &acts, by_core),
+        Err(fault) => Err(fault),
+    }
+}
+
+/// Adds the replies to the events of a row on a store, and those of a core where they are others.
+pub fn add_events(alloc: Global, text: &str, out: &mut String) -> Result<(), AllocError> {
+    let mut told = String::new(alloc);
+    let mut by_core = String::new(alloc);
+    acts_of(alloc, text, &mut told, &mut by_core)?;
+    out.push_str(&told)?;
+    if by_core.as_str() != told.as_str() {
+        out.push_str("but on a core\n")?;
+        out.push_str(&by_core)?;
+    }
+    Ok(())
+}

@@ -1,4 +1,0 @@
-use Rattle.session_rows.proofs.trees.+cuts.Given as goal
-
-abbrev pub decreases-cuts : goal.decreases-cuts
-decreases-cuts l = l.depth
