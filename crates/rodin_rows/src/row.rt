@@ -128,22 +128,28 @@ impl Row {
     }
 
     // The words of a row that doesn't say which.
-    fn usual_words(&self) -> &'static str {
+    fn usual_words(&self) -> &str {
         match self.kind {
             Kind::Sessions => "session 0",
             _ => "check",
         }
     }
 
+    // The words of the command line, with blanks between them.
+    fn text_of_words(&self) -> &str {
+        if self.says("words") {
+            return "";
+        }
+        match self.behind("words") {
+            Some(told) => told,
+            None => self.usual_words(),
+        }
+    }
+
     /// The words of the command line.
     pub fn words(&self, alloc: Global) -> Result<Vec<String>, AllocError> {
-        let told = if self.says("words") {
-            ""
-        } else {
-            self.behind("words").unwrap_or(self.usual_words())
-        };
         let mut words = Vec::new(alloc);
-        for word in told.split(' ') {
+        for word in self.text_of_words().split(' ') {
             if !word.is_empty() {
                 words.push(String::from_str(alloc, word)?)?;
             }
