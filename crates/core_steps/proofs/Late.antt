@@ -17,7 +17,7 @@ use Rattle.core_steps.specs.State.{State}
 use Rattle.core_steps.specs.Status.{IsStatus}
 use Rattle.core_steps.specs.Table.{IsTable, IsPresent}
 use Rattle.core_steps.specs.Outcomes.{StepOutcome}
-use Rattle.core_steps.specs.Tickets.{CanStore, IsPresentStatus, EndsTicket, Finishes, by_prover}
+use Rattle.core_steps.specs.Tickets.{CanStore, IsPresentStatus, stored, stale, refused, EndsTicket, Finishes, by_prover}
 use Rattle.core_steps.specs.Laws.{AreApart, IsOrderly, IsStoredOrStale, StoresLate}
 use Rattle.core_steps.proofs.NameMaps.{get_same, names_differ}
 use Rattle.core_steps.proofs.OneWay.{one_status, one_present, ticket_cut, among_cut}
@@ -27,18 +27,18 @@ good_status : (s : State) (k : Ticket) (q : Option Sequent) (tree : Tree) (statu
     IsPresentStatus (insert s.durable.proofs k.name (by_prover tree)) k.name q status → status ≡ Some Discharged
 good_status s k None tree status can shown = absurd can
 good_status s k (Some q) tree status can shown =
-    let stored : IsStatus (get (insert s.durable.proofs k.name (by_prover tree)) k.name) q Discharged =
+    let proved : IsStatus (get (insert s.durable.proofs k.name (by_prover tree)) k.name) q Discharged =
     subst (λ o. IsStatus o q Discharged) (sym (get_same s.durable.proofs k.name (by_prover tree))) can.1.derives in
-    shown.1 ∙ ap Some (one_status _ q shown.0 Discharged shown.2 stored)
+    shown.1 ∙ ap Some (one_status _ q shown.0 Discharged shown.2 proved)
 
 late_ends : (s : State) (k : Ticket) (q : Option Sequent) (tree : Tree) (x : StepOutcome) → IsGoodTree tree k.sequent → EndsTicket s k q (Found tree) x → IsStoredOrStale s k q tree x
-late_ends s k q tree x good (status, shown, inl y) =
-    let is = good_status s k q tree status y.0 (subst (λ (z : StepOutcome). IsPresentStatus z.new.durable.proofs k.name q status) y.1 shown) in (
-      (λ can. (ap (λ z. z.reply) y.1 ∙ ap (Stored k.name) is, ap (λ z. get z.new.durable.proofs k.name) y.1 ∙ get_same s.durable.proofs k.name (by_prover tree))),
-      (λ cannot. absurd (cannot y.0)),
+late_ends s k q tree x good (status, shown, stored can y) =
+    let is = good_status s k q tree status can (subst (λ (z : StepOutcome). IsPresentStatus z.new.durable.proofs k.name q status) y shown) in (
+      (λ again. (ap (λ z. z.reply) y ∙ ap (Stored k.name) is, ap (λ z. get z.new.durable.proofs k.name) y ∙ get_same s.durable.proofs k.name (by_prover tree))),
+      (λ cannot. absurd (cannot can)),
     )
-late_ends s k q tree x good (status, shown, inr (cannot, inl y)) = ((λ can. absurd (cannot can)), (λ n. (status, ap (λ z. z.reply) y.1, ap (λ z. z.new.durable) y.1)))
-late_ends s k q tree x good (status, shown, inr (cannot, inr y)) = absurd (y.0 good)
+late_ends s k q tree x good (status, shown, stale cannot own y) = ((λ can. absurd (cannot can)), (λ n. (status, ap (λ z. z.reply) y, ap (λ z. z.new.durable) y)))
+late_ends s k q tree x good (status, shown, refused cannot bad y) = absurd (bad good)
 
 abbrev EndsBeside : State → List Obligation → Tree → StepOutcome → Ticket × List Ticket → Type 0
 EndsBeside s table tree x z = (q : Option Sequent) × IsPresent table z.0.name q × EndsTicket (record s { out = z.1 }) z.0 q (Found tree) x

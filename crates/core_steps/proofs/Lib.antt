@@ -1,4 +1,5 @@
 pub mod Alls
+pub mod Cases
 mod Counted
 mod Decided
 mod Known

@@ -49,6 +49,7 @@ use Rattle.core_steps.specs.Tickets.{IsOpen, TakesFirst, TakesNamed, TellsNotOpe
 use Rattle.core_steps.specs.Step.{Tells, ComesBeside, Comes}
 use Rattle.core_steps.specs.Laws.{AreApart, IsOrderly}
 use Rattle.core_steps.proofs.Alls.{all_first, all_last}
+use Rattle.core_steps.proofs.Cases.{edit_tests, found_tests}
 use Rattle.core_steps.proofs.NameMaps.{names_differ}
 
 apart_bools : (b : Bool) → b ≡ false → b ≡ true → ⊥
@@ -174,7 +175,7 @@ join : {x y : StepOutcome} (z : StepOutcome) → x ≡ z → y ≡ z → x ≡ y
 join z a b = a ∙ sym b
 
 edits : (s : State) (name text : List ℕ) (x y : StepOutcome) → Edits s name text x → Edits s name text y → x ≡ y
-edits s name text x y = unless_one (join _) (where_one (join _) (where_one (join _) (join _)))
+edits s name text x y a b = unless_one (join _) (where_one (join _) (where_one (join _) (join _))) (edit_tests a) (edit_tests b)
 
 deletes : (s : State) (name : List ℕ) (x y : StepOutcome) → Deletes s name x → Deletes s name y → x ≡ y
 deletes s name x y = unless_one (join _) (join _)
@@ -274,7 +275,7 @@ ends s k q NoProof x y u v =
 ends s k q AttemptNoMemory x y u v =
     u.2 ∙ ap (λ status. told (tried_with s k) (NoMemory k.name status)) (one_present_status s.durable.proofs k.name q u.0 v.0 u.1 v.1) ∙ sym v.2
 ends s k q (Found tree) x y u v =
-    let e = durable_same s k q tree u.0 v.0 x y u.2 v.2 in
+    let e = durable_same s k q tree u.0 v.0 x y (found_tests u.2) (found_tests v.2) in
     e.1 (one_present_status y.new.durable.proofs k.name q u.0 v.0 (subst (λ d. IsPresentStatus d.proofs k.name q u.0) e.0 u.1) v.1)
 
 pub among_cut : (number : ℕ) (out before behind : List Ticket) (k : Ticket) → out ≡ before ++ k ∷ behind → k.number ≡ number → AllByRecursion (λ ticket. ticket.number ≢ number) out → ⊥

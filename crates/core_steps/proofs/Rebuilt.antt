@@ -32,6 +32,7 @@ use Rattle.core_steps.specs.Tickets.{IsPresentStatus, EndsTicket, Finishes, by_p
 use Rattle.proof_entries.specs.declared.Entry.TheVariants.{SetProof}
 use Rattle.core_steps.specs.Step.{Tells, ComesBeside}
 use Rattle.core_steps.specs.Laws.{TellsRebuilt, IsRebuiltIf, IsRebuiltAs}
+use Rattle.core_steps.proofs.Cases.{edit_any, found_any}
 use Rattle.core_steps.proofs.NameMaps.{get_same}
 use Rattle.core_steps.proofs.Sorts.{where_any, unless_any, match_any}
 
@@ -81,11 +82,10 @@ module _ (s : State) (x : StepOutcome) (table : List Obligation) (is : IsTable s
   ends before behind k q NoProof present e = right _ (if_shown s.durable table k.name q e.0 is present e.1) e.2
   ends before behind k q AttemptNoMemory present e = right _ (if_shown s.durable table k.name q e.0 is present e.1) e.2
   ends before behind k q (Found tree) present e =
-      where_any
+      found_any e.2
       (λ z. right _ (if_shown (entered s.durable (SetProof k.name (by_prover tree))) table k.name q e.0 is present (subst (λ y. IsPresentStatus y.new.durable.proofs k.name q e.0) z e.1)) z)
-      (where_any
       (λ z. right _ (if_shown s.durable table k.name q e.0 is present (subst (λ y. IsPresentStatus y.new.durable.proofs k.name q e.0) z e.1)) z)
-      (λ z. right _ (if_shown s.durable table k.name q e.0 is present (subst (λ y. IsPresentStatus y.new.durable.proofs k.name q e.0) z e.1)) z)) e.2
+      (λ z. right _ (if_shown s.durable table k.name q e.0 is present (subst (λ y. IsPresentStatus y.new.durable.proofs k.name q e.0) z e.1)) z)
 
   question_right : (question : Question) → Tells s table question x → Right x
   question_right AskStatuses a = right _ a.1 a.2
@@ -96,7 +96,7 @@ module _ (s : State) (x : StepOutcome) (table : List Obligation) (is : IsTable s
   question_right AskIdle a = where_any (right _ tt) (right _ tt) a
 
   pub rebuilt_beside : (event : Event) → ComesBeside s table event x → Right x
-  rebuilt_beside (Edit name text) a = unless_any (right _ tt) (where_any (right _ tt) (where_any (right _ tt) (right _ tt))) a
+  rebuilt_beside (Edit name text) a = edit_any a (right _ tt) (right _ tt) (right _ tt) (right _ tt)
   rebuilt_beside (Delete name) a = unless_any (right _ tt) (right _ tt) a
   rebuilt_beside Build (inl a) = right _ tt a.2
   rebuilt_beside Build (inr a) = right _ tt a.4

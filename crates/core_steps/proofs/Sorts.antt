@@ -23,12 +23,13 @@ use Rattle.core_steps.specs.declared.events.Question.TheVariants.{Statuses as As
 use Rattle.core_steps.specs.declared.events.Reply.{Reply}
 use Rattle.core_steps.specs.State.{State, entered_if}
 use Rattle.core_steps.specs.Outcomes.{StepOutcome, told, entering, Where, Unless}
-use Rattle.core_steps.specs.Editing.{Edits, Builds}
+use Rattle.core_steps.specs.Editing.{Builds}
 use Rattle.core_steps.specs.Proving.{OnObligation, stored_tree, Keeps, Puts, StepsAt, PrunesAt, ShowsOne, ShowsAt, ShowsTree}
 use Rattle.core_steps.specs.Tickets.{TakesFirst, TakesNamed, taking, ticket_for, EndsTicket, Finishes}
 use Rattle.core_steps.specs.Step.{Tells, ComesBeside, Comes}
 use Rattle.core_steps.specs.Laws.{AreApart, IsOrderly}
 use Rattle.core_steps.proofs.Alls.{all_both, all_first, all_last, all_so}
+use Rattle.core_steps.proofs.Cases.{edit_any, found_any}
 
 pub data Sort (s : State) (x : StepOutcome) : Type 0 where
   tells : (reply : Reply) → x ≡ told s reply → Sort s x
@@ -84,7 +85,7 @@ module _ (s : State) (x : StepOutcome) where
   ends before k behind cut q NoProof e = hands_in before k behind cut (insert s.tried k.name k.sequent) _ e.2
   ends before k behind cut q AttemptNoMemory e = hands_in before k behind cut (insert s.tried k.name k.sequent) _ e.2
   ends before k behind cut q (Found tree) e =
-      where_any (stores before k behind cut _ _) (where_any (hands_in before k behind cut s.tried _) (hands_in before k behind cut (insert s.tried k.name k.sequent) _)) e.2
+      found_any e.2 (stores before k behind cut _ _) (hands_in before k behind cut s.tried _) (hands_in before k behind cut (insert s.tried k.name k.sequent) _)
 
   question_sort : (table : List Obligation) (question : Question) → Tells s table question x → Sort s x
   question_sort table AskStatuses a = tells _ a.2
@@ -95,7 +96,7 @@ module _ (s : State) (x : StepOutcome) where
   question_sort table AskIdle a = where_any (tells _) (tells _) a
 
   beside : (table : List Obligation) (event : Event) → ComesBeside s table event x → Sort s x
-  beside table (Edit name text) a = unless_any (tells _) (where_any (tells _) (where_any (tells _) (enters _ _))) a
+  beside table (Edit name text) a = edit_any a (tells _) (tells _) (tells _) (enters _ _)
   beside table (Delete name) a = unless_any (tells _) (enters _ _) a
   beside table Build (inl a) = tells _ a.2
   beside table Build (inr a) = enters _ _ a.4

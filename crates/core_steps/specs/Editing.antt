@@ -11,19 +11,19 @@ use Rattle.core_steps.specs.Durable.{text_cmp, ProjectMap}
 use Rattle.core_steps.specs.Faults.{AreFaults}
 use Rattle.core_steps.specs.Table.{IsTableWithin, IsTooLarge, is_obligation}
 use Rattle.core_steps.specs.State.{State}
-use Rattle.core_steps.specs.Outcomes.{StepOutcome, told, entering, Where, Unless}
+use Rattle.core_steps.specs.Outcomes.{StepOutcome, told, entering, Unless}
 
 -- the project has 256 components, and none of this name
 abbrev pub IsFullFor : ProjectMap → List ℕ → Type 0
 IsFullFor texts name = (contains_key texts name ≡ false) × (256 ≤ len texts)
 
 -- an edit sets the text, unless the name is primed, the text too long, or the project full
-abbrev pub Edits : State → List ℕ → List ℕ → StepOutcome → Type 0
-Edits s name text x =
-    Unless (is_identifier name ≡ true) (x ≡ told s BadName)
-    (Where (65536 < length text) (x ≡ told s TextTooLong)
-    (Where (IsFullFor s.durable.texts name) (x ≡ told s ProjectFull)
-    (x ≡ entering s (Edited name) (Put name text))))
+pub data Edits (s : State) (name text : List ℕ) (x : StepOutcome) : Type 0 where
+  bad_name : (is_identifier name ≡ true → ⊥) → x ≡ told s BadName → Edits s name text x
+  text_too_long : is_identifier name ≡ true → 65536 < length text → x ≡ told s TextTooLong → Edits s name text x
+  project_full : is_identifier name ≡ true → (65536 < length text → ⊥) → IsFullFor s.durable.texts name → x ≡ told s ProjectFull → Edits s name text x
+  edited : is_identifier name ≡ true → (65536 < length text → ⊥) → (IsFullFor s.durable.texts name → ⊥) → x ≡ entering s (Edited name) (Put name text) →
+      Edits s name text x
 
 -- a delete drops the text, unless there is none
 abbrev pub Deletes : State → List ℕ → StepOutcome → Type 0

@@ -93,6 +93,16 @@ tried_with s ticket = record s { tried = insert s.tried ticket.name ticket.seque
 abbrev pub by_prover : Tree → Proof
 by_prover tree = record { tree = tree; origin = Prover }
 
+-- What comes of a tree that was found: it is stored where it is good for the present sequent, whose status is
+-- unattempted or broken; else it is stale where it is good for the ticket's own sequent, and refused where it isn't.
+pub data EndsFound (s : State) (ticket : Ticket) (sequent : Option Sequent) (tree : Tree) (status : Option Status) (x : StepOutcome) : Type 0 where
+  stored : CanStore s.durable.proofs ticket.name sequent tree → x ≡ entering s (Stored ticket.name status) (SetProof ticket.name (by_prover tree)) →
+      EndsFound s ticket sequent tree status x
+  stale : (CanStore s.durable.proofs ticket.name sequent tree → ⊥) → IsGoodTree tree ticket.sequent → x ≡ told s (Stale ticket.name status) →
+      EndsFound s ticket sequent tree status x
+  refused : (CanStore s.durable.proofs ticket.name sequent tree → ⊥) → (IsGoodTree tree ticket.sequent → ⊥) →
+      x ≡ told (tried_with s ticket) (Refused ticket.name status) → EndsFound s ticket sequent tree status x
+
 -- What comes of a ticket that was taken in, by the attempt: a good proof is stored, and a sequent for which none came
 -- is tried.
 abbrev pub EndsTicket : State → Ticket → Option Sequent → Attempt → StepOutcome → Type 0
@@ -103,10 +113,7 @@ EndsTicket s ticket sequent AttemptNoMemory x =
     (status : Option Status) × IsPresentStatus s.durable.proofs ticket.name sequent status
     × (x ≡ told (tried_with s ticket) (NoMemory ticket.name status))
 EndsTicket s ticket sequent (Found tree) x =
-    (status : Option Status) × IsPresentStatus x.new.durable.proofs ticket.name sequent status
-    × Where (CanStore s.durable.proofs ticket.name sequent tree)
-    (x ≡ entering s (Stored ticket.name status) (SetProof ticket.name (by_prover tree)))
-    (Where (IsGoodTree tree ticket.sequent) (x ≡ told s (Stale ticket.name status)) (x ≡ told (tried_with s ticket) (Refused ticket.name status)))
+    (status : Option Status) × IsPresentStatus x.new.durable.proofs ticket.name sequent status × EndsFound s ticket sequent tree status x
 
 -- a finish takes the ticket of this number in, if it is out
 abbrev pub Finishes : State → List Obligation → ℕ → Attempt → StepOutcome → Type 0

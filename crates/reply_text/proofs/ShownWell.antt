@@ -50,6 +50,7 @@ use Rattle.core_steps.specs.Step.{Tells, ComesBeside, Comes}
 use Rattle.core_steps.specs.Table.{IsTable, IsPresent}
 use Rattle.core_steps.specs.Tickets.{EndsTicket}
 use Rattle.core_steps.proofs.Alls.{all_so}
+use Rattle.core_steps.proofs.Cases.{edit_any, found_any}
 use Rattle.core_steps.proofs.NameMaps.{names_differ}
 use Rattle.reply_text.specs.Replies.{goals_of, shown_formulas}
 
@@ -257,7 +258,7 @@ module _ (s : State) (x : StepOutcome) (table : List Obligation) (sequents : Are
   ends : (before behind : List Ticket) (k : Ticket) (q : Option Sequent) (a : Attempt) → EndsTicket (record s { out = before ++ behind }) k q a x → Right x
   ends before behind k q NoProof e = right _ tt e.2
   ends before behind k q NoMemory e = right _ tt e.2
-  ends before behind k q (Found tree) e = where_any (right _ tt) (where_any (right _ tt) (right _ tt)) e.2
+  ends before behind k q (Found tree) e = found_any e.2 (right _ tt) (right _ tt) (right _ tt)
 
   told_well : (question : Question) → Tells s table question x → Right x
   told_well ask.Statuses a = right _ tt a.2
@@ -268,7 +269,7 @@ module _ (s : State) (x : StepOutcome) (table : List Obligation) (sequents : Are
   told_well ask.Idle a = where_any (right _ tt) (right _ tt) a
 
   well_beside : (e : Event) → ComesBeside s table e x → Right x
-  well_beside (event.Edit name text) a = unless_any (right _ tt) (where_any (right _ tt) (where_any (right _ tt) (right _ tt))) a
+  well_beside (event.Edit name text) a = edit_any a (right _ tt) (right _ tt) (right _ tt) (right _ tt)
   well_beside (event.Delete name) a = unless_any (right _ tt) (right _ tt) a
   well_beside event.Build (inl a) = right _ tt a.2
   well_beside event.Build (inr a) = right _ tt a.4

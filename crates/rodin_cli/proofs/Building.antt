@@ -18,10 +18,11 @@ use Rattle.core_steps.specs.declared.Reply.TheVariants.{TableFull, Built}
 use Rattle.core_steps.specs.Durable.{ProjectMap, text_cmp, IsBuildable}
 use Rattle.core_steps.specs.State.{State, entered, opened, no_texts}
 use Rattle.core_steps.specs.Outcomes.{StepOutcome}
-use Rattle.core_steps.specs.Editing.{Edits, Builds}
+use Rattle.core_steps.specs.Editing.{Edits, bad_name, text_too_long, project_full, edited, Builds}
 use Rattle.core_steps.specs.Tickets.{EndsTicket}
 use Rattle.core_steps.specs.Step.{Comes}
 use Rattle.core_steps.specs.Run.{Exchange, Runs}
+use Rattle.core_steps.proofs.Cases.{found_any}
 use Rattle.core_steps.proofs.NameMaps.{entries-empty}
 use Rattle.check_input.specs.Inputs.{Component, IsInput}
 use Rattle.check_input.specs.Laws.{AreGoodFrom}
@@ -37,10 +38,10 @@ empty_buildable = rw (entries-empty {X = List ℕ}) (omega arith, tt)
 -- ---- edits
 edited_to : (s : State) (x : StepOutcome) (name text : List ℕ) → Edits s name text x → is_identifier name ≡ true → length text ≤ 65536 → len s.durable.texts < 256 →
     x.new.durable ≡ entered s.durable (Put name text)
-edited_to s x name text (inl d) is short room = absurd (d.0 is)
-edited_to s x name text (inr (named, inl d)) is short room = absurd (let long = d.0 in omega (arith, long, short))
-edited_to s x name text (inr (named, inr (within, inl d))) is short room = absurd (let full = d.0.1 in omega (arith, full, room))
-edited_to s x name text (inr (named, inr (within, inr d))) is short room = ap (λ z. z.new.durable) d.1
+edited_to s x name text (bad_name primed d) is short room = absurd (primed is)
+edited_to s x name text (text_too_long named long d) is short room = absurd (omega (arith, long, short))
+edited_to s x name text (project_full named within full d) is short room = absurd (let many = full.1 in omega (arith, many, room))
+edited_to s x name text (edited named within lacks d) is short room = ap (λ z. z.new.durable) d
 
 one_more : (b : Bool) (n k : ℕ) → n ≤ k → cond b n (n + 1) ≤ k + 1
 one_more true n k h = omega (arith, h)
@@ -74,9 +75,7 @@ take_keeps s x (table, is, inr d) = ap (λ z. z.new.durable.built) d.6
 ends_keep : (s : State) (ticket : Ticket) (sequent : Option Sequent) (attempt : Attempt) (x : StepOutcome) → EndsTicket s ticket sequent attempt x → x.new.durable.built ≡ s.durable.built
 ends_keep s ticket sequent NoProof x e = ap (λ z. z.new.durable.built) e.2
 ends_keep s ticket sequent AttemptNoMemory x e = ap (λ z. z.new.durable.built) e.2
-ends_keep s ticket sequent (Found tree) x (status, shown, inl d) = ap (λ z. z.new.durable.built) d.1
-ends_keep s ticket sequent (Found tree) x (status, shown, inr (never, inl d)) = ap (λ z. z.new.durable.built) d.1
-ends_keep s ticket sequent (Found tree) x (status, shown, inr (never, inr d)) = ap (λ z. z.new.durable.built) d.1
+ends_keep s ticket sequent (Found tree) x e = found_any e.2 (ap (λ z. z.new.durable.built)) (ap (λ z. z.new.durable.built)) (ap (λ z. z.new.durable.built))
 
 finish_keeps : (s : State) (x : StepOutcome) (number : ℕ) (attempt : Attempt) → Comes s (Finish number attempt) x → x.new.durable.built ≡ s.durable.built
 finish_keeps s x number attempt (table, is, inl d) = ap (λ z. z.new.durable.built) d.1

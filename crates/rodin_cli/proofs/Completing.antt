@@ -27,7 +27,7 @@ use Rattle.core_steps.specs.Laws.{DecidesSequents}
 use Rattle.core_steps.specs.State.{State, entered}
 use Rattle.core_steps.specs.Outcomes.{StepOutcome}
 use Rattle.core_steps.specs.Step.{Comes}
-use Rattle.core_steps.specs.Tickets.{CanStore, EndsTicket, IsOpen, IsFor, TakesFirst, by_prover, ticket_for, tried_with}
+use Rattle.core_steps.specs.Tickets.{CanStore, stored, stale, refused, EndsTicket, IsOpen, IsFor, TakesFirst, by_prover, ticket_for, tried_with}
 use Rattle.core_steps.specs.Run.{Exchange, Runs, IsLegal}
 use Rattle.core_steps.proofs.Alls.{all_both, all_so_both}
 use Rattle.core_steps.proofs.NameMaps.{get_same, get_other}
@@ -120,7 +120,7 @@ pub record Closes (sure : Sequent → Type 0) (s t : State) (o : Obligation) (xs
   pub legal : (number : ℕ) → reply ≢ NoTicket number
 
 settled_by : (proofs : FinMap text_cmp Proof) (o : Obligation) (proof : Proof) → Derives proof.tree o.sequent → IsUnsettledBy (insert proofs o.name proof) o → ⊥
-settled_by proofs o proof derives unsettled = by unsettled.0 (subst (λ stored. IsStatus stored o.sequent unsettled.0) (get_same proofs o.name proof) unsettled.1) unsettled.2 where
+settled_by proofs o proof derives unsettled = by unsettled.0 (subst (λ found. IsStatus found o.sequent unsettled.0) (get_same proofs o.name proof) unsettled.1) unsettled.2 where
   by : (status : Status) → IsStatus (Some proof) o.sequent status → IsUnsettled status → ⊥
   by status is (inl e) = derives_not_leaf proof.tree o.sequent derives (subst (λ q. IsStatus (Some proof) o.sequent q) e is)
   by status is (inr e) = (subst (λ q. IsStatus (Some proof) o.sequent q) e is).1 derives.applies
@@ -168,11 +168,11 @@ module _ (sure : Sequent → Type 0) (s : State) (number : ℕ) (o : Obligation)
       closes_as x _ e.2 (tried_closes (Noted o.name e.0) (λ n k. let no : Noted o.name e.0 ≡ NoTicket n = k in cc) (inl fair))
   finish_closes sequent AttemptNoMemory x is unsettled fair memory e =
       closes_as x _ e.2 (tried_closes (NoMemory o.name e.0) (λ n k. let no : NoMemory o.name e.0 ≡ NoTicket n = k in cc) (inr (memory refl)))
-  finish_closes sequent (Found tree) x is unsettled fair memory (status, shown, inl (can, stored)) =
-      closes_as x _ stored (stored_closes (Stored o.name status) (by_prover tree) (λ n k. let no : Stored o.name status ≡ NoTicket n = k in cc) (stores sequent tree is can))
-  finish_closes sequent (Found tree) x is unsettled fair memory (status, shown, inr (never, inl (good, stale))) = absurd (never (can_store sequent tree is unsettled good))
-  finish_closes sequent (Found tree) x is unsettled fair memory (status, shown, inr (never, inr (bad, refused))) =
-      closes_as x _ refused (tried_closes (Refused o.name status) (λ n k. let no : Refused o.name status ≡ NoTicket n = k in cc) (inl (λ certain. bad (fair certain))))
+  finish_closes sequent (Found tree) x is unsettled fair memory (status, shown, stored can d) =
+      closes_as x _ d (stored_closes (Stored o.name status) (by_prover tree) (λ n k. let no : Stored o.name status ≡ NoTicket n = k in cc) (stores sequent tree is can))
+  finish_closes sequent (Found tree) x is unsettled fair memory (status, shown, stale never good d) = absurd (never (can_store sequent tree is unsettled good))
+  finish_closes sequent (Found tree) x is unsettled fair memory (status, shown, refused never bad d) =
+      closes_as x _ d (tried_closes (Refused o.name status) (λ n k. let no : Refused o.name status ≡ NoTicket n = k in cc) (inl (λ certain. bad (fair certain))))
 
 -- THE TURNS
 
@@ -181,7 +181,7 @@ stays_closed : (s t : State) (p : Obligation) → s.out ≡ [] → get t.durable
     (IsOpen s p → ⊥) → IsOpen t p → ⊥
 stays_closed s t p out proofs tried closed open_ =
     closed (record {
-      unsettled = (open_.unsettled.0, subst (λ stored. IsStatus stored p.sequent open_.unsettled.0) proofs open_.unsettled.1, open_.unsettled.2);
+      unsettled = (open_.unsettled.0, subst (λ found. IsStatus found p.sequent open_.unsettled.0) proofs open_.unsettled.1, open_.unsettled.2);
       not_out = subst (AllByRecursion (λ ticket. IsFor p ticket → ⊥)) (sym out) tt;
       not_tried = λ e. open_.not_tried (tried ∙ e);
     })

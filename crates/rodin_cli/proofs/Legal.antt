@@ -22,6 +22,7 @@ use Rattle.core_steps.specs.Editing.{Edits, Builds}
 use Rattle.core_steps.specs.Tickets.{IsOpen, TakesFirst, ticket_for}
 use Rattle.core_steps.specs.Run.{Exchange, IsStepOf, Runs, IsLegal}
 use Rattle.core_steps.proofs.Alls.{all_both, all_so}
+use Rattle.core_steps.proofs.Cases.{edit_any}
 use Rattle.check_input.specs.Inputs.{Component}
 use Rattle.build_core.specs.declared.FaultLine.{FaultLine}
 use Rattle.proof_entries.specs.declared.Origin.{Origin}
@@ -66,11 +67,12 @@ then_stays : (s t u : State) → Stays s t → Stays t u → Stays s u
 then_stays s t u p q = record { out = q.out ∙ p.out; tried = q.tried ∙ p.tried; next = q.next ∙ p.next }
 
 edit_stays : (s : State) (x : StepOutcome) (name text : List ℕ) → Edits s name text x → Stays s x.new × IsLegalReply x.reply
-edit_stays s x name text (inl d) = stays_as s x _ d.1 (same_stays s) (λ n e. let no : BadName ≡ NoTicket n = e in cc)
-edit_stays s x name text (inr (named, inl d)) = stays_as s x _ d.1 (same_stays s) (λ n e. let no : TextTooLong ≡ NoTicket n = e in cc)
-edit_stays s x name text (inr (named, inr (within, inl d))) = stays_as s x _ d.1 (same_stays s) (λ n e. let no : ProjectFull ≡ NoTicket n = e in cc)
-edit_stays s x name text (inr (named, inr (within, inr d))) =
-    stays_as s x _ d.1 (record { out = refl; tried = refl; next = refl }) (λ n e. let no : Edited name ≡ NoTicket n = e in cc)
+edit_stays s x name text d =
+    edit_any d
+    (λ is. stays_as s x _ is (same_stays s) (λ n e. let no : BadName ≡ NoTicket n = e in cc))
+    (λ is. stays_as s x _ is (same_stays s) (λ n e. let no : TextTooLong ≡ NoTicket n = e in cc))
+    (λ is. stays_as s x _ is (same_stays s) (λ n e. let no : ProjectFull ≡ NoTicket n = e in cc))
+    (λ is. stays_as s x _ is (record { out = refl; tried = refl; next = refl }) (λ n e. let no : Edited name ≡ NoTicket n = e in cc))
 
 edit_step : (s t : State) (x : Exchange) (name text : List ℕ) → x.event ≡ Edit name text → IsStepOf s x t → Stays s t × IsLegalReply x.reply
 edit_step s t x name text e d = edit_stays s (outcome x t) name text (comes s t x (Edit name text) e d).2

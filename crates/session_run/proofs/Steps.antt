@@ -25,8 +25,9 @@ use Rattle.core_steps.specs.declared.Reply.TheVariants.{Taken, NoTicket}
 use Rattle.core_steps.specs.State.{State}
 use Rattle.core_steps.specs.Outcomes.{StepOutcome, told, entering, Where, Unless}
 use Rattle.core_steps.specs.Proving.{OnObligation, stored_tree, Keeps, Puts, StepsAt, PrunesAt, ShowsAt}
-use Rattle.core_steps.specs.Tickets.{taking, ticket_for, EndsTicket}
+use Rattle.core_steps.specs.Tickets.{taking, ticket_for, stored, stale, refused, EndsTicket}
 use Rattle.core_steps.specs.Step.{Tells, ComesBeside, Does}
+use Rattle.core_steps.proofs.Cases.{edit_any}
 
 -- neither a ticket that is given, nor that none such is out
 abbrev pub is_plain : Reply → Bool
@@ -129,14 +130,14 @@ ended s x z k a is e = subst (λ y. Ended s y k a) (sym is) e
 ends : (s : State) (x : StepOutcome) (k : Ticket) (q : Option Sequent) (a : Attempt) → EndsTicket s k q a x → Ended s x k a
 ends s x k q NoProof e = ended s x _ k NoProof e.2 (record { out = refl; next = refl; plain = refl; tried = inr (refl, tt) })
 ends s x k q AttemptNoMemory e = ended s x _ k AttemptNoMemory e.2 (record { out = refl; next = refl; plain = refl; tried = inr (refl, tt) })
-ends s x k q (Found tree) (status, shown, inl d) = ended s x _ k (Found tree) d.1 (record { out = refl; next = refl; plain = refl; tried = inl refl })
-ends s x k q (Found tree) (status, shown, inr (cannot, inl d)) = ended s x _ k (Found tree) d.1 (record { out = refl; next = refl; plain = refl; tried = inl refl })
-ends s x k q (Found tree) (status, shown, inr (cannot, inr d)) = ended s x _ k (Found tree) d.1 (record { out = refl; next = refl; plain = refl; tried = inr (refl, d.0) })
+ends s x k q (Found tree) (status, shown, stored can d) = ended s x _ k (Found tree) d (record { out = refl; next = refl; plain = refl; tried = inl refl })
+ends s x k q (Found tree) (status, shown, stale cannot good d) = ended s x _ k (Found tree) d (record { out = refl; next = refl; plain = refl; tried = inl refl })
+ends s x k q (Found tree) (status, shown, refused cannot bad d) = ended s x _ k (Found tree) d (record { out = refl; next = refl; plain = refl; tried = inr (refl, bad) })
 
 beside : (s : State) (x : StepOutcome) (table : List Obligation) (event : Event) → ComesBeside s table event x → Moves s x.new event x.reply
 beside s x table (Edit name text) a =
     let e = Edit name text in
-    unless_any (tell s x e refl _ refl) (where_any (tell s x e refl _ refl) (where_any (tell s x e refl _ refl) (enter s x e refl _ _ refl))) a
+    edit_any a (tell s x e refl _ refl) (tell s x e refl _ refl) (tell s x e refl _ refl) (enter s x e refl _ _ refl)
 beside s x table (Delete name) a = unless_any (tell s x (Delete name) refl _ refl) (enter s x (Delete name) refl _ _ refl) a
 beside s x table Build (inl a) = tell s x Build refl _ refl a.2
 beside s x table Build (inr a) = enter s x Build refl _ _ refl a.4

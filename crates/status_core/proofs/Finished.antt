@@ -1,5 +1,5 @@
 -- What comes of the finish of a ticket that is out.
-use Rattle.std.proofs.Common.{◌≡◌, ◌∙◌, refl, sym, ap, subst, inl, inr, ℕ, ◌+◌, ◌<◌, List, take, drop, get_or, length}
+use Rattle.std.proofs.Common.{◌≡◌, ◌∙◌, refl, sym, ap, subst, inr, ℕ, ◌+◌, ◌<◌, List, take, drop, get_or, length}
 use Rattle.std.specs.Prelude.{Option, Some, None, false, slice_get}
 use Rattle.std.specs.Option.{option_map}
 use Rattle.std.specs.FinMap.{insert, len, contains_key}
@@ -22,7 +22,7 @@ use Rattle.core_steps.specs.State.{State}
 use Rattle.core_steps.specs.Status.{IsStatus}
 use Rattle.core_steps.specs.Table.{IsTable, IsPresent}
 use Rattle.core_steps.specs.Outcomes.{told, entering}
-use Rattle.core_steps.specs.Tickets.{IsPresentStatus, CanStore, EndsTicket, tried_with, by_prover}
+use Rattle.core_steps.specs.Tickets.{IsPresentStatus, CanStore, stored, stale, refused, EndsTicket, tried_with, by_prover}
 use Rattle.core_steps.proofs.Lists.{split}
 use Rattle.core_steps.proofs.NameMaps.{get_same}
 use Rattle.prepared_events.specs.Prepared.{Ready, tried_of}
@@ -43,15 +43,15 @@ stored_status s name (Some sequent) tree can =
 module _ (s : State) (ticket : Ticket) (sequent : Option Sequent) (status : Option Status) (tree : Tree) where
   pub ends_stored : CanStore s.durable.proofs ticket.name sequent tree →
       EndsTicket s ticket sequent (Found tree) (entering s (Stored ticket.name (Some Discharged)) (SetProof ticket.name (by_prover tree)))
-  ends_stored can = (Some Discharged, stored_status s ticket.name sequent tree can, inl (can, refl))
+  ends_stored can = (Some Discharged, stored_status s ticket.name sequent tree can, stored can refl)
 
   pub ends_stale : IsPresentStatus s.durable.proofs ticket.name sequent status → (CanStore s.durable.proofs ticket.name sequent tree → ⊥) → IsGoodTree tree ticket.sequent →
       EndsTicket s ticket sequent (Found tree) (told s (Stale ticket.name status))
-  ends_stale shown cannot good = (status, shown, inr (cannot, inl (good, refl)))
+  ends_stale shown cannot good = (status, shown, stale cannot good refl)
 
   pub ends_refused : IsPresentStatus s.durable.proofs ticket.name sequent status → (CanStore s.durable.proofs ticket.name sequent tree → ⊥) → (IsGoodTree tree ticket.sequent → ⊥) →
       EndsTicket s ticket sequent (Found tree) (told (tried_with s ticket) (Refused ticket.name status))
-  ends_refused shown cannot bad = (status, shown, inr (cannot, inr (bad, refl)))
+  ends_refused shown cannot bad = (status, shown, refused cannot bad refl)
 
 -- the finish of the ticket at the place of its number
 pub finishes : (s : State) (number at : ℕ) (ticket : Ticket) (sequent : Option Sequent) (attempt : Attempt) (p : Ready) (table : List Obligation) →

@@ -1,4 +1,5 @@
-use Rattle.std.proofs.Common.{sym, ap, inr, arith}
+use Rattle.std.proofs.Common.{sym, ap, arith}
+use Rattle.core_steps.specs.Editing.{edited}
 use Rattle.core_steps.specs.State.{State}
 use Rattle.status_core.proofs.Made.{if_ok, as_made, so_made}
 use Rattle.status_core.proofs.core_state.Core.prepare_edit.Goals as goal
@@ -21,11 +22,5 @@ returns-in-None c =
     (λ x e. (
       c.has_table.ensures.0,
       c.has_table.ensures.1,
-      inr (
-        c.in-None.ensures.0,
-        inr (
-          (λ long. absurd (omega (arith, c.in-None.ensures.1, long))),
-          inr ((rw (← c.self.view_is) c.in-None.ensures.2), e),
-        ),
-      ),
+      edited c.in-None.ensures.0 (λ long. absurd (omega (arith, c.in-None.ensures.1, long))) (rw (← c.self.view_is) c.in-None.ensures.2) e,
     )) m) c.put_text.ensures
