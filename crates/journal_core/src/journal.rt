@@ -237,7 +237,9 @@ impl<D: Disk> Journal<D> {
 
     /// The disk.
     pub fn into_disk(self) -> D
-        ensures { result ≡ self.disk }
+        ensures disk { result ≡ self.disk }
+        ensures facts { IsKept D.told D.bytes_of D.images
+            self.disk self.side self.gate self.generation self.rest_open self.failed }
     {
         let Journal {
             disk,

@@ -11,3 +11,4 @@ pub mod Applying
 pub mod Logs
 pub mod Taking
 pub mod Works
+pub mod Resting

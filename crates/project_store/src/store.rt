@@ -117,7 +117,7 @@ impl<D: Disk> Model for Store<D> {
 }
 
 impl<D: Disk> Store<D> {
-    ghost use Rattle.project_store.specs.Store.{IsSoundStore};
+    ghost use Rattle.project_store.specs.Store.{IsSoundStore, Rests};
 
     /// Opens the project on a disk. It may stop at any moment, and then the disk stands for what it stood for.
     pub fn start<L: Ledger>(
@@ -314,7 +314,9 @@ impl<D: Disk> Store<D> {
         ensures history { result.1.items ≡ self.history }
         ensures durable { result.2 ≡ self.core.durable }
         ensures facts { IsSoundStore D.told D.bytes_of D.images D.faults self }
+        ensures rests { Rests D.told D.bytes_of D.images self }
     {
+        self.facts();
         let Store {
             alloc: _,
             journal,

@@ -25,7 +25,7 @@ use Rattle.session_streams.specs.Reads.{HasRead}
 use Rattle.session_streams.specs.Streams.{SourceState, Writing, writing, Writes}
 use Rattle.session_talk.specs.declared.Ending.{Ending}
 use Rattle.session_talk.specs.declared.Ending.TheVariants.{Read, Quit, CutEdit, WriteFault, OutOfMemory as Untold, Store}
-use Rattle.session_ends.specs.Ends.{HasAnswered, EndsAtStoreFault, EndsWithoutMemory}
+use Rattle.session_ends.specs.Ends.{HasAnswered, IsReadOut, to_its_end, to_a_fault, to_its_limit, to_quit, to_a_cut_edit, EndsAtStoreFault, EndsWithoutMemory}
 use Rattle.session_ends.specs.Sessions.{EndsBy, read_to_its_end, inside_an_edit, at_read_fault, at_write_fault, with_full_input, at_store_fault, without_memory}
 use Rattle.session_ends.specs.Statuses.{fault_status, store_fault_line}
 use Rattle.session_ends.specs.Private.{end_status, end_line, status_at, ending_line}
@@ -39,6 +39,9 @@ then_next : (fair : Sequent → Attempt → Type 0) (sink : Writing) (text line 
 then_next fair sink text line (asks e) event is w = w
 then_next fair sink text line (owes t) event is w = w
 then_next fair sink text line (tells said) event is w = absurd is
+
+some_none : {X : Type 0} {a : X} → Some a ≡ None → ⊥
+some_none e = cc
 
 if_failed : (kept : Option KeptFault) (P : Event → Type 0) → ((chair : ℕ) (event : Event) → mark_in kept ≡ Some (chair, event) → P event) → IfSome (option_map (λ k. k.act.1) kept) P
 if_failed None P failed = tt
@@ -86,11 +89,25 @@ module _ (laws : CoreLaws) (fair : Sequent → Attempt → Type 0) (workers : �
       let q = stopped laws fair base log xs (mark_in kept) s store seen lines text answers t has in
       then_next fair sink text line q.next q.waits.0 q.waits.1 (line_then line writes w)
 
-  by_fault : (k : KeptFault) → kept ≡ Some k → (ending : Ending) (over : Overs ending) → ending ≢ Untold → Failed ending over → Wrote (store_fault_line k.fault) →
-      EndsAtStoreFault fair workers source sink xs k.act.1 (store_fault_line k.fault) s
-  by_fault k is ending over other failed w = record {
+  -- where no line was begun, none is left, or the next one ends the session
+  read_out : (ending : Ending) (over : Overs ending) → ending ≢ Untold → ending ≢ Read OutOfMemory → (comes ending over).reach.begun ≡ None →
+      IsReadOut source (comes ending over).reach.taken (comes ending over).reach.ended (comes ending over).reach.left
+  read_out (Read Ended) (t, writes, why) other able none = to_its_end why.0 why.1
+  read_out (Read ReadFault) (t, writes, (rose, open_, nothing)) other able none = to_a_fault rose open_ nothing
+  read_out (Read FullInput) (t, writes, (full, open_, nothing)) other able none = to_its_limit full open_ nothing
+  read_out (Read OutOfMemory) over other able none = absurd (able refl)
+  read_out Quit (t, writes, next) other able none = to_quit next
+  read_out CutEdit (t, writes, next) other able none = to_a_cut_edit next
+  read_out WriteFault (line, said, next, t, rose, front) other able none = absurd (some_none none)
+  read_out Untold over other able none = absurd (other refl)
+  read_out (Store fault) (line, next, t, writes) other able none = absurd (some_none none)
+
+  by_fault : (k : KeptFault) → kept ≡ Some k → (ending : Ending) (over : Overs ending) → ending ≢ Untold → ending ≢ Read OutOfMemory → Failed ending over →
+      Wrote (store_fault_line k.fault) → EndsAtStoreFault fair workers source sink xs k.act.1 (store_fault_line k.fault) s
+  by_fault k is ending over other able failed w = record {
     reached = (comes ending over).reach;
     failed = failed k.act.0 k.act.1 (ap mark_in is);
+    over = read_out ending over other able;
     written = written_at (store_fault_line k.fault) ending over other w;
   }
 
@@ -169,12 +186,12 @@ module _ (laws : CoreLaws) (fair : Sequent → Attempt → Type 0) (workers : �
 
   -- a fault of the store, before all but want of memory
   pub by_some : (k : KeptFault) → kept ≡ Some k → (ending : Ending) (over : Overs ending) → Failed ending over → Wrote (ending_line ending (Some k.fault)) → By (status_at ending (Some k.fault))
-  by_some k is (Read Ended) over failed w = faulted k is (by_fault k is (Read Ended) over (λ e. cc) failed w)
-  by_some k is (Read ReadFault) over failed w = faulted k is (by_fault k is (Read ReadFault) over (λ e. cc) failed w)
-  by_some k is (Read FullInput) over failed w = faulted k is (by_fault k is (Read FullInput) over (λ e. cc) failed w)
+  by_some k is (Read Ended) over failed w = faulted k is (by_fault k is (Read Ended) over (λ e. cc) (λ e. cc) failed w)
+  by_some k is (Read ReadFault) over failed w = faulted k is (by_fault k is (Read ReadFault) over (λ e. cc) (λ e. cc) failed w)
+  by_some k is (Read FullInput) over failed w = faulted k is (by_fault k is (Read FullInput) over (λ e. cc) (λ e. cc) failed w)
   by_some k is (Read OutOfMemory) over failed w = lacking (no_line_read over failed w)
-  by_some k is Quit over failed w = faulted k is (by_fault k is Quit over (λ e. cc) failed w)
-  by_some k is CutEdit over failed w = faulted k is (by_fault k is CutEdit over (λ e. cc) failed w)
-  by_some k is WriteFault over failed w = faulted k is (by_fault k is WriteFault over (λ e. cc) failed w)
+  by_some k is Quit over failed w = faulted k is (by_fault k is Quit over (λ e. cc) (λ e. cc) failed w)
+  by_some k is CutEdit over failed w = faulted k is (by_fault k is CutEdit over (λ e. cc) (λ e. cc) failed w)
+  by_some k is WriteFault over failed w = faulted k is (by_fault k is WriteFault over (λ e. cc) (λ e. cc) failed w)
   by_some k is Untold over failed w = lacking (not_told over failed w)
-  by_some k is (Store other) over failed w = faulted k is (by_fault k is (Store other) over (λ e. cc) failed w)
+  by_some k is (Store other) over failed w = faulted k is (by_fault k is (Store other) over (λ e. cc) (λ e. cc) failed w)

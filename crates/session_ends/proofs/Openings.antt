@@ -1,5 +1,5 @@
 -- What a start of a store says of the opening of a session.
-use Rattle.std.proofs.Common.{◌≡◌, ℕ, ◌≤◌}
+use Rattle.std.proofs.Common.{◌≡◌, ℕ, ◌≤◌, List}
 use Rattle.std.specs.Prelude.{⊤, Result, Ok, Err, IfOk, IfErr, MatchResult}
 use Rattle.outside.specs.Cause.{Rose}
 use Rattle.outside.specs.Disk.{Sides, LeavesOnly}
@@ -7,6 +7,8 @@ use Rattle.project_store.specs.declared.fault.OpenFault.{OpenFault}
 use Rattle.project_store.specs.declared.fault.OpenFault.TheVariants.{DiskFault}
 use Rattle.project_store.specs.Opening.{StoreMeaning, StandsFor, durable, IsCause, IsAnswerFor, StandsAsSome}
 use Rattle.project_store.specs.Records.{Recovers}
+use Rattle.core_steps.specs.Table.{IsTableWithin}
+use Rattle.sequent_core.specs.declared.Obligation.{Obligation}
 use Rattle.project_store.specs.Store.{StoreState}
 use Rattle.session_ends.specs.Sessions.{Opens, Refuses}
 
@@ -21,9 +23,10 @@ module _ {D : Type 0} (told : Type 0) (bytes_of : D → Sides) (images : D → S
   Exactly r = told → (meaning : StoreMeaning) → StandsFor (bytes_of old) meaning →
       MatchResult r (λ store. meaning ≡ durable store.base) (λ refused. IsAnswerFor meaning refused.1)
 
-  pub opens : (r : Result_) → Opened r → Exactly r → IfOk r (λ store. store.count ≡ faults old) → IfOk r (λ store. Opens told bytes_of images faults old store)
-  opens (Ok store) stood exactly count = record { stood = stood; exactly = exactly; counted = count }
-  opens (Err refused) stood exactly count = tt
+  pub opens : (r : Result_) → Opened r → Exactly r → IfOk r (λ store. (table : List Obligation) × IsTableWithin store.base.built table) →
+      IfOk r (λ store. store.count ≡ faults old) → IfOk r (λ store. Opens told bytes_of images faults old store)
+  opens (Ok store) stood exactly fits count = record { stood = stood; exactly = exactly; fits = fits; counted = count }
+  opens (Err refused) stood exactly fits count = tt
 
   pub refuses : (clock : D → ℕ) (moments : D → ℕ → Sides → Type 0) → (told → (disk : D) (t : ℕ) (c : Sides) → t ≤ clock disk → images disk c → moments disk t c) →
       (r : Result_) → Opened r → Exactly r →

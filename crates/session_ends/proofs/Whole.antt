@@ -17,7 +17,9 @@ use Rattle.store_log.specs.StoreLog.{done, marks, chair_of, store_meaning, IsSto
 use Rattle.project_store.specs.declared.fault.KeptFault.{KeptFault}
 use Rattle.project_store.specs.Opening.{durable}
 use Rattle.project_store.specs.Records.{Recovers}
-use Rattle.project_store.specs.Store.{StoreState, IsSoundStore, logged, mark_in, log_in, base_in}
+use Rattle.core_steps.specs.Table.{IsTableWithin}
+use Rattle.sequent_core.specs.declared.Obligation.{Obligation}
+use Rattle.project_store.specs.Store.{StoreState, IsSoundStore, Rests, logged, mark_in, log_in, base_in}
 use Rattle.session_run.specs.Dialogue.{begins}
 use Rattle.session_run.specs.OneHistory.{OneHistory, CompleteWhenIdle, MakesHistory}
 use Rattle.session_run.specs.Workers.{begins as none_yet}
@@ -57,6 +59,7 @@ module _ {D : Type 0} (told : Type 0) (bytes_of : D → Sides) (images : D → S
     (laws : CoreLaws) (enters : EntersAll) (rebuilt : TellsTheRebuilt) (fair : Sequent → Attempt → Type 0) (sure : Sequent → Type 0)
     (history_law : OneHistory fair) (complete_law : CompleteWhenIdle fair sure) (workers : ℕ)
     (first st : StoreState D) (same : base_in st ≡ base_in first) (sound : IsSoundStore told bytes_of images faults st)
+    (rests : Rests told bytes_of images st)
     (source : SourceState) (before after_ last : Option (List ℕ)) (f g h : ℕ) (high : g ≤ h) (ending : Ending)
     (played : IsPlayed chair_of store_meaning fair workers (base_in first) (log_in st) source (writing before after_ f g) ending)
     (wrote : WritesOrFails (writing after_ last g h) (ending_line ending (option_map (λ k. k.fault) st.kept))) where
@@ -105,6 +108,7 @@ module _ {D : Type 0} (told : Type 0) (bytes_of : D → Sides) (images : D → S
   at_first old o = record {
     stood = λ t. subst (λ (b : StoreBase). Recovers (bytes_of old) b.durable) (sym same) (o.stood t);
     exactly = λ t meaning stands. o.exactly t meaning stands ∙ ap (λ (b : StoreBase). durable b.durable) (sym same);
+    fits = subst (λ (b : StoreBase). (table : List Obligation) × IsTableWithin b.durable.built table) (sym same) o.fits;
     counted = ap (λ (b : StoreBase). b.faults) same ∙ o.counted;
   }
 
@@ -117,6 +121,8 @@ module _ {D : Type 0} (told : Type 0) (bytes_of : D → Sides) (images : D → S
     opens = at_first old o;
     xs = sound.exchanges;
     plays = has_history;
+    events = refl;
+    rests = rests;
     stops = sound.stops;
     later = subst (λ n. n ≤ faults st.journal.disk) (at_first old o).counted sound.counted;
     cause = sound.cause;
@@ -130,7 +136,7 @@ none_cut (y ∷ before) x behind e = cc
 -- memory ran out before anything was done
 module _ {D : Type 0} (told : Type 0) (bytes_of : D → Sides) (images : D → Sides → Type 0) (faults : D → ℕ)
     (fair : Sequent → Attempt → Type 0) (sure : Sequent → Type 0) (workers : ℕ) (st : StoreState D) (sound : IsSoundStore told bytes_of images faults st)
-    (begun : st.core ≡ opened st.base) (empty : st.history ≡ []) (open_ : st.kept ≡ None)
+    (rests : Rests told bytes_of images st) (begun : st.core ≡ opened st.base) (empty : st.history ≡ []) (open_ : st.kept ≡ None)
     (left : Option (List ℕ)) (lost : ℕ) (before last : Option (List ℕ)) (f h : ℕ) (wrote : WritesOrFails (writing before last f h) []) (low : f ≤ h) where
   unread : EndsWithoutMemory fair workers (reading left left lost lost) (writing before last f h) [] None st.core
   unread = record {
@@ -175,6 +181,8 @@ module _ {D : Type 0} (told : Type 0) (bytes_of : D → Sides) (images : D → S
       worked = record { each = λ k low_ high. (None, none_yet); others = λ k high. refl };
       complete = λ xs x behind s cut run e r. absurd (none_cut xs x behind cut);
     };
+    events = refl;
+    rests = rests;
     stops = sound.stops;
     later = subst (λ n. n ≤ faults st.journal.disk) o.counted sound.counted;
     cause = sound.cause;
@@ -183,8 +191,8 @@ module _ {D : Type 0} (told : Type 0) (bytes_of : D → Sides) (images : D → S
 
 pub plays_end : {D : Type 0} (told : Type 0) (bytes_of : D → Sides) (images : D → Sides → Type 0) (faults : D → ℕ) (fair : Sequent → Attempt → Type 0) (sure : Sequent → Type 0) →
     CoreLaws → EntersAll → TellsTheRebuilt → OneHistory fair → CompleteWhenIdle fair sure → PlaysEnd told bytes_of images faults fair sure
-plays_end told bytes_of images faults fair sure laws enters rebuilt one complete workers first last source before between after_ f g h ending old opens same sound played wrote high =
-    whole told bytes_of images faults laws enters rebuilt fair sure one complete workers first last same sound source before between after_ f g h high ending played wrote old opens
+plays_end told bytes_of images faults fair sure laws enters rebuilt one complete workers first last source before between after_ f g h ending old opens same sound rests played wrote high =
+    whole told bytes_of images faults laws enters rebuilt fair sure one complete workers first last same sound rests source before between after_ f g h high ending played wrote old opens
 
 -- the same session, told of what it left
 pub moved : {D : Type 0} (told : Type 0) (bytes_of : D → Sides) (images : D → Sides → Type 0) (faults : D → ℕ) (fair : Sequent → Attempt → Type 0) (sure : Sequent → Type 0) (workers : ℕ)

@@ -31,6 +31,15 @@ abbrev pub IsAt : List Command → Option (Line × Next) → Type 0
 IsAt left None = ⊤
 IsAt left (Some begun) = IsNextLine left begun.0
 
+-- Why no line is begun: the input ended, its source failed, or it is full, and no line of it is left; or the next one ends
+-- the session.
+pub data IsReadOut (source : SourceState) (taken : List ℕ) (ended : Bool) (left : List Command) : Type 0 where
+  to_its_end : ended ≡ true → left ≡ [] → IsReadOut source taken ended left
+  to_a_fault : SourceFailed source → ended ≡ false → left ≡ [] → IsReadOut source taken ended left
+  to_its_limit : length taken ≡ 67108865 → ended ≡ false → left ≡ [] → IsReadOut source taken ended left
+  to_quit : IsNextLine left Quit → IsReadOut source taken ended left
+  to_a_cut_edit : IsNextLine left CutEdit → IsReadOut source taken ended left
+
 -- no line was begun, or of one that was nothing but its text is left
 abbrev pub HasOnlyTextLeft : Option (Line × Next) → Type 0
 HasOnlyTextLeft None = ⊤
@@ -120,10 +129,12 @@ module _ (fair : Sequent → Attempt → Type 0) (workers : ℕ)
     pub written : WritesThen sink answered.text (codes "full: input\n")
 
   -- STATUS 5, 7 and 9 by the first fault of the store, which this event met, with the last line of that fault: chair 0
-  -- came so far, and the text is that of the lines before the first one whose exchanges aren't whole.
+  -- came so far, and the text is that of the lines before the first one whose exchanges aren't whole: of all, if no line
+  -- was begun.
   pub record EndsAtStoreFault (event : Event) (line : List ℕ) (s : State) : Type 0 where
     pub reached : HasReached fair source xs
     pub failed : IsFailedEvent fair reached.begun s event
+    pub over : reached.begun ≡ None → IsReadOut source reached.taken reached.ended reached.left
     pub written : WritesUpTo reached.begun sink reached.text line
 
   -- STATUS 9 where memory ran out between acts of chair 0: it came so far, and the text is that of the lines before.

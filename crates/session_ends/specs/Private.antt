@@ -6,7 +6,7 @@ use Rattle.sequent_core.specs.declared.Sequent.{Sequent}
 use Rattle.sequent_core.specs.declared.Attempt.{Attempt}
 use Rattle.store_log.specs.StoreLog.{chair_of, store_meaning}
 use Rattle.store_log.specs.declared.fault.StoreFault.{StoreFault}
-use Rattle.project_store.specs.Store.{StoreState, IsSoundStore, log_in, base_in}
+use Rattle.project_store.specs.Store.{StoreState, IsSoundStore, Rests, log_in, base_in}
 use Rattle.session_streams.specs.Streams.{SourceState, writing}
 use Rattle.session_streams.specs.declared.reading.ReadEnd.TheVariants as reads
 use Rattle.session_talk.specs.declared.conversing.Ending.{Ending}
@@ -53,6 +53,7 @@ abbrev pub PlaysEnd : {D : Type 0} (told : Type 0) (bytes_of : D → Sides) (ima
 PlaysEnd {D} told bytes_of images faults fair sure =
     (workers : ℕ) (first last : StoreState D) (source : SourceState) (before between after : Option (List ℕ)) (f g h : ℕ) (ending : Ending) (old : D) →
     Opens told bytes_of images faults old first → base_in last ≡ base_in first → IsSoundStore told bytes_of images faults last →
+    Rests told bytes_of images last →
     IsPlayed chair_of store_meaning fair workers (base_in first) (log_in last) source (writing before between f g) ending →
     WritesOrFails (writing between after g h) (ending_line ending (option_map (λ k. k.fault) last.kept)) → g ≤ h →
     IsSession told bytes_of images faults fair sure workers old last.journal.disk source (writing before after f h)

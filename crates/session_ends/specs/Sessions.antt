@@ -3,18 +3,20 @@ use Rattle.std.specs.Prelude.{◌≡◌, ◌⊎◌, ◌≤◌, ℕ, List, [], Op
 use Rattle.std.specs.Option.{option_map}
 use Rattle.sequent_core.specs.declared.Sequent.{Sequent}
 use Rattle.sequent_core.specs.declared.Attempt.{Attempt}
+use Rattle.sequent_core.specs.declared.Obligation.{Obligation}
 use Rattle.outside.specs.Cause.{Rose}
 use Rattle.outside.specs.Disk.{Sides}
 use Rattle.core_steps.specs.declared.durable.Durable.{Durable}
 use Rattle.core_steps.specs.declared.events.Event.{Event}
 use Rattle.core_steps.specs.State.{State, no_texts}
+use Rattle.core_steps.specs.Table.{IsTableWithin}
 use Rattle.core_steps.specs.Run.{Exchange}
 use Rattle.project_store.specs.declared.fault.KeptFault.{KeptFault}
 use Rattle.project_store.specs.declared.fault.OpenFault.{OpenFault}
 use Rattle.project_store.specs.declared.fault.OpenFault.TheVariants.{DiskFault}
 use Rattle.project_store.specs.Opening.{StoreMeaning, StandsFor, durable, IsCause, IsAnswerFor, StandsAsSome}
 use Rattle.project_store.specs.Records.{Recovers}
-use Rattle.project_store.specs.Store.{StoreState, IsImage, HasCauseOf}
+use Rattle.project_store.specs.Store.{StoreState, IsImage, HasCauseOf, Rests}
 use Rattle.session_streams.specs.Streams.{SourceState, Writing, WritesNothing}
 use Rattle.session_ends.specs.Ends.{HasHistory, EndsWell, EndsInsideEdit, EndsAtReadFault, EndsAtWriteFault}
 use Rattle.session_ends.specs.Ends.{EndsWithFullInput, EndsAtStoreFault, EndsWithoutMemory}
@@ -41,10 +43,12 @@ module _ (fair : Sequent → Attempt → Type 0) (workers : ℕ) (status : ℕ) 
         (how : EndsWithoutMemory fair workers source sink xs (option_map (λ k. k.act.1) kept) s) → EndsBy
 
 module _ {D : Type 0} (told : Type 0) (bytes_of : D → Sides) (images : D → Sides → Type 0) (faults : D → ℕ) where
-  -- The project on the disk was opened: its sides stand for the base, and for nothing else.
+  -- The project on the disk was opened: its sides stand for the base, and for nothing else, and its table is within the
+  -- limit.
   pub record Opens (old : D) (store : StoreState D) : Type 0 where
     pub stood : told → Recovers (bytes_of old) store.base
     pub exactly : told → (meaning : StoreMeaning) → StandsFor (bytes_of old) meaning → meaning ≡ durable store.base
+    pub fits : (table : List Obligation) × IsTableWithin store.base.built table
     pub counted : store.count ≡ faults old
 
   -- It isn't opened, for a cause that its sides have, or a fault of the disk in the call, or want of memory; and what a
@@ -69,7 +73,8 @@ module _ {D : Type 0} (told : Type 0) (bytes_of : D → Sides) (images : D → S
 
   module _ (fair : Sequent → Attempt → Type 0) (sure : Sequent → Type 0) (workers : ℕ) where
     -- A session on an opened project: what the disk stood for at first, the history from there, what a stop leaves now,
-    -- the cause of the store's first fault, if it met one, and how the session ended.
+    -- the cause of the store's first fault, if it met one, over this history and the disk as it is now, and how the
+    -- session ended.
     pub record IsSession
         (old new : D) (source : SourceState) (sink : Writing) (status : ℕ) (history : List (ℕ × Event)) (last : Durable) :
         Type 0 where
@@ -78,6 +83,8 @@ module _ {D : Type 0} (told : Type 0) (bytes_of : D → Sides) (images : D → S
       pub opens : Opens old store
       pub xs : List (ℕ × Exchange)
       pub plays : HasHistory fair sure workers store.base history last xs store.core
+      pub events : store.history ≡ history
+      pub rests : Rests told bytes_of images store
       pub stops : told → (c : Sides) → images new c → IsImage store.core store.kept c
       pub later : faults old ≤ faults new
       pub cause : IfSome store.kept (λ k. HasCauseOf faults store k.fault k.act.1)

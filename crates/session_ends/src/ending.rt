@@ -3,7 +3,7 @@ ghost use Rattle.std.specs.Prelude.{◌≡◌, ◌⊎◌, ◌≤◌, ◌<◌, �
 ghost use Rattle.std.specs.Option.{option_map};
 ghost use Rattle.core_steps.specs.State.{opened, no_texts};
 ghost use Rattle.prover_pool.specs.Shift.{fair};
-ghost use Rattle.project_store.specs.Store.{StoreState, IsSoundStore, base_in, log_in};
+ghost use Rattle.project_store.specs.Store.{StoreState, IsSoundStore, Rests, base_in, log_in};
 ghost use Rattle.store_log.specs.StoreLog.{chair_of, store_meaning};
 ghost use Rattle.session_play.specs.Playing.{IsPlayed};
 ghost use Rattle.session_streams.specs.Streams.{SourceState, reading, writing, WritesNothing};
@@ -54,6 +54,7 @@ fn close_session<O: Sink, D: Disk>(store: Store<D>, ending: Ending, output: &mut
     ensures history { result.history.items ≡ store.history }
     ensures last { result.last ≡ store.core.durable }
     ensures facts { IsSoundStore D.told D.bytes_of D.images D.faults store }
+    ensures rests { Rests D.told D.bytes_of D.images store }
     ensures written { WritesOrFails
         (writing (O.written output.old) (O.written output.new) (O.faults output.old) (O.faults output.new))
         (ending_line ending (option_map (λ k. k.fault) store.kept)) }

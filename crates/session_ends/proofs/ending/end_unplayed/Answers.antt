@@ -17,7 +17,7 @@ returns g c workers old left lost opens =
     let status : c.close_session.result.status ≡ 9 = c.close_session.ensures.status ∙ ap (λ k. status_at (Read OutOfMemory) (option_map (λ z. z.fault) k)) c.requires.2 in
     moved g.D.Disk.told g.D.Disk.bytes_of g.D.Disk.images g.D.Disk.faults _ _ workers old _ _ _ _ _ _ _ _ _ _
     c.close_session.ensures.disk status c.close_session.ensures.history c.close_session.ensures.last
-    (nothing_played g.D.Disk.told g.D.Disk.bytes_of g.D.Disk.images g.D.Disk.faults _ _ workers c.args.store c.close_session.ensures.facts
+    (nothing_played g.D.Disk.told g.D.Disk.bytes_of g.D.Disk.images g.D.Disk.faults _ _ workers c.args.store c.close_session.ensures.facts c.close_session.ensures.rests
     c.requires.0 c.requires.1 c.requires.2 left lost before after f h
     (subst (λ k. WritesOrFails (writing before after f h) (ending_line (Read OutOfMemory) (option_map (λ z. z.fault) k))) c.requires.2 c.close_session.ensures.written)
     c.close_session.ensures.later old opens)

@@ -26,7 +26,7 @@ returns-in-Ok-open_core-clause-any_moment g c = λ t. weaken g.D.Disk.clock g.D.
 
 pub returns-clause-any_moment : goal.returns-clause-any_moment
 returns-clause-any_moment g c = λ t.
-    subst (λ d. LeavesOnly g.D.Disk.clock g.D.Disk.moments c.args.disk d (StandsAsSome (g.D.Disk.images c.args.disk))) (sym c.into_disk.ensures)
+    subst (λ d. LeavesOnly g.D.Disk.clock g.D.Disk.moments c.args.disk d (StandsAsSome (g.D.Disk.images c.args.disk))) (sym c.into_disk.ensures.disk)
     (weaken g.D.Disk.clock g.D.Disk.moments _ _ _ _ (c.in-Ok.ensures.any_moment t) (lifts_some (g.D.Disk.images c.args.disk)))
 
 pub returns-clause-opened : goal.returns-clause-opened
