@@ -1,9 +1,13 @@
 //! Runs of a row in which one call fails, and what reopens behind them and behind stops.
+//!
+//! A row that is run so asks for the digest of each state that it comes to, from the first call on that is looked at. So a state
+//! has a place, that of its digest among those that the whole run writes. What reopens has the place of all that was
+//! acknowledged, or the next one where the call belongs to a command that wasn't yet.
 
 use crate::printing::{add_count, add_line, add_two};
 use crate::row::Row;
 use crate::runs::{Again, Part, Ran, Sides, read_sides, run_row};
-use outside::MemoryDisk;
+use outside::{Disk, MemoryDisk};
 use std::alloc::{AllocError, Global};
 use std::sync::Wait;
 use std::thread::Threads;
@@ -18,30 +22,23 @@ pub struct Whole<'a> {
 }
 
 /// The calls of a part that a run may have here.
-const MOST: u64 = 1_000;
+const MOST: usize = 1_000;
 
-/// How many of the last calls of the disk are looked at, where not all are.
-const LATE: u64 = 10;
-
-/// What stands where a stop tears a call: each byte, and whether the side has its greater length.
-const STOPS: [(u8, bool); 6] = [
-    (255, true),
-    (0, false),
-    (0, true),
-    (1, false),
-    (1, true),
-    (255, false),
-];
+/// Whether a side has its greatest length, where a stop leaves it open.
+const LENGTHS: [bool; 2] = [false, true];
 
 /// The length of a digest.
 pub const DIGEST: usize = 64;
 
-// The exit status where a call of the part failed, and the last line then.
-fn ends(part: Part) -> (u8, &'static str) {
+/// The first and the last place that a state may have.
+type Places = (usize, usize);
+
+// The exit status where a call of the part failed, the last line then, and the disk's count of faults.
+fn ends(part: Part) -> (u8, &'static str, u64) {
     match part {
-        Part::Source => (3, "input: read fault\n"),
-        Part::Sink => (4, ""),
-        Part::Disk => (5, "project: disk fault\n"),
+        Part::Source => (3, "input: read fault\n", 0),
+        Part::Sink => (4, "", 0),
+        Part::Disk => (5, "project: disk fault\n", 1),
     }
 }
 
@@ -51,6 +48,34 @@ fn digest_at(text: &str, at: usize) -> Option<&str> {
 
 fn digests_in(text: &str) -> usize {
     text.split('\n').filter(|line| line.len() == DIGEST).count()
+}
+
+// Whether the last whole line is a digest.
+fn ends_in_digest(text: &str) -> bool {
+    match text.rsplit('\n').nth(1) {
+        Some(line) => line.len() == DIGEST,
+        None => false,
+    }
+}
+
+// The places that the state may have behind what was written. Behind a digest a command may be done that wasn't acknowledged,
+// but where a read failed none is.
+fn places_behind(written: &str, part: Part) -> Places {
+    let told = digests_in(written);
+    if !ends_in_digest(written) {
+        return (told, told);
+    }
+    let last = told.saturating_sub(1);
+    match part {
+        Part::Source => (last, last),
+        Part::Sink | Part::Disk => (last, told),
+    }
+}
+
+// Whether a digest has one of these places.
+fn is_at(whole: &str, places: Places, digest: &str) -> bool {
+    let (first, last) = places;
+    digest_at(whole, first) == Some(digest) || digest_at(whole, last) == Some(digest)
 }
 
 // Opens the sides of the last run, with a session that asks for the digest.
@@ -66,20 +91,17 @@ fn open_again<R: Clock + Threads + Wait + Sync>(
     Ok(())
 }
 
-// Whether this is the digest that was told last, or the next one.
-fn goes_on(whole: &str, written: &str, opened: &str) -> bool {
-    let told = digests_in(written);
-    digest_at(whole, told) == Some(opened) || told > 0 && digest_at(whole, told - 1) == Some(opened)
-}
-
 // What a run in which a call failed wrote before its last line, or what is otherwise.
 fn written_before<'a>(whole: &str, ran: &'a Ran, part: Part) -> Result<&'a str, &'static str> {
-    let (status, line) = ends(part);
+    let (status, line, faults) = ends(part);
     let Some(written) = ran.written.strip_suffix(line) else {
         return Err("another last line");
     };
     if ran.status != status {
         return Err("another status");
+    }
+    if ran.disk.faults() != faults {
+        return Err("another count of faults");
     }
     if !whole.starts_with(written) {
         return Err("another output");
@@ -87,12 +109,18 @@ fn written_before<'a>(whole: &str, ran: &'a Ran, part: Part) -> Result<&'a str, 
     Ok(written)
 }
 
-// What is otherwise in a run in which a call failed.
-fn otherwise(whole: &str, again: &Again, part: Part) -> Option<&'static str> {
+// The places that the state may have behind a run in which a call failed, or what is otherwise.
+fn places_of(whole: &str, again: &Again, part: Part) -> Result<Places, &'static str> {
     match written_before(whole, &again.ran, part) {
-        Ok(written) if goes_on(whole, written, &again.opened.written) => None,
-        Ok(_) => Some("another state"),
-        Err(why) => Some(why),
+        Ok(written) => {
+            let places = places_behind(written, part);
+            if is_at(whole, places, &again.opened.written) {
+                Ok(places)
+            } else {
+                Err("another state")
+            }
+        }
+        Err(why) => Err(why),
     }
 }
 
@@ -103,9 +131,10 @@ fn add_word(out: &mut String, word: &str) -> Result<(), AllocError> {
 }
 
 // How many calls there were.
-fn add_calls(out: &mut String, word: &str, calls: u64) -> Result<(), AllocError> {
+fn add_calls(out: &mut String, word: &str, calls: u64, behind: &str) -> Result<(), AllocError> {
     add_word(out, word)?;
-    add_count(out, calls, " calls\n")
+    add_count(out, calls, " calls")?;
+    out.push_str(behind)
 }
 
 // What is otherwise at a call.
@@ -149,105 +178,143 @@ pub fn add_faults<R: Clock + Threads + Wait + Sync>(
     again: &mut Again,
     out: &mut String,
 ) -> Result<(), AllocError> {
-    for call in 1..MOST {
+    for call in 1..MOST as u64 {
         if !fails(rt, alloc, whole, (part, call), again)? {
-            return add_calls(out, part.word(), call - 1);
+            return add_calls(out, part.word(), call - 1, "\n");
         }
-        if let Some(why) = otherwise(&whole.ran.written, again, part) {
+        if let Err(why) = places_of(&whole.ran.written, again, part) {
             add_otherwise(out, part.word(), call, why)?;
         }
     }
     out.push_str("too many calls\n")
 }
 
+/// How many images were opened, how many of them are a command ahead of what was acknowledged, and how many have a state that
+/// they may not have.
+#[derive(Clone, Copy)]
+struct Tally {
+    images: u64,
+    ahead: u64,
+    others: u64,
+}
+
+// Counts an image by the digest of its state.
+fn tell_apart(tally: &mut Tally, whole: &str, places: Places, digest: &str) {
+    let (first, _) = places;
+    tally.images = tally.images.saturating_add(1);
+    if !is_at(whole, places, digest) {
+        tally.others = tally.others.saturating_add(1);
+    } else if digest_at(whole, first) != Some(digest) {
+        tally.ahead = tally.ahead.saturating_add(1);
+    }
+}
+
 // What a stop inside a call leaves.
 fn stop_inside(
     alloc: Global,
     disk: &MemoryDisk,
-    call: u64,
-    stop: (u8, bool),
+    stop: (u64, u8),
+    long: bool,
     sides: &mut Sides,
 ) -> Result<(), AllocError> {
-    let (fill, long) = stop;
+    let (call, fill) = stop;
     let (left, right) = disk.image(alloc, call, fill, long)?;
     sides.left = left;
     sides.right = right;
     Ok(())
 }
 
-fn has_digest(text: &str, digest: &str) -> bool {
-    digest.len() == DIGEST && text.split('\n').any(|line| line == digest)
-}
-
-// Whether what these stops inside the call leave has a digest of the whole run.
-fn reopens<R: Clock + Threads + Wait + Sync>(
+// Opens what a stop inside a call leaves with this value of each byte that it leaves open.
+fn open_images<R: Clock + Threads + Wait + Sync>(
     rt: &R,
     alloc: Global,
     whole: &Ran,
-    call: u64,
-    stops: &[(u8, bool)],
+    stop: (u64, u8),
+    places: Places,
     again: &mut Again,
-) -> Result<bool, AllocError> {
-    for stop in stops {
-        stop_inside(alloc, &whole.disk, call, *stop, &mut again.sides)?;
+    tally: &mut Tally,
+) -> Result<(), AllocError> {
+    for long in &LENGTHS {
+        stop_inside(alloc, &whole.disk, stop, *long, &mut again.sides)?;
         open_again(rt, alloc, again)?;
-        if !has_digest(&whole.written, &again.opened.written) {
-            return Ok(false);
-        }
-    }
-    Ok(true)
-}
-
-/// Opens what a stop inside each call of the disk leaves, and adds how many calls there are, and which leave another state.
-pub fn add_stops<R: Clock + Threads + Wait + Sync>(
-    rt: &R,
-    alloc: Global,
-    whole: &Ran,
-    again: &mut Again,
-    out: &mut String,
-) -> Result<(), AllocError> {
-    let calls = whole.disk.calls_made();
-    for call in 1..=calls {
-        if !reopens(rt, alloc, whole, call, &STOPS, again)? {
-            add_otherwise(out, "stop", call, "another state")?;
-        }
-    }
-    add_calls(out, "stop", calls)
-}
-
-// Lets a call of the disk fail, and opens what a stop inside it leaves. Adds what is otherwise.
-fn add_late_call<R: Clock + Threads + Wait + Sync>(
-    rt: &R,
-    alloc: Global,
-    whole: &Whole<'_>,
-    call: u64,
-    again: &mut Again,
-    out: &mut String,
-) -> Result<(), AllocError> {
-    let fault = Some((Part::Disk, call));
-    run_row(rt, alloc, whole.row, whole.begun, fault, &mut again.ran)?;
-    if let Err(why) = written_before(&whole.ran.written, &again.ran, Part::Disk) {
-        add_otherwise(out, "late", call, why)?;
-    }
-    if !reopens(rt, alloc, whole.ran, call, &STOPS[..1], again)? {
-        add_otherwise(out, "late", call, "another state behind a stop")?;
+        tell_apart(tally, &whole.written, places, &again.opened.written);
     }
     Ok(())
 }
 
-/// Lets each of the last calls of the disk fail, and opens what a stop inside it leaves. Adds how many calls these are, and
-/// what is otherwise.
-pub fn add_late<R: Clock + Threads + Wait + Sync>(
+// Lets a call of the disk fail, and adds what is otherwise. The places that the state may have then, and inside the call.
+fn places_at<R: Clock + Threads + Wait + Sync>(
+    rt: &R,
+    alloc: Global,
+    whole: &Whole<'_>,
+    call: u64,
+    again: &mut Again,
+    out: &mut String,
+) -> Result<Places, AllocError> {
+    if !fails(rt, alloc, whole, (Part::Disk, call), again)? {
+        return Ok(places_behind(&whole.ran.written, Part::Disk));
+    }
+    match places_of(&whole.ran.written, again, Part::Disk) {
+        Ok(places) => Ok(places),
+        Err(why) => {
+            add_otherwise(out, "stop", call, why)?;
+            Ok((0, 0))
+        }
+    }
+}
+
+// Lets a call of the disk fail, opens what stops inside it leave, and adds what is otherwise.
+fn add_stops_inside<R: Clock + Threads + Wait + Sync>(
+    rt: &R,
+    alloc: Global,
+    whole: &Whole<'_>,
+    call: u64,
+    again: &mut Again,
+    tally: &mut Tally,
+    out: &mut String,
+) -> Result<(), AllocError> {
+    let places = places_at(rt, alloc, whole, call, again, out)?;
+    let others = tally.others;
+    for fill in 0..=255 {
+        if whole.row.is_tried(fill) {
+            open_images(rt, alloc, whole.ran, (call, fill), places, again, tally)?;
+        }
+    }
+    if tally.others != others {
+        add_otherwise(out, "stop", call, "another state behind a stop")?;
+    }
+    Ok(())
+}
+
+/// Lets each call of the disk fail, or each of the last ones, and opens what stops inside it leave, and stops behind all calls.
+/// Adds how many calls these are, how many images were opened, how many of these are a command ahead of what was acknowledged,
+/// and what is otherwise.
+pub fn add_stops<R: Clock + Threads + Wait + Sync>(
     rt: &R,
     alloc: Global,
     whole: &Whole<'_>,
     again: &mut Again,
     out: &mut String,
 ) -> Result<(), AllocError> {
+    let mut tally = Tally {
+        images: 0,
+        ahead: 0,
+        others: 0,
+    };
     let calls = whole.ran.disk.calls_made();
-    let first = calls.saturating_sub(LATE);
-    for at in first..calls {
-        add_late_call(rt, alloc, whole, at.saturating_add(1), again, out)?;
+    let first = calls.saturating_sub(whole.row.number("late", MOST) as u64);
+    for at in first..=calls {
+        add_stops_inside(
+            rt,
+            alloc,
+            whole,
+            at.saturating_add(1),
+            again,
+            &mut tally,
+            out,
+        )?;
     }
-    add_calls(out, "late", calls.saturating_sub(first))
+    add_calls(out, "stop", calls.saturating_sub(first), ", ")?;
+    add_count(out, tally.images, " images, ")?;
+    add_count(out, tally.ahead, " a command ahead\n")
 }

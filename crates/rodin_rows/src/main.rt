@@ -27,8 +27,9 @@
 //! | `tell left`, `tell right`, `tell sizes`, `tell last` | what is then on a side, how many bytes, and which components last |
 //! | `hide digests`, `fold` | `(digest)` is printed for each digest, lines that are the same once, behind their number |
 //! | `each PART` | runs it again with each call of the part failing in turn |
-//! | `each stop` | opens what a stop inside each call of the disk leaves |
-//! | `each late` | lets each of the last ten calls of the disk fail, and opens what one stop inside it leaves |
+//! | `each stop` | lets each call of the disk fail in turn, and opens what stops inside it and behind all calls leave |
+//! | `late N` | looks so at the last N calls alone |
+//! | `value each`, `value N` | stops leave each value, or N, where a byte may be any; where the row doesn't say, 0, 1 and 255 |
 //! | `each byte` | runs it over each value of each byte of the left side |
 //!
 //! The lines of a row of events are those of a session, but that the user of a row also plays the provers: `take` and

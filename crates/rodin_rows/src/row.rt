@@ -171,6 +171,15 @@ impl Row {
     /// What the first ticket waits for.
     pub fn until(&self) -> Until {
         match self.behind("hold") {
+    /// Whether a stop is tried with this value of the bytes that it leaves open.
+    pub fn is_tried(&self, fill: u8) -> bool {
+        match self.behind("value") {
+            Some("each") => true,
+            Some(value) => value.parse::<usize>().unwrap_or(256) == fill as usize,
+            None => fill < 2 || fill == 255,
+        }
+    }
+
             Some("second") => Until::SecondTicket,
             Some("read") => Until::ThirdRead,
             _ => Until::Open,

@@ -1,7 +1,7 @@
 //! What is printed of a row.
 
 use crate::acts::add_events;
-use crate::again::{DIGEST, Whole, add_faults, add_late, add_stops};
+use crate::again::{DIGEST, Whole, add_faults, add_stops};
 use crate::bytes::add_bytes;
 use crate::gates::Until;
 use crate::printing::{add_count, add_line, add_two};
@@ -134,10 +134,7 @@ fn add_each<R: Clock + Threads + Wait + Sync>(
         add_faults(rt, alloc, &whole, part, again, out)?;
     }
     if row.says("each stop") {
-        add_stops(rt, alloc, whole.ran, again, out)?;
-    }
-    if row.says("each late") {
-        add_late(rt, alloc, &whole, again, out)?;
+        add_stops(rt, alloc, &whole, again, out)?;
     }
     if row.says("each byte") {
         add_bytes(rt, alloc, &whole, again, out)?;
