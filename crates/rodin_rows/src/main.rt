@@ -16,16 +16,17 @@
 //! | `pieces N`, `room N` | the source gives at most N bytes at a time, the sink takes N bytes in all |
 //! | `fails PART N` | the call of this number fails: `source`, `sink` or `disk` |
 //! | `on` | the disk has the sides that the row before left |
-//! | `left HEX`, `right HEX` | bytes behind those that the side has |
+//! | `left BYTES`, `right BYTES` | bytes behind those that the side has |
 //! | `prover WORD` | a prover that is `slow`: it waits 50 ms before each attempt; one that gives a proof of 2,047 nodes by `cuts`; or one that gives an ANSWER, see below |
 //! | `hold second`, `hold read` | the first ticket is held until the second is finished, or, with the second read waiting for it, until the third read |
-//! | `bytes HEX`, `times N TEXT` | more of the input: bytes, a text so often |
+//! | `bytes BYTES`, `times N TEXT` | more of the input: bytes, a text so often |
 //! | `feeds N`, `contexts N` | more of the input: so many line feeds, so many empty contexts |
 //! | `edits N`, `theorems N` | more of the input: edits of so many components, so many theorems of a context |
 //! | `long N LETTER` | more of the input: so many edits of a component, each with a text of 65,536 bytes of this letter |
 //! | `disk N` | all writes to the disk may have N bytes |
 //! | `tell left`, `tell right`, `tell sizes`, `tell last` | what is then on a side, how many bytes, and which components last |
 //! | `hide digests`, `fold` | `(digest)` is printed for each digest, lines that are the same once, behind their number |
+//! | `tell records` | the generation of each side, and the lengths of its first ten records |
 //! | `each PART` | runs it again with each call of the part failing in turn |
 //! | `each stop` | lets each call of the disk fail in turn, and opens what stops inside it and behind all calls leave |
 //! | `late N` | looks so at the last N calls alone |
@@ -33,6 +34,9 @@
 //! | `each byte` | runs it over each value of each byte of the left side |
 //!
 //! The lines of a row of events are those of a session, but that the user of a row also plays the provers: `take` and
+//! BYTES are hexadecimal digits, or `times N HEX`, or `theorems N` (so many theorems of a context), or `puts N LENGTH` (so many
+//! entries, each of which puts a text of LENGTH letters in the component `a`).
+//!
 //! `take PO` take a ticket, `finish N ANSWER` hands in the answer of a prover to the ticket of this number, and `idle` asks
 //! whether nothing is left to take and no ticket is out. An ANSWER is `none`, `memory`, `leaf` (a bare leaf), `review` (a tree
 //! of one review), `hyp H` (a tree of one rule: the goal is hypothesis H of the ticket's sequent) or `cuts D H` (D cuts of ⊤ one

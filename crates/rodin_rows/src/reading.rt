@@ -3,8 +3,8 @@
 use crate::printing::add_count;
 use std::alloc::{AllocError, Global};
 
-/// Adds bytes that are told by hexadecimal digits. Nothing where they aren't.
-pub fn add_hex(alloc: Global, to: &mut Vec<u8>, hex: &str) -> Result<(), AllocError> {
+// Adds bytes that are told by hexadecimal digits. Nothing where they aren't.
+fn add_hex(alloc: Global, to: &mut Vec<u8>, hex: &str) -> Result<(), AllocError> {
     match hex::decode(alloc, hex.as_bytes()) {
         Ok(bytes) => to.extend_from_slice(&bytes),
         Err(_) => Ok(()),
@@ -36,6 +36,9 @@ pub const CONTEXT: Frame = ("context c", " end\n");
 
 /// A theorem with a label of its own and a goal of three nodes.
 pub const THEOREM: Frame = ("theorem @t", " 1=1\n");
+
+/// An entry that puts a text in the component `a`, up to the length of the text.
+const PUT: &[u8] = b"\x01\x01\0\0\0a";
 
 /// Adds so many texts, each with its number, from 0, in a frame.
 pub fn add_numbered(
@@ -72,4 +75,37 @@ pub fn add_long_edits(to: &mut Vec<u8>, option: &str) -> Result<(), AllocError> 
         to.extend_from_slice(b".\n")?;
     }
     Ok(())
+}
+
+// Adds so many entries, each of which puts a text of so many letters in the component `a`, of `N LENGTH`.
+fn add_puts(to: &mut Vec<u8>, puts: &str) -> Result<(), AllocError> {
+    let (count, length) = puts.split_once(' ').unwrap_or(("0", ""));
+    let length = length.parse::<u32>().unwrap_or(0);
+    for _ in 0..count.parse::<u32>().unwrap_or(0) {
+        to.extend_from_slice(PUT)?;
+        to.extend_from_slice(&length.to_le_bytes())?;
+        for _ in 0..length {
+            to.push(b'x')?;
+        }
+    }
+    Ok(())
+}
+
+// Adds bytes that are told by hexadecimal digits so often, of `N HEX`.
+fn add_hex_times(alloc: Global, to: &mut Vec<u8>, told: &str) -> Result<(), AllocError> {
+    let (count, hex) = told.split_once(' ').unwrap_or(("0", ""));
+    for _ in 0..count.parse::<u32>().unwrap_or(0) {
+        add_hex(alloc, to, hex)?;
+    }
+    Ok(())
+}
+
+/// Adds bytes that are told by `HEX`, `times N HEX`, `theorems N` or `puts N LENGTH`.
+pub fn add_bytes(alloc: Global, to: &mut Vec<u8>, told: &str) -> Result<(), AllocError> {
+    match told.split_once(' ') {
+        Some(("times", times)) => add_hex_times(alloc, to, times),
+        Some(("theorems", count)) => add_numbered(alloc, to, count, THEOREM),
+        Some(("puts", puts)) => add_puts(to, puts),
+        _ => add_hex(alloc, to, told),
+    }
 }

@@ -3,7 +3,7 @@
 use crate::gates::Until;
 use crate::provers::Handed;
 use crate::reading::{
-    CONTEXT, EDIT, THEOREM, add_hex, add_long_edits, add_numbered, add_text, add_times,
+    CONTEXT, EDIT, THEOREM, add_bytes, add_long_edits, add_numbered, add_text, add_times,
 };
 use crate::runs::{Part, Sides};
 use std::alloc::{AllocError, Global};
@@ -87,7 +87,7 @@ impl Row {
     /// Adds what a line behind `! ` says.
     pub fn add_option(&mut self, alloc: Global, option: &str) -> Result<(), AllocError> {
         match option.split_once(' ') {
-            Some(("bytes", hex)) => add_hex(alloc, &mut self.input, hex),
+            Some(("bytes", bytes)) => add_bytes(alloc, &mut self.input, bytes),
             Some(("times", text)) => add_times(&mut self.input, text),
             Some(("feeds", count)) => add_text(&mut self.input, count, "\n"),
             Some(("edits", count)) => add_numbered(alloc, &mut self.input, count, EDIT),
@@ -205,8 +205,8 @@ impl Row {
         }
         for option in self.options.iter() {
             match option.split_once(' ') {
-                Some(("left", hex)) => add_hex(alloc, &mut sides.left, hex)?,
-                Some(("right", hex)) => add_hex(alloc, &mut sides.right, hex)?,
+                Some(("left", bytes)) => add_bytes(alloc, &mut sides.left, bytes)?,
+                Some(("right", bytes)) => add_bytes(alloc, &mut sides.right, bytes)?,
                 _ => {}
             }
         }

@@ -4,7 +4,7 @@ use crate::acts::add_events;
 use crate::again::{DIGEST, Whole, add_faults, add_stops};
 use crate::bytes::add_bytes;
 use crate::gates::Until;
-use crate::printing::{add_count, add_line, add_two};
+use crate::printing::{add_count, add_line, add_number, add_two};
 use crate::row::{Kind, Row};
 use crate::runs::{Bench, Ran, Sides, read_sides, run_row};
 use std::alloc::{AllocError, Global};
@@ -13,6 +13,9 @@ use std::thread::Threads;
 use std::time::Clock;
 
 // Lines with `(digest)` for each that has a digest.
+/// The most records of a side that are told.
+const MOST_RECORDS: usize = 10;
+
 fn add_lines(out: &mut String, lines: &str) -> Result<(), AllocError> {
     for line in lines.split('\n') {
         let shown = if line.len() == DIGEST {
@@ -79,6 +82,35 @@ fn add_sizes(out: &mut String, sides: &Sides) -> Result<(), AllocError> {
 }
 
 fn add_held(out: &mut String, ran: &Ran) -> Result<(), AllocError> {
+// The length of each record.
+fn add_lengths(out: &mut String, records: &[u8]) -> Result<(), AllocError> {
+    let mut rest = records;
+    for _ in 0..MOST_RECORDS {
+        match rest {
+            [1, a, b, c, d, behind @ ..] => {
+                let length = u32::from_le_bytes([*a, *b, *c, *d]);
+                out.push(' ')?;
+                add_number(out, length as u64)?;
+                rest = behind.get(length as usize..).unwrap_or(&[]);
+            }
+            _ => return Ok(()),
+        }
+    }
+    Ok(())
+}
+
+// The generation of a side, and the length of each of its records.
+fn add_records(out: &mut String, word: &str, side: &[u8]) -> Result<(), AllocError> {
+    if let [_, _, _, _, _, _, _, _, a, b, c, d, e, f, g, h, records @ ..] = side {
+        let generation = u64::from_le_bytes([*a, *b, *c, *d, *e, *f, *g, *h]);
+        add_two(out, word, " of generation ")?;
+        add_count(out, generation, ", records")?;
+        add_lengths(out, records)?;
+        out.push('\n')?;
+    }
+    Ok(())
+}
+
     let passed = if ran.is_passed {
         "passed"
     } else {
@@ -107,6 +139,10 @@ fn add_told(
         add_sizes(out, sides)?;
     }
     if row.until() != Until::Open {
+    if row.says("tell records") {
+        add_records(out, "left", &sides.left)?;
+        add_records(out, "right", &sides.right)?;
+    }
         add_held(out, ran)?;
     }
     if row.says("tell last") {
