@@ -3,10 +3,13 @@ ghost use Rattle.std.specs.Prelude.{◌≡◌, ◌<◌};
 
 use crate::cores::add_replies;
 use crate::events::told_event;
+use crate::printing::{add_count, add_number, add_two};
 use crate::replies::add_reply_line;
-use core_steps::{Event, Reply};
+use crate::row::Row;
+use crate::runs::{Sides, disk_of};
+use core_steps::{Durable, Event, Reply};
 use formula_core::Steps;
-use outside::SureDisk;
+use outside::{Disk, MemoryDisk};
 use project_store::{OpenFault, Store, StoreFault};
 use sequent_core::Ticket;
 use session_words::{Commands, Line};
@@ -17,9 +20,9 @@ use std::sync::ledger::{Blank, Ledger};
 // Each with a counter of steps that nobody reads.
 fn start_counted<L: Ledger>(
     alloc: Global,
-    disk: SureDisk,
+    disk: MemoryDisk,
     blank: Blank,
-) -> Result<Store<SureDisk>, (SureDisk, OpenFault)>
+) -> Result<Store<MemoryDisk>, (MemoryDisk, OpenFault)>
     requires name { blank.name ≡ L.name }
     requires parts { blank.parts ≡ L.parts }
     requires some { 0 < blank.parts }
@@ -29,7 +32,7 @@ fn start_counted<L: Ledger>(
 }
 
 fn apply_counted<L: Ledger>(
-    store: &mut Store<SureDisk>,
+    store: &mut Store<MemoryDisk>,
     event: Event,
     blank: Blank,
 ) -> Result<Reply, StoreFault>
@@ -41,7 +44,7 @@ fn apply_counted<L: Ledger>(
     store.apply(0, event, &mut steps)
 }
 
-fn apply(store: &mut Store<SureDisk>, event: Event) -> Result<Reply, StoreFault> {
+fn apply(store: &mut Store<MemoryDisk>, event: Event) -> Result<Reply, StoreFault> {
     apply_counted::<Brand>(store, event, Blank::new(1))
 }
 
@@ -61,7 +64,7 @@ fn keep(tickets: &mut Vec<Ticket>, reply: Reply) -> Result<(), AllocError> {
 
 // Does an event, and adds its reply.
 fn act(
-    store: &mut Store<SureDisk>,
+    store: &mut Store<MemoryDisk>,
     tickets: &mut Vec<Ticket>,
     event: Event,
     out: &mut String,
@@ -103,7 +106,7 @@ fn next_event(commands: &mut Commands) -> Result<Option<Event>, AllocError> {
 
 // Reads a line of a session, and does the event that it ends.
 fn act_on_line(
-    store: &mut Store<SureDisk>,
+    store: &mut Store<MemoryDisk>,
     tickets: &mut Vec<Ticket>,
     commands: &mut Commands,
     line: &str,
@@ -120,7 +123,7 @@ fn act_on_line(
 
 fn act_all(
     alloc: Global,
-    store: &mut Store<SureDisk>,
+    store: &mut Store<MemoryDisk>,
     tickets: &mut Vec<Ticket>,
     commands: &mut Commands,
     text: &str,
@@ -138,7 +141,7 @@ fn act_all(
 // Does the events of a row one after another, with the tickets that they take.
 fn play(
     alloc: Global,
-    store: &mut Store<SureDisk>,
+    store: &mut Store<MemoryDisk>,
     text: &str,
     out: &mut String,
 ) -> Result<(), AllocError> {
@@ -147,32 +150,77 @@ fn play(
     act_all(alloc, store, &mut tickets, &mut commands, text, out)
 }
 
+// What the disk counts, and the components that last, each with the length of its text.
+fn add_last(out: &mut String, faults: u64, durable: &Durable) -> Result<(), AllocError> {
+    add_count(out, faults, " faults, last")?;
+    for (name, text) in durable.texts.entries().iter() {
+        add_two(out, " ", name.as_text())?;
+        out.push(' ')?;
+        add_number(out, text.as_text().len() as u64)?;
+    }
+    out.push('\n')
+}
+
 // Does the events of a row on a store, and the same acts on a core. Adds the replies of each.
-fn acts_of(
+fn acts_on(
     alloc: Global,
+    store: Store<MemoryDisk>,
     text: &str,
     told: &mut String,
     by_core: &mut String,
 ) -> Result<(), AllocError> {
-    let disk = SureDisk::new(Vec::new(alloc), Vec::new(alloc));
-    let Ok(mut store) = start_counted::<Brand>(alloc, disk, Blank::new(1)) else {
-        return Err(AllocError);
-    };
+    let mut store = store;
     let done = play(alloc, &mut store, text, told);
     let (disk, acts, durable) = store.into_parts();
+    let faults = disk.faults();
     drop(disk);
+    let kept = match faults {
+        0 => Ok(()),
+        _ => add_last(told, faults, &durable),
+    };
     drop(durable);
-    match done {
-        Ok(()) => add_replies(alloc, &acts, by_core),
-        Err(fault) => Err(fault),
+    if done.is_err() || kept.is_err() {
+        return Err(AllocError);
+    }
+    add_replies(alloc, &acts, by_core)
+}
+
+// Why a store wasn't opened, and what the disk counts.
+fn add_unopened(out: &mut String, fault: OpenFault, faults: u64) -> Result<(), AllocError> {
+    write!(out, "not opened, {fault:?}, ")?;
+    add_count(out, faults, " faults\n")
+}
+
+// Does the events of a row on a store over these sides, and the same acts on a core. Adds the replies of each.
+fn acts_of(
+    alloc: Global,
+    row: &Row,
+    sides: &Sides,
+    told: &mut String,
+    by_core: &mut String,
+) -> Result<(), AllocError> {
+    let disk = disk_of(alloc, row, sides, row.fault())?;
+    match start_counted::<Brand>(alloc, disk, Blank::new(1)) {
+        Ok(store) => acts_on(alloc, store, row.text(), told, by_core),
+        Err((disk, fault)) => {
+            let faults = disk.faults();
+            drop(disk);
+            add_unopened(told, fault, faults)?;
+            by_core.push_str(told)
+        }
     }
 }
 
 /// Adds the replies to the events of a row on a store, and those of a core where they are others.
-pub fn add_events(alloc: Global, text: &str, out: &mut String) -> Result<(), AllocError> {
+pub fn add_events(
+    alloc: Global,
+    row: &Row,
+    sides: &Sides,
+    out: &mut String,
+) -> Result<(), AllocError> {
     let mut told = String::new(alloc);
     let mut by_core = String::new(alloc);
-    acts_of(alloc, text, &mut told, &mut by_core)?;
+    acts_of(alloc, row, sides, &mut told, &mut by_core)?;
     out.push_str(&told)?;
     if by_core.as_str() != told.as_str() {
         out.push_str("but on a core\n")?;

@@ -9,6 +9,7 @@
 //! | `projects` | the same with the word `check` |
 //! | `inputs` | the same with the word `check` and the prover by hypotheses; the exit status, the number of events and what the program writes stand in the line of its name |
 //! | `events` | events on a store, and on a core alone: see below |
+//! | `bytes` | bytes that are read as entries; for each version the entries are printed, or where the good ones end |
 //!
 //! | line | |
 //! |---|---|
@@ -25,29 +26,31 @@
 //! | `long N LETTER` | more of the input: so many edits of a component, each with a text of 65,536 bytes of this letter |
 //! | `disk N` | all writes to the disk may have N bytes |
 //! | `tell left`, `tell right`, `tell sizes`, `tell last` | what is then on a side, how many bytes, and which components last |
-//! | `hide digests`, `fold` | `(digest)` is printed for each digest, lines that are the same once, behind their number |
 //! | `tell records` | the generation of each side, and the lengths of its first ten records |
+//! | `hide digests`, `fold` | `(digest)` is printed for each digest, lines that are the same once, behind their number |
 //! | `each PART` | runs it again with each call of the part failing in turn |
 //! | `each stop` | lets each call of the disk fail in turn, and opens what stops inside it and behind all calls leave |
 //! | `late N` | looks so at the last N calls alone |
 //! | `value each`, `value N` | stops leave each value, or N, where a byte may be any; where the row doesn't say, 0, 1 and 255 |
 //! | `each byte` | runs it over each value of each byte of the left side |
 //!
-//! The lines of a row of events are those of a session, but that the user of a row also plays the provers: `take` and
 //! BYTES are hexadecimal digits, or `times N HEX`, or `theorems N` (so many theorems of a context), or `puts N LENGTH` (so many
 //! entries, each of which puts a text of LENGTH letters in the component `a`).
 //!
+//! The lines of a row of events are those of a session, but that the user of a row also plays the provers: `take` and
 //! `take PO` take a ticket, `finish N ANSWER` hands in the answer of a prover to the ticket of this number, and `idle` asks
 //! whether nothing is left to take and no ticket is out. An ANSWER is `none`, `memory`, `leaf` (a bare leaf), `review` (a tree
 //! of one review), `hyp H` (a tree of one rule: the goal is hypothesis H of the ticket's sequent) or `cuts D H` (D cuts of ⊤ one
 //! below another on each way, and then `hyp H`). `put NAME N` edits the component of this name, which may be primed, to a text
-//! of N bytes. Printed are the row's name, and the reply to each event on a store. A core alone does the same events; what it
+//! of N bytes. Printed are the row's name, and the reply to each event on a store. Where the disk counts faults, their number
+//! follows, and the components that last with the lengths of their texts. A core alone does the events that were done; what it
 //! replies is printed only where it is something else.
 #![tactic(auto)]
 
 mod acts;
 mod again;
 mod bytes;
+mod codec;
 mod cores;
 mod events;
 mod gates;

@@ -19,6 +19,8 @@ pub enum Kind {
     Inputs,
     /// Events on a store and on a core.
     Events,
+    /// Bytes that are read as entries.
+    Bytes,
 }
 
 impl Kind {
@@ -28,6 +30,7 @@ impl Kind {
             "## projects" => Kind::Projects,
             "## inputs" => Kind::Inputs,
             "## events" => Kind::Events,
+            "## bytes" => Kind::Bytes,
             _ => Kind::Sessions,
         }
     }
@@ -168,9 +171,6 @@ impl Row {
         Part::of(self.behind("each")?)
     }
 
-    /// What the first ticket waits for.
-    pub fn until(&self) -> Until {
-        match self.behind("hold") {
     /// Whether a stop is tried with this value of the bytes that it leaves open.
     pub fn is_tried(&self, fill: u8) -> bool {
         match self.behind("value") {
@@ -180,6 +180,9 @@ impl Row {
         }
     }
 
+    /// What the first ticket waits for.
+    pub fn until(&self) -> Until {
+        match self.behind("hold") {
             Some("second") => Until::SecondTicket,
             Some("read") => Until::ThirdRead,
             _ => Until::Open,

@@ -156,7 +156,8 @@ fn sink_of(alloc: Global, row: &Row, fault: Option<(Part, u64)>) -> Result<Memor
     MemorySink::new(alloc, row.number("room", ROOM), fails)
 }
 
-fn disk_of(
+/// A disk of these sides. At most one of its calls fails.
+pub fn disk_of(
     alloc: Global,
     row: &Row,
     sides: &Sides,

@@ -3,6 +3,7 @@
 use crate::acts::add_events;
 use crate::again::{DIGEST, Whole, add_faults, add_stops};
 use crate::bytes::add_bytes;
+use crate::codec::add_entries;
 use crate::gates::Until;
 use crate::printing::{add_count, add_line, add_number, add_two};
 use crate::row::{Kind, Row};
@@ -12,10 +13,10 @@ use std::sync::Wait;
 use std::thread::Threads;
 use std::time::Clock;
 
-// Lines with `(digest)` for each that has a digest.
 /// The most records of a side that are told.
 const MOST_RECORDS: usize = 10;
 
+// Lines with `(digest)` for each that has a digest.
 fn add_lines(out: &mut String, lines: &str) -> Result<(), AllocError> {
     for line in lines.split('\n') {
         let shown = if line.len() == DIGEST {
@@ -81,7 +82,6 @@ fn add_sizes(out: &mut String, sides: &Sides) -> Result<(), AllocError> {
     add_count(out, sides.right.len() as u64, "\n")
 }
 
-fn add_held(out: &mut String, ran: &Ran) -> Result<(), AllocError> {
 // The length of each record.
 fn add_lengths(out: &mut String, records: &[u8]) -> Result<(), AllocError> {
     let mut rest = records;
@@ -111,6 +111,7 @@ fn add_records(out: &mut String, word: &str, side: &[u8]) -> Result<(), AllocErr
     Ok(())
 }
 
+fn add_held(out: &mut String, ran: &Ran) -> Result<(), AllocError> {
     let passed = if ran.is_passed {
         "passed"
     } else {
@@ -138,11 +139,11 @@ fn add_told(
     if row.says("tell sizes") {
         add_sizes(out, sides)?;
     }
-    if row.until() != Until::Open {
     if row.says("tell records") {
         add_records(out, "left", &sides.left)?;
         add_records(out, "right", &sides.right)?;
     }
+    if row.until() != Until::Open {
         add_held(out, ran)?;
     }
     if row.says("tell last") {
@@ -210,10 +211,13 @@ fn add_answers<R: Clock + Threads + Wait + Sync>(
     bench: &mut Bench,
     out: &mut String,
 ) -> Result<(), AllocError> {
-    if row.kind == Kind::Events {
-        return add_events(alloc, row.text(), out);
+    if row.kind == Kind::Bytes {
+        return add_entries(alloc, &row.input, out);
     }
     row.begin_sides(alloc, &mut bench.sides)?;
+    if row.kind == Kind::Events {
+        return add_events(alloc, row, &bench.sides, out);
+    }
     let fault = row.fault();
     run_row(rt, alloc, row, &bench.sides, fault, &mut bench.ran)?;
     if row.kind == Kind::Inputs {
