@@ -64,6 +64,7 @@ fn keep(tickets: &mut Vec<Ticket>, reply: Reply) -> Result<(), AllocError> {
 
 // Does an event, and adds its reply.
 fn act(
+    alloc: Global,
     store: &mut Store<MemoryDisk>,
     tickets: &mut Vec<Ticket>,
     event: Event,
@@ -71,7 +72,7 @@ fn act(
 ) -> Result<(), AllocError> {
     match apply(store, event) {
         Ok(reply) => {
-            let told = add_reply_line(out, &reply);
+            let told = add_reply_line(alloc, out, &reply);
             keep(tickets, reply)?;
             told
         }
@@ -106,6 +107,7 @@ fn next_event(commands: &mut Commands) -> Result<Option<Event>, AllocError> {
 
 // Reads a line of a session, and does the event that it ends.
 fn act_on_line(
+    alloc: Global,
     store: &mut Store<MemoryDisk>,
     tickets: &mut Vec<Ticket>,
     commands: &mut Commands,
@@ -116,7 +118,7 @@ fn act_on_line(
         return Err(AllocError);
     }
     match next_event(commands)? {
-        Some(event) => act(store, tickets, event, out),
+        Some(event) => act(alloc, store, tickets, event, out),
         None => Ok(()),
     }
 }
@@ -131,8 +133,8 @@ fn act_all(
 ) -> Result<(), AllocError> {
     for line in text.split('\n') {
         match told_event(alloc, tickets, line) {
-            Some(event) => act(store, tickets, event, out)?,
-            None => act_on_line(store, tickets, commands, line, out)?,
+            Some(event) => act(alloc, store, tickets, event, out)?,
+            None => act_on_line(alloc, store, tickets, commands, line, out)?,
         }
     }
     Ok(())

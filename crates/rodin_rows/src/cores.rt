@@ -22,14 +22,15 @@ fn start<L: Ledger>(alloc: Global, steps: &mut Steps<L>) -> Result<Core, BuildFa
 }
 
 // Adds a reply, which nobody needs then.
-fn add_line(out: &mut String, reply: Reply) -> Result<(), AllocError> {
-    let told = add_reply_line(out, &reply);
+fn add_line(alloc: Global, out: &mut String, reply: Reply) -> Result<(), AllocError> {
+    let told = add_reply_line(alloc, out, &reply);
     drop(reply);
     told
 }
 
 // Does an event, and adds its reply.
 fn act<L: Ledger>(
+    alloc: Global,
     core: &mut Core,
     event: &Event,
     out: &mut String,
@@ -45,11 +46,12 @@ fn act<L: Ledger>(
     };
     grows_slowly();
     let reply = core.commit(prepared);
-    add_line(out, reply)
+    add_line(alloc, out, reply)
 }
 
 // Does the events one after another, and adds their replies.
 fn act_all<L: Ledger>(
+    alloc: Global,
     core: &mut Core,
     acts: &[(u32, Event)],
     out: &mut String,
@@ -62,7 +64,7 @@ fn act_all<L: Ledger>(
     }
     for at in 0..acts.len() {
         let (_, event) = &acts[at];
-        act(core, event, out, steps)?;
+        act(alloc, core, event, out, steps)?;
     }
     Ok(())
 }
@@ -82,7 +84,7 @@ fn add_counted<L: Ledger>(
     let Ok(mut core) = start(alloc, &mut steps) else {
         return Err(AllocError);
     };
-    let done = act_all(&mut core, acts, out, &mut steps);
+    let done = act_all(alloc, &mut core, acts, out, &mut steps);
     let _durable = core.into_durable();
     done
 }

@@ -42,9 +42,9 @@
 //! whether nothing is left to take and no ticket is out. An ANSWER is `none`, `memory`, `leaf` (a bare leaf), `review` (a tree
 //! of one review), `hyp H` (a tree of one rule: the goal is hypothesis H of the ticket's sequent) or `cuts D H` (D cuts of ⊤ one
 //! below another on each way, and then `hyp H`). `put NAME N` edits the component of this name, which may be primed, to a text
-//! of N bytes. Printed are the row's name, and the reply to each event on a store. Where the disk counts faults, their number
-//! follows, and the components that last with the lengths of their texts. A core alone does the events that were done; what it
-//! replies is printed only where it is something else.
+//! of N bytes. Printed are the row's name, and the reply to each event on a store; behind a reply that comes in no session
+//! stands how it is printed. Where the disk counts faults, their number follows, and the components that last with the lengths of
+//! their texts. A core alone does the events that were done; what it replies is printed only where it is something else.
 #![tactic(auto)]
 
 mod acts;

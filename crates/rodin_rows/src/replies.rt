@@ -2,10 +2,11 @@
 
 use crate::printing::{add_count, add_number, add_two};
 use core_steps::{FaultLine, NodeLine, Origin, Reply, Status};
-use formula_core::{Name, PoName};
+use formula_core::{Name, OutOfMemory, PoName};
+use reply_text::reply_text;
 use rule_making::RuleFault;
 use sequent_core::{Sequent, Ticket};
-use std::alloc::AllocError;
+use std::alloc::{AllocError, Global};
 
 // An obligation's name behind words, and its status.
 fn add_status(
@@ -192,8 +193,26 @@ fn add_reply(out: &mut String, reply: &Reply) -> Result<(), AllocError> {
     }
 }
 
-/// Adds a reply with the end of its line.
-pub fn add_reply_line(out: &mut String, reply: &Reply) -> Result<(), AllocError> {
+// The printed text of a reply that no session gives, or nothing.
+fn printed(alloc: Global, reply: &Reply) -> Result<String, OutOfMemory> {
+    match reply {
+        Reply::NoTicket(number) => reply_text(alloc, &Reply::NoTicket(*number)),
+        Reply::Stale(name, status) => {
+            let name = name.copy(alloc)?;
+            reply_text(alloc, &Reply::Stale(name, *status))
+        }
+        _ => Ok(String::new(alloc)),
+    }
+}
+
+/// Adds a reply with the end of its line. Behind one that no session gives stands how it is printed.
+pub fn add_reply_line(alloc: Global, out: &mut String, reply: &Reply) -> Result<(), AllocError> {
     add_reply(out, reply)?;
+    let Ok(text) = printed(alloc, reply) else {
+        return Err(AllocError);
+    };
+    if !text.is_empty() {
+        write!(out, ", printed {text:?}")?;
+    }
     out.push('\n')
 }
