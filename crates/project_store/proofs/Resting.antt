@@ -5,8 +5,8 @@ use Rattle.journal_core.specs.State.{IsKept}
 use Rattle.project_store.specs.Store.{StoreState, IsSoundStore, Rests}
 
 not_true : (b : Bool) → (b ≡ true → ⊥) → b ≡ false
-not_true true no = absurd (no refl)
-not_true false no = refl
+not_true true never = absurd (never refl)
+not_true false never = refl
 
 module _ {D : Type 0} (told : Type 0) (bytes_of : D → Sides) (images : D → Sides → Type 0) (faults : D → ℕ) (s : StoreState D) where
   pub rests : IsSoundStore told bytes_of images faults s →
