@@ -1,7 +1,6 @@
 pub mod Building
 pub mod Collecting
 pub mod Concluding
-pub mod Counts
 pub mod Distinct
 pub mod EachOwn
 pub mod Fewer

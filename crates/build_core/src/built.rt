@@ -1,19 +1,6 @@
-//! What a build answers.
+//! Why a project isn't built.
 
-use crate::fault_line::FaultLine;
-use formula_core::{Name, OutOfMemory};
-use sequent_core::Obligation;
-use std::alloc::AllocFailed;
-
-/// What the texts of a project are built to.
-#[derive(Drop)]
-pub struct Built {
-    pub obligations: Vec<Obligation>,
-    /// The first fault of each component that has one.
-    pub faults: Vec<FaultLine>,
-    /// A machine, and an event of its abstraction that none of its events refines or extends.
-    pub warnings: Vec<(Name, Name)>,
-}
+use formula_core::OutOfMemory;
 
 /// Why a project isn't built.
 #[derive(Clone, Copy, Debug, PartialEq, Eq)]

@@ -3,7 +3,6 @@
 #![tactic(auto)]
 
 mod before;
-mod builder;
 mod built;
 mod checking;
 mod components;
@@ -22,8 +21,7 @@ mod reading;
 mod references;
 mod same;
 
-pub use builder::build;
-pub use built::{BuildFault, Built};
+pub use built::BuildFault;
 pub use fault_line::FaultLine;
 pub use incremental::Builder;
 pub use laws::{
