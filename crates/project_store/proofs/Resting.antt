@@ -11,4 +11,5 @@ not_true false never = refl
 module _ {D : Type 0} (told : Type 0) (bytes_of : D → Sides) (images : D → Sides → Type 0) (faults : D → ℕ) (s : StoreState D) where
   pub rests : IsSoundStore told bytes_of images faults s →
       IsKept told bytes_of images s.journal.disk s.journal.side s.journal.gate s.journal.generation s.journal.rest_open s.journal.failed → Rests told bytes_of images s
-  rests sound kept t none = kept.at_rest t (not_true s.journal.failed (λ e. none (sound.failed e)))
+  rests sound kept t none =
+      (kept.within, kept.number, kept.at_rest t (not_true s.journal.failed (λ e. none (sound.failed e))))

@@ -1,5 +1,5 @@
 -- An open store, as contracts see it.
-use Rattle.std.specs.Prelude.{◌≡◌, ◌⊎◌, ⊤, ℕ, ◌+◌, ◌<◌, ◌≤◌, List, [], ◌∷◌, ◌++◌, length, map, Option, Some, None, IfSome, true, false}
+use Rattle.std.specs.Prelude.{◌≡◌, ◌⊎◌, ⊤, ℕ, ◌+◌, ◌^◌, ◌<◌, ◌≤◌, List, [], ◌∷◌, ◌++◌, length, map, Option, Some, None, IfSome, true, false}
 use Rattle.outside.specs.Disk.{Sides}
 use Rattle.outside.specs.Cause.{Rose}
 use Rattle.journal_core.specs.State.{JournalState, IsAtRest}
@@ -120,11 +120,13 @@ pub record IsSoundStore {D : Type 0} (told : Type 0) (bytes_of : D → Sides) (i
   pub counted : s.count ≤ faults s.journal.disk
   pub cause : IfSome s.kept (λ kept. HasCauseOf faults s kept.fault kept.act.1)
 
--- where no fault is one of the disk, its sides rest at the gate and in the generation that the journal knows
+-- where no fault is one of the disk, its sides rest at the gate and in the generation that the journal knows, which are
+-- within their limits
 abbrev pub Rests : {D : Type 0} → Type 0 → (D → Sides) → (D → Sides → Type 0) → StoreState D → Type 0
 Rests told bytes_of images s =
     told → (IsDiskFault s.kept → ⊥) →
-    IsAtRest (bytes_of s.journal.disk) (images s.journal.disk) s.journal.side s.journal.gate s.journal.generation s.journal.rest_open
+    (s.journal.gate < 67108864) × (s.journal.generation < 2 ^ 64)
+    × IsAtRest (bytes_of s.journal.disk) (images s.journal.disk) s.journal.side s.journal.gate s.journal.generation s.journal.rest_open
 
 -- an act that was done, as an entry of the log
 abbrev pub logged : ℕ × Event → Logged

@@ -122,6 +122,7 @@ module _ {D : Type 0} (told : Type 0) (bytes_of : D → Sides) (images : D → S
     xs = sound.exchanges;
     plays = has_history;
     events = refl;
+    light = sound.light;
     rests = rests;
     stops = sound.stops;
     later = subst (λ n. n ≤ faults st.journal.disk) (at_first old o).counted sound.counted;
@@ -182,6 +183,7 @@ module _ {D : Type 0} (told : Type 0) (bytes_of : D → Sides) (images : D → S
       complete = λ xs x behind s cut run e r. absurd (none_cut xs x behind cut);
     };
     events = refl;
+    light = sound.light;
     rests = rests;
     stops = sound.stops;
     later = subst (λ n. n ≤ faults st.journal.disk) o.counted sound.counted;

@@ -16,7 +16,7 @@ use Rattle.project_store.specs.declared.fault.OpenFault.{OpenFault}
 use Rattle.project_store.specs.declared.fault.OpenFault.TheVariants.{DiskFault}
 use Rattle.project_store.specs.Opening.{StoreMeaning, StandsFor, durable, IsCause, IsAnswerFor, StandsAsSome}
 use Rattle.project_store.specs.Records.{Recovers}
-use Rattle.project_store.specs.Store.{StoreState, IsImage, HasCauseOf, Rests}
+use Rattle.project_store.specs.Store.{StoreState, IsImage, HasCauseOf, Rests, weight}
 use Rattle.session_streams.specs.Streams.{SourceState, Writing, WritesNothing}
 use Rattle.session_ends.specs.Ends.{HasHistory, EndsWell, EndsInsideEdit, EndsAtReadFault, EndsAtWriteFault}
 use Rattle.session_ends.specs.Ends.{EndsWithFullInput, EndsAtStoreFault, EndsWithoutMemory}
@@ -72,9 +72,9 @@ module _ {D : Type 0} (told : Type 0) (bytes_of : D → Sides) (images : D → S
         ⊎ ((status ≡ 9) × WritesNothing sink)
 
   module _ (fair : Sequent → Attempt → Type 0) (sure : Sequent → Type 0) (workers : ℕ) where
-    -- A session on an opened project: what the disk stood for at first, the history from there, what a stop leaves now,
-    -- the cause of the store's first fault, if it met one, over this history and the disk as it is now, and how the
-    -- session ended.
+    -- A session on an opened project: what the disk stood for at first, the history from there, within its limit, what a
+    -- stop leaves now, the cause of the store's first fault, if it met one, over this history and the disk as it is now,
+    -- and how the session ended.
     pub record IsSession
         (old new : D) (source : SourceState) (sink : Writing) (status : ℕ) (history : List (ℕ × Event)) (last : Durable) :
         Type 0 where
@@ -84,6 +84,7 @@ module _ {D : Type 0} (told : Type 0) (bytes_of : D → Sides) (images : D → S
       pub xs : List (ℕ × Exchange)
       pub plays : HasHistory fair sure workers store.base history last xs store.core
       pub events : store.history ≡ history
+      pub light : weight history ≤ 67108864
       pub rests : Rests told bytes_of images store
       pub stops : told → (c : Sides) → images new c → IsImage store.core store.kept c
       pub later : faults old ≤ faults new
