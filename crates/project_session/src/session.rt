@@ -4,6 +4,7 @@ ghost use Rattle.outside.specs.Cause.{Rose};
 ghost use Rattle.core_steps.specs.State.{opened};
 ghost use Rattle.prover_pool.specs.Shift.{fair};
 ghost use Rattle.session_streams.specs.Streams.{reading, writing};
+ghost use Rattle.session_ends.specs.Limits.{IsUnhindered, IsUnfailedSessionStatus};
 ghost use Rattle.session_ends.specs.Sessions.{Sessions, IsSession, Opens};
 ghost use Rattle.session_ends.specs.Statuses.{IsSessionStatus};
 
@@ -93,6 +94,12 @@ pub fn run_session<
     ensures read_fault { result.status ≡ 3 → Rose (I.faults input.old) (I.faults input.new) }
     ensures write_fault { result.status ≡ 4 → Rose (O.faults output.old) (O.faults output.new) }
     ensures disk_fault { result.status ≡ 5 → Rose (D.faults disk) (D.faults result.disk) }
+    ensures unhindered { D.told →
+        IsUnhindered D.bytes_of D.images D.faults
+        (fair (P.answers tools.now.prover.now) (P.sure tools.now.prover.now)) disk result.disk
+        (reading (I.left input.old) (I.left input.new) (I.faults input.old) (I.faults input.new))
+        (writing (O.written output.old) (O.written output.new) (O.faults output.old) (O.faults output.new))
+        result.history.items → IsUnfailedSessionStatus result.status }
 {
     open_and_run(tools, workers, input, output, disk)
 }

@@ -3,13 +3,13 @@
 
 use outside::{FilePair, OpenGate, StreamSink, StreamSource};
 use prover_pool::Tools;
-use rodin_cli::run;
+use rodin_cli::{exit, run};
 use std::process::ExitCode;
 use std::{env, io};
 use strategy_core::AutoProver;
 
-/// The exit status where memory ran out.
-const OUT_OF_MEMORY: u8 = 9;
+/// The most rules of a proof that the prover looks for.
+const BUDGET: u32 = 400;
 
 // The words of the command line after the program's name.
 fn words(rt: &HostRuntime) -> io::Result<Vec<String>> {
@@ -24,14 +24,14 @@ fn main(rt: HostRuntime) -> ExitCode {
     let words = match words(&rt) {
         Ok(words) => words,
         Err(fault) if fault.kind() == io::ErrorKind::OutOfMemory => {
-            return ExitCode::from(OUT_OF_MEMORY);
+            return ExitCode::from(exit::OUT_OF_MEMORY);
         }
         // (a word that is not UTF-8 is in none of the forms)
         Err(_) => Vec::new(rt.alloc()),
     };
     let mut input = StreamSource::new(rt.stdin());
     let mut output = StreamSink::new(rt.stdout());
-    let prover = AutoProver::new(400);
+    let prover = AutoProver::new(BUDGET);
     let tools = Tools {
         rt: &rt,
         alloc: rt.alloc(),

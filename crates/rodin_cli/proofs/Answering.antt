@@ -21,7 +21,7 @@ use Rattle.session_streams.specs.Streams.{SourceState, Writing, SourceFailed, Si
 use Rattle.session_ends.specs.Written.{WritesOrFails}
 use Rattle.rodin_cli.specs.Streams.{IsAtInputEnd}
 use Rattle.rodin_cli.specs.Texts.{printed_lines}
-use Rattle.rodin_cli.specs.Check.{LeadsToPart, IsAnswered, IsTooFull, RanOut, EndsWithLine, HasNoHistory, TellsFaults, TellsWarnings, IsProved, status_of}
+use Rattle.rodin_cli.specs.Check.{LeadsToPart, IsAnswered, IsTooFull, RanOut, EndsWithLine, HasNoHistory, TellsFaults, TellsWarnings, IsProved, check_status}
 use Rattle.rodin_cli.specs.Check.{ComesOf, an_answer, a_full_table, a_bad_input, want_of_memory, RunsCheck, answers_input, refuses_long_input, meets_read_fault, runs_out_reading}
 use Rattle.rodin_cli.specs.Check.{ReadsToEnd, input_clean, input_faulty, answer_cut, IsUnfailedCheckStatus, check_clean, check_faulty, check_too_large, check_without_memory}
 use Rattle.rodin_cli.specs.Private.{PrintsAnswer, prints_whole, prints_front, prints_nothing}
@@ -67,7 +67,7 @@ module _ (answers : Sequent → Attempt → Type 0) (sure : Sequent → Type 0) 
   module _ (parts : List Component) (told : List FaultLine) (warned : List (List ℕ × List ℕ)) (shown : List (List ℕ × Status × Option Origin)) (whole : IsWholeScript answers sure parts told warned shown exchanges)
       (complete : IsComplete sure new.core.durable exchanges) where
     pub answered : (bytes : List ℕ) (sink : Writing) → IsInput bytes (Ok parts) →
-        ((part.status ≡ status_of told) × Writes sink (printed_lines told warned shown)) ⊎ ((part.status ≡ 4) × WritesCut sink (printed_lines told warned shown)) → IsAnswered answers sure bytes sink part
+        ((part.status ≡ check_status told) × Writes sink (printed_lines told warned shown)) ⊎ ((part.status ≡ 4) × WritesCut sink (printed_lines told warned shown)) → IsAnswered answers sure bytes sink part
     answered bytes sink made text =
         let clean = clean_of answers sure parts told warned shown exchanges (opened no_texts) new.core whole ran in
         let tells = told_of answers sure parts told warned shown exchanges (opened no_texts) new.core whole ran in
@@ -131,7 +131,7 @@ data HasCheckCause (source : SourceState) (sink : Writing) (status : ℕ) : Type
   by_memory : status ≡ 9 → HasCheckCause source sink status
 
 answer_cause : (source : SourceState) (sink : Writing) (status : ℕ) (told : List FaultLine) (text : List ℕ) → IsAtInputEnd source →
-    ((status ≡ status_of told) × Writes sink text) ⊎ ((status ≡ 4) × WritesCut sink text) → HasCheckCause source sink status
+    ((status ≡ check_status told) × Writes sink text) ⊎ ((status ≡ 4) × WritesCut sink text) → HasCheckCause source sink status
 answer_cause source sink status [] text ended (inl written) = by_clean written.0 ended
 answer_cause source sink status (f ∷ told) text ended (inl written) = by_fault written.0 ended
 answer_cause source sink status told text ended (inr cut) = by_sink cut.0 ended cut.1.0

@@ -66,9 +66,9 @@ abbrev pub project_of : List Component → ProjectMap
 project_of parts = fold with_component empty parts
 
 -- the status of an answer that is written: 1 where a fault is told
-abbrev pub status_of : List FaultLine → ℕ
-status_of [] = 0
-status_of (f ∷ told) = 1
+abbrev pub check_status : List FaultLine → ℕ
+check_status [] = 0
+check_status (f ∷ told) = 1
 
 -- the input has these components, the run is whole, they are what is built, and the faults and warnings that it tells and the statuses that it
 -- shows are written. The status guarantee, its first sentence: the statuses shown are those of a clean rebuild.
@@ -87,7 +87,7 @@ pub record IsAnswered (answers : Sequent → Attempt → Type 0) (sure : Sequent
   pub clean : IsRebuilt part.last shown
   pub proved : IsProved part.last shown
   pub complete : IsComplete sure part.last exchanges
-  pub text : ((part.status ≡ status_of told) × Writes sink (printed_lines told warned shown)) ⊎ ((part.status ≡ 4) × WritesCut sink (printed_lines told warned shown))
+  pub text : ((part.status ≡ check_status told) × Writes sink (printed_lines told warned shown)) ⊎ ((part.status ≡ 4) × WritesCut sink (printed_lines told warned shown))
 
 -- nothing was done
 abbrev pub HasNoHistory : Part → Type 0

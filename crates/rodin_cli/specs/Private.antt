@@ -13,7 +13,7 @@ use Rattle.rodin_cli.specs.declared.demo.Round.{Round}
 use Rattle.rodin_cli.specs.declared.demo.Round.TheVariants.{Models, Edit}
 use Rattle.rodin_cli.specs.declared.demo.Stop.{Stop}
 use Rattle.rodin_cli.specs.declared.demo.Stop.TheVariants.{Full, Cut, OutOfMemory}
-use Rattle.rodin_cli.specs.Check.{status_of}
+use Rattle.rodin_cli.specs.Check.{check_status}
 use Rattle.rodin_cli.specs.Completeness.{IsComplete}
 use Rattle.rodin_cli.specs.Demo.{edited_in, line_after, Counts, ComesAfter}
 use Rattle.rodin_cli.specs.Script.{IsFullScript, IsRoundFront}
@@ -36,7 +36,7 @@ pub record AreSessionWords (word workers_word : List ℕ) (workers : ℕ) : Type
 
 -- what is written of an answer, by the exit status: all of it, a front of it, or nothing for want of memory
 pub data PrintsAnswer (told : List FaultLine) (warned : List (List ℕ × List ℕ)) (shown : List (List ℕ × Status × Option Origin)) (sink : Writing) (status : ℕ) : Type 0 where
-  prints_whole : (status_is : status ≡ status_of told) (written : Writes sink (printed_lines told warned shown)) → PrintsAnswer told warned shown sink status
+  prints_whole : (status_is : status ≡ check_status told) (written : Writes sink (printed_lines told warned shown)) → PrintsAnswer told warned shown sink status
   prints_front : (status_is : status ≡ 4) (written : WritesCut sink (printed_lines told warned shown)) → PrintsAnswer told warned shown sink status
   prints_nothing : (status_is : status ≡ 9) (unwritten : WritesNothing sink) → PrintsAnswer told warned shown sink status
 

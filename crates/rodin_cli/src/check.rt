@@ -14,7 +14,7 @@ ghost use Rattle.rodin_cli.specs.PrivateSession.{Extends, IsUnchanged};
 ghost use Rattle.session_streams.specs.Streams.{reading, writing, WritesNothing};
 ghost use Rattle.session_ends.specs.Written.{WritesOrFails};
 ghost use Rattle.check_input.specs.Lines.{input_line};
-ghost use Rattle.rodin_cli.specs.Check.{HasNoHistory, EndsWithLine, ComesOf, RunsCheck, ReadsToEnd, IsUnfailedCheckStatus, status_of};
+ghost use Rattle.rodin_cli.specs.Check.{HasNoHistory, EndsWithLine, ComesOf, RunsCheck, ReadsToEnd, IsUnfailedCheckStatus, check_status};
 ghost use Rattle.rodin_cli.specs.Private.{PrintsAnswer};
 
 use crate::outcome::Part;
@@ -29,6 +29,7 @@ use core_steps::{
 use formula_core::{List, Name, OutOfMemory, PoName, Steps, Text};
 use outside::{Sink, Source};
 use sequent_core::Prover;
+use session_ends::exit;
 use session_streams::write_text;
 use std::alloc::Global;
 use std::marker::Brand;
@@ -146,9 +147,13 @@ pub fn ends_with_line<O: Sink>(alloc: Global, output: &mut O, status: u8, line: 
 
 // 1 where a fault is told.
 fn status_of(told: &[FaultLine]) -> u8
-    ensures { result ≡ status_of told.now }
+    ensures { result ≡ check_status told.now }
 {
-    if told.is_empty() { 0 } else { 1 }
+    if told.is_empty() {
+        exit::DONE
+    } else {
+        exit::FAULTED
+    }
 }
 
 // Prints what is told and shown. The status is 9 where memory ran out before anything was written.
@@ -164,11 +169,11 @@ fn answer<O: Sink>(alloc: Global, output: &mut O, shown: &Shown) -> u8
         shown.statuses.items(),
     ) {
         Ok(text) => text,
-        Err(_) => return 9,
+        Err(_) => return exit::OUT_OF_MEMORY,
     };
     match write_text(output, text.as_str().as_bytes()) {
         Ok(()) => status_of(faults),
-        Err(_) => 4,
+        Err(_) => exit::WRITE_FAULT,
     }
 }
 
@@ -191,7 +196,7 @@ fn check_parts<L: Ledger, O: Sink, P: Prover>(
     let mut steps = Steps::<L>::open(blank);
     let mut session = match start(alloc, &mut steps) {
         Ok(session) => session,
-        Err(_) => return no_part(alloc, 9),
+        Err(_) => return no_part(alloc, exit::OUT_OF_MEMORY),
     };
     match play(alloc, prover, &mut session, parts, &mut steps) {
         Ok(Some(shown)) => {
@@ -200,9 +205,9 @@ fn check_parts<L: Ledger, O: Sink, P: Prover>(
         }
         Ok(None) => {
             write_last(output, b"full: table\n");
-            part_from(session, 7)
+            part_from(session, exit::FULL)
         }
-        Err(_) => part_from(session, 9),
+        Err(_) => part_from(session, exit::OUT_OF_MEMORY),
     }
 }
 
@@ -214,8 +219,8 @@ fn refuse<O: Sink>(alloc: Global, fault: &InputFault, output: &mut O) -> Part
         (writing (O.written output.old) (O.written output.new) (O.faults output.old) (O.faults output.new))) }
 {
     match input_line(alloc, fault) {
-        Ok(line) => ends_with_line(alloc, output, 1, line.as_str().as_bytes()),
-        Err(_) => no_part(alloc, 9),
+        Ok(line) => ends_with_line(alloc, output, exit::FAULTED, line.as_str().as_bytes()),
+        Err(_) => no_part(alloc, exit::OUT_OF_MEMORY),
     }
 }
 
@@ -228,7 +233,7 @@ fn check_bytes<O: Sink, P: Prover>(alloc: Global, bytes: &[u8], output: &mut O, 
     match parts_of(alloc, bytes) {
         Ok(parts) => check_parts::<Brand, O, P>(alloc, parts, output, prover, Blank::new(1)),
         Err(InputError::Fault(fault)) => refuse(alloc, &fault, output),
-        Err(InputError::OutOfMemory) => no_part(alloc, 9),
+        Err(InputError::OutOfMemory) => no_part(alloc, exit::OUT_OF_MEMORY),
     }
 }
 
@@ -246,12 +251,14 @@ fn check_source<I: Source, O: Sink, P: Prover>(
     match read_input(alloc, input) {
         Ok(bytes) => {
             if bytes.len() > LONGEST_INPUT {
-                return ends_with_line(alloc, output, 7, b"full: input\n");
+                return ends_with_line(alloc, output, exit::FULL, b"full: input\n");
             }
             check_bytes(alloc, &bytes, output, prover)
         }
-        Err(ReadError::Failed) => ends_with_line(alloc, output, 3, b"input: read fault\n"),
-        Err(ReadError::OutOfMemory) => no_part(alloc, 9),
+        Err(ReadError::Failed) => {
+            ends_with_line(alloc, output, exit::READ_FAULT, b"input: read fault\n")
+        }
+        Err(ReadError::OutOfMemory) => no_part(alloc, exit::OUT_OF_MEMORY),
     }
 }
 

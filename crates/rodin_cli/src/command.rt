@@ -16,6 +16,8 @@ pub enum Command {
 const MOST_DIGITS: usize = 20;
 /// The most workers of a session.
 const MOST_WORKERS: u64 = 8;
+/// The most models of a demonstration.
+const MOST_MODELS: u64 = 128;
 
 /// The command of these words. None where they are none of the forms.
 pub fn command_of(words: &[String]) -> Option<Command>
@@ -94,7 +96,7 @@ fn demo_numbers(word: &str, seed: &str, n: &str) -> Option<(u64, u64)>
     }
     let seed = number_of(seed)?;
     let n = number_of(n)?;
-    if n < 1 || n > 128 {
+    if n < 1 || n > MOST_MODELS {
         return None;
     }
     Some((seed, n))

@@ -22,6 +22,7 @@ use demo_models::{edited_machine, models};
 use formula_core::{List, Name, OutOfMemory, PoName, Steps, Text};
 use outside::Sink;
 use sequent_core::Prover;
+use session_ends::exit;
 use session_streams::write_text;
 use std::alloc::Global;
 use std::marker::Brand;
@@ -261,9 +262,9 @@ fn stop_status(stop: Stop) -> u8
     ensures { result ≡ stop_status stop }
 {
     match stop {
-        Stop::Cut => 4,
-        Stop::Full => 7,
-        Stop::OutOfMemory => 9,
+        Stop::Cut => exit::WRITE_FAULT,
+        Stop::Full => exit::FULL,
+        Stop::OutOfMemory => exit::OUT_OF_MEMORY,
     }
 }
 
@@ -296,7 +297,7 @@ fn demonstrate_in<L: Ledger, O: Sink, P: Prover>(
     enters_all();
     let mut session = session;
     match rounds(alloc, seeded, prover, output, &mut session, steps) {
-        Ok(()) => part_from(session, 0),
+        Ok(()) => part_from(session, exit::DONE),
         Err(stop) => {
             conclude(output, stop);
             part_from(session, stop_status(stop))
@@ -322,7 +323,7 @@ fn demonstrate<L: Ledger, O: Sink, P: Prover>(
     let mut steps = Steps::<L>::open(blank);
     match start(alloc, &mut steps) {
         Ok(session) => demonstrate_in(alloc, seeded, output, prover, session, &mut steps),
-        Err(_) => no_part(alloc, 9),
+        Err(_) => no_part(alloc, exit::OUT_OF_MEMORY),
     }
 }
 

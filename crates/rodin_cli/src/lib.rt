@@ -16,4 +16,5 @@ mod top;
 pub use check::run_check;
 pub use demo::run_demo;
 pub use hyp_prover::HypProver;
+pub use session_ends::exit;
 pub use top::run;

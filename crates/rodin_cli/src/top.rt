@@ -6,6 +6,7 @@ ghost use Rattle.session_streams.specs.Streams.{reading, writing};
 ghost use Rattle.rodin_cli.specs.Check.{RunsCheck, ReadsToEnd, IsUnfailedCheckStatus, EndsWithLine, IsCheckWords, usage_line};
 ghost use Rattle.rodin_cli.specs.Demo.{Demonstrates, IsUnfailedDemoStatus};
 ghost use Rattle.prover_pool.specs.Shift.{fair};
+ghost use Rattle.session_ends.specs.Limits.{IsUnhindered, IsUnfailedSessionStatus};
 ghost use Rattle.session_ends.specs.Sessions.{Sessions};
 ghost use Rattle.rodin_cli.specs.Words.{HaveNoForm, IsDemoWords, IsSessionWords};
 
@@ -17,7 +18,7 @@ use outside::{Disk, Gate, Sink, Source};
 use project_session::run_session;
 use prover_pool::Tools;
 use sequent_core::Prover;
-use session_ends::Ended;
+use session_ends::{Ended, exit};
 use std::sync::Wait;
 use std::thread::Threads;
 
@@ -65,6 +66,12 @@ pub fn run<
         IsUnfailedCheckStatus result.status }
     ensures demo_without_faults { (seed n : ℕ) → IsDemoWords words.now seed n →
         (Rose (O.faults output.old) (O.faults output.new) → ⊥) → IsUnfailedDemoStatus result.status }
+    ensures session_unhindered { (workers : ℕ) → IsSessionWords words.now workers → D.told →
+        IsUnhindered D.bytes_of D.images D.faults
+        (fair (P.answers tools.now.prover.now) (P.sure tools.now.prover.now)) disk result.disk
+        (reading (I.left input.old) (I.left input.new) (I.faults input.old) (I.faults input.new))
+        (writing (O.written output.old) (O.written output.new) (O.faults output.old) (O.faults output.new))
+        result.history.items → IsUnfailedSessionStatus result.status }
 {
     match command_of(words) {
         Some(Command::Check) => with_disk(
@@ -77,7 +84,10 @@ pub fn run<
         Some(Command::Demo { seed, n }) => {
             with_disk(run_demo(tools.alloc, seed, n, output, tools.prover), disk)
         }
-        None => with_disk(ends_with_line(tools.alloc, output, 2, USAGE), disk),
+        None => with_disk(
+            ends_with_line(tools.alloc, output, exit::BAD_WORDS, USAGE),
+            disk,
+        ),
     }
 }
 

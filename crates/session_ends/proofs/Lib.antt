@@ -4,5 +4,6 @@ mod CutEdits
 mod Endings
 mod Openings
 mod Standing
+pub mod Unhindered
 mod Users
 mod Whole

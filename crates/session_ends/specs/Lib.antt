@@ -1,4 +1,5 @@
 pub mod Ends
+pub mod Limits
 pub mod Private
 pub mod Sessions
 pub mod Statuses

@@ -12,6 +12,7 @@ ghost use Rattle.session_ends.specs.Sessions.{IsSession, Opens, Refuses};
 ghost use Rattle.session_ends.specs.Statuses.{opening_status, opening_line};
 ghost use Rattle.session_ends.specs.Written.{WritesOrFails};
 
+use crate::exit;
 use crate::statuses::{closing, opening_line, opening_status};
 use core_steps::{Durable, Event, enters_all, one_answer, stays_orderly, tells_the_rebuilt};
 use formula_core::Steps;
@@ -152,7 +153,7 @@ pub fn refuse<O: Sink, D>(alloc: Global, output: &mut O, disk: D, fault: OpenFau
             write_last(output, line.as_str().as_bytes());
             nothing_done(alloc, opening_status(fault), disk)
         }
-        Err(_) => nothing_done(alloc, 9, disk),
+        Err(_) => nothing_done(alloc, exit::OUT_OF_MEMORY, disk),
     }
 }
 

@@ -2,6 +2,7 @@
 #![tactic(auto)]
 
 mod ending;
+pub mod exit;
 mod statuses;
 
 pub use ending::{Ended, end_played, end_unplayed, open_store, refuse};

@@ -4,6 +4,7 @@ ghost use Rattle.session_ends.specs.Statuses.{fault_status, store_fault_line};
 ghost use Rattle.session_ends.specs.Private.{end_status, end_line, lacks_memory, status_at, ending_line};
 ghost use Rattle.session_ends.specs.Statuses.{opening_status, opening_line, side_word};
 
+use crate::exit;
 use formula_core::OutOfMemory;
 use outside::Side;
 use project_store::OpenFault;
@@ -18,9 +19,9 @@ fn fault_status(fault: StoreFault) -> u8
     ensures { result ≡ fault_status fault }
 {
     match fault {
-        StoreFault::SessionFull | StoreFault::JournalFull => 7,
-        StoreFault::OutOfMemory => 9,
-        StoreFault::Failed | StoreFault::DiskFault => 5,
+        StoreFault::SessionFull | StoreFault::JournalFull => exit::FULL,
+        StoreFault::OutOfMemory => exit::OUT_OF_MEMORY,
+        StoreFault::Failed | StoreFault::DiskFault => exit::DISK_FAULT,
     }
 }
 
@@ -41,12 +42,14 @@ fn end_status(ending: Ending) -> u8
     ensures { result ≡ end_status ending }
 {
     match ending {
-        Ending::Read(ReadEnd::Ended) | Ending::Quit => 0,
-        Ending::CutEdit => 1,
-        Ending::Read(ReadEnd::ReadFault) => 3,
-        Ending::WriteFault => 4,
-        Ending::Read(ReadEnd::FullInput) => 7,
-        Ending::Read(ReadEnd::OutOfMemory) | Ending::OutOfMemory | Ending::Store(_) => 9,
+        Ending::Read(ReadEnd::Ended) | Ending::Quit => exit::DONE,
+        Ending::CutEdit => exit::FAULTED,
+        Ending::Read(ReadEnd::ReadFault) => exit::READ_FAULT,
+        Ending::WriteFault => exit::WRITE_FAULT,
+        Ending::Read(ReadEnd::FullInput) => exit::FULL,
+        Ending::Read(ReadEnd::OutOfMemory) | Ending::OutOfMemory | Ending::Store(_) => {
+            exit::OUT_OF_MEMORY
+        }
     }
 }
 
@@ -88,10 +91,10 @@ pub(crate) fn opening_status(fault: OpenFault) -> u8
     ensures { result ≡ opening_status fault }
 {
     match fault {
-        OpenFault::Foreign(_) | OpenFault::Damaged(_, _) => 6,
-        OpenFault::TableFull(_) => 7,
-        OpenFault::DiskFault => 5,
-        OpenFault::OutOfMemory => 9,
+        OpenFault::Foreign(_) | OpenFault::Damaged(_, _) => exit::NO_PROJECT,
+        OpenFault::TableFull(_) => exit::FULL,
+        OpenFault::DiskFault => exit::DISK_FAULT,
+        OpenFault::OutOfMemory => exit::OUT_OF_MEMORY,
     }
 }
 

@@ -24,6 +24,9 @@ use session_lines::{after_blanks, first_word};
 use std::alloc::Global;
 use step_items::{Item, behind_first, hint_of, only_word, path_of, written_items};
 
+// The number of the rule `review`, which takes a goal for proved.
+const REVIEW: u8 = 23;
+
 fn bad_command() -> Line
     ensures { result ≡ bad_command }
 {
@@ -203,7 +206,7 @@ fn review(alloc: Global, words: &[u8]) -> Result<Line, OutOfMemory>
         line ≡ or_bad (option_map (λ node. One (event.Step node.0 node.1 23 no_hint)) (node_words words.now))) }
 {
     match node_of(alloc, words)? {
-        Some((name, path)) => Ok(Line::One(Event::Step(name, path, 23, no_hint(alloc)))),
+        Some((name, path)) => Ok(Line::One(Event::Step(name, path, REVIEW, no_hint(alloc)))),
         None => Ok(bad_command()),
     }
 }

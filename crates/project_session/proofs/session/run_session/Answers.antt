@@ -1,4 +1,5 @@
 use Rattle.session_ends.proofs.Causes.{known, read_fault, write_fault, disk_fault}
+use Rattle.session_ends.proofs.Unhindered.{completes}
 use Rattle.project_session.proofs.session.run_session.Goals as goal
 
 pub returns-clause-known : goal.returns-clause-known
@@ -12,3 +13,6 @@ returns-clause-write_fault g c = write_fault g.D.Disk.told g.D.Disk.bytes_of g.D
 
 pub returns-clause-disk_fault : goal.returns-clause-disk_fault
 returns-clause-disk_fault g c = disk_fault g.D.Disk.told g.D.Disk.bytes_of g.D.Disk.images g.D.Disk.faults _ _ c.args.workers c.args.disk c.open_and_run.result.disk _ _ _ _ _ c.open_and_run.ensures
+
+pub returns-clause-unhindered : goal.returns-clause-unhindered
+returns-clause-unhindered g c told free = completes g.D.Disk.told g.D.Disk.bytes_of g.D.Disk.images g.D.Disk.faults _ _ c.args.workers c.args.disk c.open_and_run.result.disk _ _ _ _ _ told free c.open_and_run.ensures

@@ -47,6 +47,9 @@ returns-in-Some-Check-clause-session g c workers is = absurd (check_or_session c
 pub returns-in-Some-Check-clause-disk_fault : goal.returns-in-Some-Check-clause-disk_fault
 returns-in-Some-Check-clause-disk_fault g c workers is = absurd (check_or_session c.args.words.now workers (rw c.in-Some-Check.field-0-is at c.in-Some-Check.ensures) is)
 
+pub returns-in-Some-Check-clause-session_unhindered : goal.returns-in-Some-Check-clause-session_unhindered
+returns-in-Some-Check-clause-session_unhindered g c workers is = absurd (check_or_session c.args.words.now workers (rw c.in-Some-Check.field-0-is at c.in-Some-Check.ensures) is)
+
 -- `session`
 
 pub run_session-requires-clause-workers : goal.run_session-requires-clause-workers
@@ -89,6 +92,9 @@ returns-in-Some-Session-clause-write_fault g c = rw c.of_session.ensures c.run_s
 
 pub returns-in-Some-Session-clause-disk_fault : goal.returns-in-Some-Session-clause-disk_fault
 returns-in-Some-Session-clause-disk_fault g c workers is = rw c.of_session.ensures c.run_session.ensures.disk_fault
+
+pub returns-in-Some-Session-clause-session_unhindered : goal.returns-in-Some-Session-clause-session_unhindered
+returns-in-Some-Session-clause-session_unhindered g c workers is = rw c.of_session.ensures c.run_session.ensures.unhindered
 
 pub returns-in-Some-Session-clause-without_faults : goal.returns-in-Some-Session-clause-without_faults
 returns-in-Some-Session-clause-without_faults g c check = absurd (check_or_session c.args.words.now c.in-Some-Session.workers check (rw c.in-Some-Session.field-0-is at c.in-Some-Session.ensures))
@@ -149,6 +155,9 @@ returns-in-Some-Demo-clause-session g c workers is = absurd (session_or_demo c.a
 pub returns-in-Some-Demo-clause-disk_fault : goal.returns-in-Some-Demo-clause-disk_fault
 returns-in-Some-Demo-clause-disk_fault g c workers is = absurd (session_or_demo c.args.words.now workers c.in-Some-Demo.seed c.in-Some-Demo.n is (rw c.in-Some-Demo.field-0-is at c.in-Some-Demo.ensures))
 
+pub returns-in-Some-Demo-clause-session_unhindered : goal.returns-in-Some-Demo-clause-session_unhindered
+returns-in-Some-Demo-clause-session_unhindered g c workers is = absurd (session_or_demo c.args.words.now workers c.in-Some-Demo.seed c.in-Some-Demo.n is (rw c.in-Some-Demo.field-0-is at c.in-Some-Demo.ensures))
+
 -- words of no form
 
 pub returns-in-None-clause-checked : goal.returns-in-None-clause-checked
@@ -183,3 +192,6 @@ returns-in-None-clause-session g c workers is = absurd (c.in-None.ensures (Sessi
 
 pub returns-in-None-clause-disk_fault : goal.returns-in-None-clause-disk_fault
 returns-in-None-clause-disk_fault g c workers is = absurd (c.in-None.ensures (Session workers) is)
+
+pub returns-in-None-clause-session_unhindered : goal.returns-in-None-clause-session_unhindered
+returns-in-None-clause-session_unhindered g c workers is = absurd (c.in-None.ensures (Session workers) is)
