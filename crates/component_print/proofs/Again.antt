@@ -13,8 +13,8 @@ use Rattle.math_grammar.specs.Tokens.{Item}
 use Rattle.math_grammar.specs.Grammar.{item}
 use Rattle.model_core.specs.declared.component.RawLabelled.{RawLabelled}
 use Rattle.component_text.specs.Marks.{Mark, word, label, plain, is_word_mark, is_at}
-use Rattle.component_text.specs.Forms.{Bounds, One, Run, Nothing, Choice, taken, other, no_more, one_more}
-use Rattle.component_text.specs.Grammar.{IsFormula, first_place, IsPlaced, reference, is_reference, label_at, is_a_label, Names, SomeNames, labelled, Labelled, Line, begins_line, Lines, NamesBehind, SomeNamesBehind}
+use Rattle.component_text.specs.Forms.{Bounds, One, FormulaRun, Nothing, Choice, taken, other, no_more, one_more}
+use Rattle.component_text.specs.Grammar.{IsFormula, first_place, IsPlaced, reference, is_reference, label_at, is_a_label, Names, SomeNames, labelled, LabelledPart, FormulaLine, begins_line, Lines, NamesBehind, SomeNamesBehind}
 use Rattle.component_text.specs.Machines.{IsActionWithin}
 use Rattle.component_text.proofs.Parts.{Ended, at_word, at_label, run_of, behind_of}
 use Rattle.component_text.proofs.Whole.{same_word}
@@ -144,13 +144,13 @@ module _ (b : Bounds) where
   ActionAgain IsGood = (a : RawAction) → IsGood a → (s : List Item) → map unplaced_item s ≡ action_tokens a → (again : RawAction) × IsActionWithin b s again × (unplaced_action again ≡ unplaced_action a)
 
   pub run_again : {X : Type 0} (F : Bounds → List Item → X → Type 0) (u : X → X) (x : X) (ys : List Item) → ((zs : List Item) → map unplaced_item zs ≡ ys → (again : X) × F b zs again × (u again ≡ u x)) →
-      (s : List Mark) → map unplaced_mark s ≡ map plain ys → (rest : List Mark) → Ended rest → ReadsAgain (Run F b) u s x rest
+      (s : List Mark) → map unplaced_mark s ≡ map plain ys → (rest : List Mark) → Ended rest → ReadsAgain (FormulaRun F b) u s x rest
   run_again F u x ys reads s e rest stop =
       let items = items_placed s ys e in
       let again = reads items.0 items.2 in
       let at : s ++ rest ≡ map plain items.0 ++ rest = ap (λ t. t ++ rest) items.1 in (
         again.0,
-        subst (λ t. Run F b t again.0 rest) (sym at) (record { spelled = subst (λ f. F b f again.0) (sym (run_of items.0 rest stop)) again.1; behind = sym (behind_of items.0 rest stop) }),
+        subst (λ t. FormulaRun F b t again.0 rest) (sym at) (record { spelled = subst (λ f. F b f again.0) (sym (run_of items.0 rest stop)) again.1; behind = sym (behind_of items.0 rest stop) }),
         again.2,
       )
 
@@ -160,7 +160,7 @@ module _ (b : Bounds) where
     placed_again h x good zs e = let k = formulas h x.0 good zs e in ((k.0, first_place zs), (k.1, refl), λ i. (k.2 i, 0))
 
     pub labelled_again : (theorem : Bool) (l : RawLabelled) → l.theorem ≡ theorem → IsLine IsGood l → (s : List Mark) → map unplaced_mark s ≡ labelled_marks l → (rest : List Mark) → Ended rest →
-        ReadsAgain (Labelled theorem b) unplaced_labelled s l rest
+        ReadsAgain (LabelledPart theorem b) unplaced_labelled s l rest
     labelled_again theorem l own good s e rest stop =
         let one = split_one s (label l.label 0) (map plain (raw_tokens l.formula)) e in
         let head = label_placed one.0 l.label one.3 in
@@ -168,19 +168,19 @@ module _ (b : Bounds) where
         let named : label_at one.0 ≡ Some (l.label, head.0) =
         ap label_at head.1 ∙ ap (λ t. cond {A = Option (List ℕ × ℕ)} t (Some (l.label, head.0)) None) good.0 in (
           labelled theorem ((l.label, head.0), formula.0),
-          subst (λ t. Labelled theorem b (t ++ rest) (labelled theorem ((l.label, head.0), formula.0)) rest) (sym one.2)
+          subst (λ t. LabelledPart theorem b (t ++ rest) (labelled theorem ((l.label, head.0), formula.0)) rest) (sym one.2)
               (record { from = ((l.label, head.0), formula.0); is = refl; part = record { middle = one.1 ++ rest; first = record { mark = one.0; there = refl; is = named }; second = formula.1 } }),
           (λ i. record { label = l.label; theorem = (sym own) i; formula = (formula.2 i).0; place = 0; first = 0 }),
         )
 
     line_again : (theorem : Bool) (l : RawLabelled) → l.theorem ≡ theorem → IsLine IsGood l → (s : List Mark) → map unplaced_mark s ≡ theorem_marks theorem ++ labelled_marks l → (rest : List Mark) → Ended rest →
-        ReadsAgain (Line b) unplaced_labelled s l rest × (is_at begins_line (s ++ rest) ≡ true)
+        ReadsAgain (FormulaLine b) unplaced_labelled s l rest × (is_at begins_line (s ++ rest) ≡ true)
     line_again true l own good s e rest stop =
         let one = split_one s (word (codes "theorem") 0) (labelled_marks l) e in
         let head = word_placed one.0 (codes "theorem") one.3 in
         let at : s ≡ word (codes "theorem") head.0 ∷ one.1 = one.2 ∙ ap (λ x. x ∷ one.1) head.1 in
         let line = labelled_again true l own good one.1 one.4 rest stop in
-        ((line.0, subst (λ t. Line b (t ++ rest) line.0 rest) (sym at) (taken (word (codes "theorem") head.0) (one.1 ++ rest) refl refl line.1), line.2), ap (λ t. is_at begins_line (t ++ rest)) at)
+        ((line.0, subst (λ t. FormulaLine b (t ++ rest) line.0 rest) (sym at) (taken (word (codes "theorem") head.0) (one.1 ++ rest) refl refl line.1), line.2), ap (λ t. is_at begins_line (t ++ rest)) at)
     line_again false l own good s e rest stop =
         let one = split_one s (label l.label 0) (map plain (raw_tokens l.formula)) e in
         let head = label_placed one.0 l.label one.3 in

@@ -21,7 +21,7 @@ use Rattle.component_text.specs.declared.machine.Abstracts.{Abstracts}
 use Rattle.component_text.specs.Marks.{Mark, word, label, plain, is_word_mark, is_at}
 use Rattle.component_text.specs.Forms.{Bounds, taken, other, no_more, one_more}
 use Rattle.component_text.specs.Grammar.{IsPlaced, label_at, is_a_label, context_of}
-use Rattle.component_text.specs.Machines.{IsActionWithin, Refines, Variant, variant_of, Witnesses, labelled_step, Step, ManySteps, extending, refining, References, either, With, Actions, EventClauses, event_of, EventBody, Event, begins_event, EventList, Events, machine_of, IsComponent, a_context, a_machine}
+use Rattle.component_text.specs.Machines.{IsActionWithin, Refines, Variant, variant_of, Witnesses, labelled_step, ActionLine, ManySteps, extending, refining, References, either, With, Actions, EventClauses, event_of, EventBody, EventPart, begins_event, EventList, Events, machine_of, IsComponent, a_context, a_machine}
 use Rattle.component_text.proofs.Parts.{Ended, at_word, at_label}
 use Rattle.component_text.proofs.Whole.{same_word}
 use Rattle.component_print.specs.Unplaced.{unplaced_labelled, unplaced_variant, unplaced_labelled_action, unplaced_event, unplaced_component}
@@ -107,7 +107,7 @@ module _ (b : Bounds) (IsGood : Hole → Raw → Type 0) (formulas : FormulaAgai
 
   -- {label action}
   step_again : (a : RawStep) → IsStep IsGood IsGoodAction a → (s : List Mark) → map unplaced_mark s ≡ step_marks a → (rest : List Mark) → Ended rest →
-      ReadsAgain (Step b) unplaced_labelled_action s a rest × (is_at is_a_label (s ++ rest) ≡ true)
+      ReadsAgain (ActionLine b) unplaced_labelled_action s a rest × (is_at is_a_label (s ++ rest) ≡ true)
   step_again a good s e rest stop =
       let one = split_one s (label a.label 0) (map plain (action_tokens a.action)) e in
       let head = label_placed one.0 a.label one.3 in
@@ -116,7 +116,7 @@ module _ (b : Bounds) (IsGood : Hole → Raw → Type 0) (formulas : FormulaAgai
       ap label_at head.1 ∙ ap (λ t. cond {A = Option (List ℕ × ℕ)} t (Some (a.label, head.0)) None) good.0 in (
         (
           labelled_step ((a.label, head.0), act.0),
-          subst (λ t. Step b (t ++ rest) (labelled_step ((a.label, head.0), act.0)) rest) (sym one.2)
+          subst (λ t. ActionLine b (t ++ rest) (labelled_step ((a.label, head.0), act.0)) rest) (sym one.2)
               (record { from = ((a.label, head.0), act.0); is = refl; part = record { middle = one.1 ++ rest; first = record { mark = one.0; there = refl; is = named }; second = act.1 } }),
           (λ i. record { label = a.label; action = act.2 i; place = 0 }),
         ),
@@ -287,7 +287,7 @@ module _ (b : Bounds) (IsGood : Hole → Raw → Type 0) (formulas : FormulaAgai
       )
 
   -- an event, by its convergence
-  event_again : (x : RawEvent) → IsEvent IsGood IsGoodAction x → (s : List Mark) → map unplaced_mark s ≡ event_marks x → (rest : List Mark) → ReadsAgain (Event b) unplaced_event s x rest × (is_at begins_event (s ++ rest) ≡ true)
+  event_again : (x : RawEvent) → IsEvent IsGood IsGoodAction x → (s : List Mark) → map unplaced_mark s ≡ event_marks x → (rest : List Mark) → ReadsAgain (EventPart b) unplaced_event s x rest × (is_at begins_event (s ++ rest) ≡ true)
   event_again x good s e rest = go x.convergence refl (e ∙ refl)
     where
       -- the event stands behind the word of its convergence
@@ -297,7 +297,7 @@ module _ (b : Bounds) (IsGood : Hole → Raw → Type 0) (formulas : FormulaAgai
           let head = word_placed one.0 w one.3 in
           (head.0, one.1, one.2 ∙ ap (λ y. y ∷ one.1) head.1, event_body_again c x is good one.1 one.4 rest)
 
-      go : (c : Convergence) → x.convergence ≡ c → map unplaced_mark s ≡ event_marks x → ReadsAgain (Event b) unplaced_event s x rest × (is_at begins_event (s ++ rest) ≡ true)
+      go : (c : Convergence) → x.convergence ≡ c → map unplaced_mark s ≡ event_marks x → ReadsAgain (EventPart b) unplaced_event s x rest × (is_at begins_event (s ++ rest) ≡ true)
       go Ordinary is f =
           let own : map unplaced_mark s ≡ event_body_marks x = f ∙ ap (λ c. convergence_marks c ++ event_body_marks x) is in
           let one = split_one s (word (codes "event") 0) _ own in
@@ -311,7 +311,7 @@ module _ (b : Bounds) (IsGood : Hole → Raw → Type 0) (formulas : FormulaAgai
           let w = behind Convergent (codes "convergent") is (f ∙ ap (λ c. convergence_marks c ++ event_body_marks x) is) in (
             (
               w.3.0,
-              subst (λ t. Event b (t ++ rest) w.3.0 rest) (sym w.2) (other refl (taken (word (codes "convergent") w.0) (w.1 ++ rest) refl refl w.3.1)),
+              subst (λ t. EventPart b (t ++ rest) w.3.0 rest) (sym w.2) (other refl (taken (word (codes "convergent") w.0) (w.1 ++ rest) refl refl w.3.1)),
               w.3.2,
             ),
             ap (λ t. is_at begins_event (t ++ rest)) w.2,
@@ -320,7 +320,7 @@ module _ (b : Bounds) (IsGood : Hole → Raw → Type 0) (formulas : FormulaAgai
           let w = behind Anticipated (codes "anticipated") is (f ∙ ap (λ c. convergence_marks c ++ event_body_marks x) is) in (
             (
               w.3.0,
-              subst (λ t. Event b (t ++ rest) w.3.0 rest) (sym w.2) (other refl (other refl (taken (word (codes "anticipated") w.0) (w.1 ++ rest) refl refl w.3.1))),
+              subst (λ t. EventPart b (t ++ rest) w.3.0 rest) (sym w.2) (other refl (other refl (taken (word (codes "anticipated") w.0) (w.1 ++ rest) refl refl w.3.1))),
               w.3.2,
             ),
             ap (λ t. is_at begins_event (t ++ rest)) w.2,

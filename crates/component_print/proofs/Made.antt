@@ -21,8 +21,8 @@ use Rattle.model_core.specs.declared.component.RawComponent.TheVariants.{Context
 use Rattle.component_text.specs.declared.machine.Abstracts.{Abstracts}
 use Rattle.component_text.specs.Marks.{Mark, word, label, plain, token_run}
 use Rattle.component_text.specs.Forms.{Bounds, limits, One, Nothing, Choice, taken, other, no_more, one_more}
-use Rattle.component_text.specs.Grammar.{IsFormula, reference, label_at, Names, SomeNames, Labelled, Line, Lines, NamesBehind, SomeNamesBehind, ContextBody}
-use Rattle.component_text.specs.Machines.{IsActionWithin, word_at, Refines, VariantExpression, Variant, Witnesses, Step, ManySteps, References, Guards, With, Actions, EventBody, Event, EventList, Events, MachineBody, IsComponent, a_context, a_machine}
+use Rattle.component_text.specs.Grammar.{IsFormula, reference, label_at, Names, SomeNames, LabelledPart, FormulaLine, Lines, NamesBehind, SomeNamesBehind, ContextBody}
+use Rattle.component_text.specs.Machines.{IsActionWithin, word_at, Refines, VariantExpression, Variant, Witnesses, ActionLine, ManySteps, References, Guards, With, Actions, EventBody, EventPart, EventList, Events, MachineBody, IsComponent, a_context, a_machine}
 use Rattle.component_text.proofs.Parts.{Good, good_one}
 use Rattle.raw_print.specs.Back.{is_whole}
 use Rattle.component_text.proofs.Components.{good_line, good_extends, good_sets, good_constants}
@@ -130,19 +130,19 @@ module _ (Small : Item → Type 0) (IsGood : Hole → Raw → Type 0) (IsGoodAct
   small_run (word w p ∷ s) h = tt
   small_run (label l p ∷ s) h = tt
 
-  labelled_made : (theorem : Bool) (s : List Mark) (l : RawLabelled) (rest : List Mark) → AreSmall Small s → Labelled theorem limits s l rest → IsLine IsGood l × (l.theorem ≡ theorem)
+  labelled_made : (theorem : Bool) (s : List Mark) (l : RawLabelled) (rest : List Mark) → AreSmall Small s → LabelledPart theorem limits s l rest → IsLine IsGood l × (l.theorem ≡ theorem)
   labelled_made theorem s l rest small h =
       let middle : AreSmall Small h.part.middle = (subst (AreSmall Small) h.part.first.there small).1 in
       let good : IsGood hole.Predicate h.from.1.0 = formula_good hole.Predicate (token_run h.part.middle) h.from.1.0 refl (small_run h.part.middle middle) h.part.second.spelled.0 in
       subst (λ k. IsLine IsGood k × (k.theorem ≡ theorem)) h.is ((label_read h.part.first.mark h.from.0 h.part.first.is, good), refl)
 
-  line_made : (s : List Mark) (l : RawLabelled) (rest : List Mark) → AreSmall Small s → Line limits s l rest → IsLine IsGood l
+  line_made : (s : List Mark) (l : RawLabelled) (rest : List Mark) → AreSmall Small s → FormulaLine limits s l rest → IsLine IsGood l
   line_made s l rest small (taken x m e is h) = (labelled_made true m l rest (subst (AreSmall Small) e small).1 h).0
   line_made s l rest small (other isnt h) = (labelled_made false s l rest small h).0
 
   lines_made : (s : List Mark) (ls : List RawLabelled) (rest : List Mark) → AreSmall Small s → Lines limits s ls rest → AllByRecursion (IsLine IsGood) ls
   lines_made s ls rest small (no_more isnt e) = tt
-  lines_made s ls rest small (one_more {m = m} {x = l} {xs = more} does h hs) = (line_made s l m small h, lines_made m more rest (small_rest Line good_line s l m h small) hs)
+  lines_made s ls rest small (one_more {m = m} {x = l} {xs = more} does h hs) = (line_made s l m small h, lines_made m more rest (small_rest FormulaLine good_line s l m h small) hs)
 
   section_made : (test : Mark → Bool) (s : List Mark) (ls : List RawLabelled) (rest : List Mark) → AreSmall Small s → Choice test Lines (Nothing []) limits s ls rest → AllByRecursion (IsLine IsGood) ls
   section_made test s ls rest small (taken x m e is h) = lines_made m ls rest (subst (AreSmall Small) e small).1 h
@@ -152,20 +152,20 @@ module _ (Small : Item → Type 0) (IsGood : Hole → Raw → Type 0) (IsGoodAct
   witnesses_made s ls rest small (no_more isnt e) = tt
   witnesses_made s ls rest small (one_more {m = m} {x = l} {xs = more} does h hs) =
       let one = labelled_made false s l m small h in
-      ((one.1, one.0), witnesses_made m more rest (small_rest (Labelled false) good_witness s l m h small) hs)
+      ((one.1, one.0), witnesses_made m more rest (small_rest (LabelledPart false) good_witness s l m h small) hs)
 
   with_made : (s : List Mark) (ls : List RawLabelled) (rest : List Mark) → AreSmall Small s → With limits s ls rest → AllByRecursion (IsWitness IsGood) ls
   with_made s ls rest small (taken x m e is h) = witnesses_made m ls rest (subst (AreSmall Small) e small).1 h
   with_made s ls rest small (other isnt h) = subst (AllByRecursion (IsWitness IsGood)) (sym h.is) tt
 
-  step_made : (s : List Mark) (a : RawStep) (rest : List Mark) → AreSmall Small s → Step limits s a rest → IsStep IsGood IsGoodAction a
+  step_made : (s : List Mark) (a : RawStep) (rest : List Mark) → AreSmall Small s → ActionLine limits s a rest → IsStep IsGood IsGoodAction a
   step_made s a rest small h =
       let middle : AreSmall Small h.part.middle = (subst (AreSmall Small) h.part.first.there small).1 in
       subst (IsStep IsGood IsGoodAction) h.is (label_read h.part.first.mark h.from.0 h.part.first.is, action_good (token_run h.part.middle) h.from.1 (small_run h.part.middle middle) h.part.second.spelled)
 
   steps_made : (s : List Mark) (acts : List RawStep) (rest : List Mark) → AreSmall Small s → ManySteps limits s acts rest → AllByRecursion (IsStep IsGood IsGoodAction) acts
   steps_made s acts rest small (no_more isnt e) = tt
-  steps_made s acts rest small (one_more {m = m} {x = a} {xs = more} does h hs) = (step_made s a m small h, steps_made m more rest (small_rest Step good_step s a m h small) hs)
+  steps_made s acts rest small (one_more {m = m} {x = a} {xs = more} does h hs) = (step_made s a m small h, steps_made m more rest (small_rest ActionLine good_step s a m h small) hs)
 
   actions_made : (s : List Mark) (acts : List RawStep) (rest : List Mark) → AreSmall Small s → Actions limits s acts rest → AllByRecursion (IsStep IsGood IsGoodAction) acts
   actions_made s acts rest small (taken x m e is h) = steps_made m acts rest (subst (AreSmall Small) e small).1 h
@@ -199,7 +199,7 @@ module _ (Small : Item → Type 0) (IsGood : Hole → Raw → Type 0) (IsGoodAct
         actions = actions_made witnesses.middle h.from.1.1.1.1.1.1.0 actions.middle behind_witnesses actions.first;
       })
 
-  event_made : (s : List Mark) (e : RawEvent) (rest : List Mark) → AreSmall Small s → Event limits s e rest → IsEvent IsGood IsGoodAction e
+  event_made : (s : List Mark) (e : RawEvent) (rest : List Mark) → AreSmall Small s → EventPart limits s e rest → IsEvent IsGood IsGoodAction e
   event_made s e rest small (taken x m t is h) = event_body_made Ordinary m e rest (subst (AreSmall Small) t small).1 h
   event_made s e rest small (other a (taken x m t is h)) = event_body_made Convergent m e rest (subst (AreSmall Small) t small).1 h
   event_made s e rest small (other a (other b (taken x m t is h))) = event_body_made Anticipated m e rest (subst (AreSmall Small) t small).1 h
@@ -207,7 +207,7 @@ module _ (Small : Item → Type 0) (IsGood : Hole → Raw → Type 0) (IsGoodAct
 
   event_list_made : (s : List Mark) (es : List RawEvent) (rest : List Mark) → AreSmall Small s → EventList limits s es rest → AllByRecursion (IsEvent IsGood IsGoodAction) es
   event_list_made s es rest small (no_more isnt e) = tt
-  event_list_made s es rest small (one_more {m = m} {x = e} {xs = more} does h hs) = (event_made s e m small h, event_list_made m more rest (small_rest Event good_event s e m h small) hs)
+  event_list_made s es rest small (one_more {m = m} {x = e} {xs = more} does h hs) = (event_made s e m small h, event_list_made m more rest (small_rest EventPart good_event s e m h small) hs)
 
   events_made : (s : List Mark) (es : List RawEvent) (rest : List Mark) → AreSmall Small s → Events limits s es rest → AllByRecursion (IsEvent IsGood IsGoodAction) es
   events_made s es rest small (taken x m e is h) = event_list_made m es rest (subst (AreSmall Small) e small).1 h

@@ -21,8 +21,8 @@ use Rattle.model_core.specs.declared.component.RawComponent.{RawComponent}
 use Rattle.component_text.specs.declared.stop.Stop.{Stop}
 use Rattle.component_text.specs.declared.stop.Stop.TheVariants as stop
 use Rattle.component_text.specs.Marks.{Mark, word, label, plain, behind_run, is_word_mark, is_at}
-use Rattle.component_text.specs.Forms.{Bounds, limits, parts, One, Run, Nothing, Then, Choice, taken, other, no_more, one_more}
-use Rattle.component_text.specs.Grammar.{IsPlaced, reference, is_reference, label_at, Names, SomeNames, labelled, Labelled, Line, begins_line, Lines, NamesBehind, SomeNamesBehind, LinesBehind, context_of, ContextBody, IsContext}
+use Rattle.component_text.specs.Forms.{Bounds, limits, parts, One, FormulaRun, Nothing, Then, Choice, taken, other, no_more, one_more}
+use Rattle.component_text.specs.Grammar.{IsPlaced, reference, is_reference, label_at, Names, SomeNames, labelled, LabelledPart, FormulaLine, begins_line, Lines, NamesBehind, SomeNamesBehind, LinesBehind, context_of, ContextBody, IsContext}
 use Rattle.component_text.specs.PrivateReading.{end_mark, Begins, RefusesAt, Passes, ReadsOrStops, Takes, Lacks, ReadsFormula, AddsNames, TakesEnd, ReadsWhole}
 use Rattle.component_text.proofs.Parts.{IsLooser, Good, good_one, good_run, good_nothing, good_then, good_of, good_choice, good_many}
 use Rattle.component_text.proofs.Refusing.{CanSkip, skip_begins, left_out, one_refused, one_then_refused, one_then_passes, first_refused, first_passes, both_skip, second_refused, second_passes, of_refused, of_passes, taken_refused, taken_passes, other_refused, other_passes, other_skip, many_skip, many_here, many_here_passes, many_later, many_later_passes}
@@ -65,7 +65,7 @@ top_spelled = record { g = grade.Literal; reads = a_truth; fit = refl }
 abbrev placed_top : Raw × ℕ
 placed_top = (top, top_item.from)
 
-pub predicate_begins : Begins (Run (IsPlaced hole.Predicate)) []
+pub predicate_begins : Begins (FormulaRun (IsPlaced hole.Predicate)) []
 predicate_begins = record { more = plain top_item ∷ []; value = placed_top; goes_on = λ tail. record { spelled = (top_spelled, refl); behind = refl } }
 
 -- names
@@ -121,24 +121,24 @@ loose_placed h b c l f p k = (loose (λ limit. Spells limit h) (formula_looser h
 pub placed_few : (h : Hole) (f : List Item) (p : Raw × ℕ) → IsPlaced h limits f p → first_large f ≡ None
 placed_few h f p k = k.0.1
 
-pub good_labelled : (theorem : Bool) → Good (Labelled theorem)
-good_labelled theorem = good_of (labelled theorem) (Then (One label_at) (Run (IsPlaced hole.Predicate)))
-    (good_then (One label_at) (Run (IsPlaced hole.Predicate)) (good_one label_at) (good_run (IsPlaced hole.Predicate) (loose_placed hole.Predicate)))
+pub good_labelled : (theorem : Bool) → Good (LabelledPart theorem)
+good_labelled theorem = good_of (labelled theorem) (Then (One label_at) (FormulaRun (IsPlaced hole.Predicate)))
+    (good_then (One label_at) (FormulaRun (IsPlaced hole.Predicate)) (good_one label_at) (good_run (IsPlaced hole.Predicate) (loose_placed hole.Predicate)))
 
-pub labelled_refused : (theorem : Bool) (s : List Mark) → Lacks label_at s → RefusesAt (Labelled theorem) s s
+pub labelled_refused : (theorem : Bool) (s : List Mark) → Lacks label_at s → RefusesAt (LabelledPart theorem) s s
 labelled_refused theorem s h =
-    of_refused (labelled theorem) (Then (One label_at) (Run (IsPlaced hole.Predicate))) s s
-    (one_refused label_at (Run (IsPlaced hole.Predicate)) s some_label (codes "x", 0) h some_label_is predicate_begins)
+    of_refused (labelled theorem) (Then (One label_at) (FormulaRun (IsPlaced hole.Predicate))) s s
+    (one_refused label_at (FormulaRun (IsPlaced hole.Predicate)) s some_label (codes "x", 0) h some_label_is predicate_begins)
 
-pub labelled_read : (theorem : Bool) (s m rest : List Mark) (x : List ℕ × ℕ) (t : Raw × ℕ) → One label_at limits s x m → Run (IsPlaced hole.Predicate) limits m t rest → Labelled theorem limits s (labelled theorem (x, t)) rest
+pub labelled_read : (theorem : Bool) (s m rest : List Mark) (x : List ℕ × ℕ) (t : Raw × ℕ) → One label_at limits s x m → FormulaRun (IsPlaced hole.Predicate) limits m t rest → LabelledPart theorem limits s (labelled theorem (x, t)) rest
 labelled_read theorem s m rest x t o h = record { from = (x, t); is = refl; part = record { middle = m; first = o; second = h } }
 
-pub labelled_stops : (theorem : Bool) (s m rest : List Mark) (x : List ℕ × ℕ) (e : Stop) → One label_at limits s x m → ReadsFormula (IsPlaced hole.Predicate) m (Err e) rest → ReadsOrStops (Labelled theorem) s (Err e) rest
+pub labelled_stops : (theorem : Bool) (s m rest : List Mark) (x : List ℕ × ℕ) (e : Stop) → One label_at limits s x m → ReadsFormula (IsPlaced hole.Predicate) m (Err e) rest → ReadsOrStops (LabelledPart theorem) s (Err e) rest
 labelled_stops theorem s m rest x stop.Unexpected o h =
-    of_refused (labelled theorem) (Then (One label_at) (Run (IsPlaced hole.Predicate))) s rest
+    of_refused (labelled theorem) (Then (One label_at) (FormulaRun (IsPlaced hole.Predicate))) s rest
     (label_refused (IsPlaced hole.Predicate) s m x o rest h.0 h.1 h.2)
 labelled_stops theorem s m rest x stop.TooLarge o h =
-    of_passes (labelled theorem) (Then (One label_at) (Run (IsPlaced hole.Predicate))) s rest (label_passes (IsPlaced hole.Predicate) s m x o rest h.0 h.1 h.2)
+    of_passes (labelled theorem) (Then (One label_at) (FormulaRun (IsPlaced hole.Predicate))) s rest (label_passes (IsPlaced hole.Predicate) s m x o rest h.0 h.1 h.2)
 labelled_stops theorem s m rest x stop.OutOfMemory o h = tt
 
 -- what stands behind names and lines
@@ -161,12 +161,12 @@ leaves_names = leaves_many is_reference (One reference) (good_one reference) goo
 pub leaves_some_names : Leaves SomeNames
 leaves_some_names = leaves_of (λ p. p.0 ∷ p.1) (Then (One reference) Names) (leaves_then (One reference) Names (good_one reference) good_names leaves_name leaves_names)
 
-pub leaves_labelled : (theorem : Bool) → Leaves (Labelled theorem)
+pub leaves_labelled : (theorem : Bool) → Leaves (LabelledPart theorem)
 leaves_labelled theorem = leaves_formula (labelled theorem) label_at (IsPlaced hole.Predicate) (placed_few hole.Predicate)
 
 -- lines
-pub good_line : Good Line
-good_line = good_choice (is_word_mark (codes "theorem")) (Labelled true) (Labelled false) (good_labelled true) (good_labelled false) refl
+pub good_line : Good FormulaLine
+good_line = good_choice (is_word_mark (codes "theorem")) (LabelledPart true) (LabelledPart false) (good_labelled true) (good_labelled false) refl
 
 pub behind_shorter : (s : List Mark) → length (behind_run s) ≤ length s
 behind_shorter [] = omega arith
@@ -174,11 +174,11 @@ behind_shorter (plain x ∷ s) = omega (arith, behind_shorter s)
 behind_shorter (word w p ∷ s) = omega arith
 behind_shorter (label l p ∷ s) = omega arith
 
-labelled_takes : (theorem : Bool) (b : Bounds) (s : List Mark) (x : RawLabelled) (m : List Mark) → Labelled theorem b s x m → length m < length s
+labelled_takes : (theorem : Bool) (b : Bounds) (s : List Mark) (x : RawLabelled) (m : List Mark) → LabelledPart theorem b s x m → length m < length s
 labelled_takes theorem b s x m h =
     omega (arith, ap length h.part.first.there, ap length h.part.second.behind, behind_shorter h.part.middle)
 
-pub line_takes : (b : Bounds) (s : List Mark) (x : RawLabelled) (m : List Mark) → Line b s x m → length m < length s
+pub line_takes : (b : Bounds) (s : List Mark) (x : RawLabelled) (m : List Mark) → FormulaLine b s x m → length m < length s
 line_takes b s x m (taken y t e is h) = omega (arith, ap length e, labelled_takes true b t x m h)
 line_takes b s x m (other e h) = labelled_takes false b s x m h
 
@@ -186,7 +186,7 @@ label_is_no_theorem : is_word_mark (codes "theorem") some_label ≡ false
 unfolding some_label
 label_is_no_theorem = refl
 
-pub line_begins : Begins Line []
+pub line_begins : Begins FormulaLine []
 line_begins = record {
   more = some_label ∷ (plain top_item ∷ []);
   value = labelled false ((codes "x", 0), placed_top);
@@ -197,39 +197,39 @@ line_begins = record {
   });
 }
 
-pub line_reads : (s m rest : List Mark) (theorem : Bool) (r : Result RawLabelled Stop) → Takes (is_word_mark (codes "theorem")) s theorem m → ReadsOrStops (Labelled theorem) m r rest → ReadsOrStops Line s r rest
+pub line_reads : (s m rest : List Mark) (theorem : Bool) (r : Result RawLabelled Stop) → Takes (is_word_mark (codes "theorem")) s theorem m → ReadsOrStops (LabelledPart theorem) m r rest → ReadsOrStops FormulaLine s r rest
 line_reads s m rest true (Ok x) k h = taken k.0 m k.1 k.2 h
-line_reads s m rest true (Err stop.Unexpected) k h = taken_refused (is_word_mark (codes "theorem")) (Labelled true) (Labelled false) (word_alone (codes "theorem") refl) s m rest k.0 k.1 k.2 h
-line_reads s m rest true (Err stop.TooLarge) k h = taken_passes (is_word_mark (codes "theorem")) (Labelled true) (Labelled false) (word_alone (codes "theorem") refl) s m rest k.0 k.1 k.2 h
+line_reads s m rest true (Err stop.Unexpected) k h = taken_refused (is_word_mark (codes "theorem")) (LabelledPart true) (LabelledPart false) (word_alone (codes "theorem") refl) s m rest k.0 k.1 k.2 h
+line_reads s m rest true (Err stop.TooLarge) k h = taken_passes (is_word_mark (codes "theorem")) (LabelledPart true) (LabelledPart false) (word_alone (codes "theorem") refl) s m rest k.0 k.1 k.2 h
 line_reads s m rest true (Err stop.OutOfMemory) k h = tt
-line_reads s m rest false (Ok x) k h = other k.1 (subst (λ t. Labelled false limits t x rest) k.0 h)
-line_reads s m rest false (Err stop.Unexpected) k h = other_refused (is_word_mark (codes "theorem")) (Labelled true) (Labelled false) s rest k.1 line_begins (subst (λ t. RefusesAt (Labelled false) t rest) k.0 h)
-line_reads s m rest false (Err stop.TooLarge) k h = other_passes (is_word_mark (codes "theorem")) (Labelled true) (Labelled false) s rest k.1 line_begins (subst (λ t. Passes (Labelled false) t rest) k.0 h)
+line_reads s m rest false (Ok x) k h = other k.1 (subst (λ t. LabelledPart false limits t x rest) k.0 h)
+line_reads s m rest false (Err stop.Unexpected) k h = other_refused (is_word_mark (codes "theorem")) (LabelledPart true) (LabelledPart false) s rest k.1 line_begins (subst (λ t. RefusesAt (LabelledPart false) t rest) k.0 h)
+line_reads s m rest false (Err stop.TooLarge) k h = other_passes (is_word_mark (codes "theorem")) (LabelledPart true) (LabelledPart false) s rest k.1 line_begins (subst (λ t. Passes (LabelledPart false) t rest) k.0 h)
 line_reads s m rest false (Err stop.OutOfMemory) k h = tt
 
-pub leaves_line : Leaves Line
-leaves_line = leaves_choice (is_word_mark (codes "theorem")) (Labelled true) (Labelled false) (good_labelled true) (word_alone (codes "theorem") refl) (leaves_labelled true) (leaves_labelled false)
+pub leaves_line : Leaves FormulaLine
+leaves_line = leaves_choice (is_word_mark (codes "theorem")) (LabelledPart true) (LabelledPart false) (good_labelled true) (word_alone (codes "theorem") refl) (leaves_labelled true) (leaves_labelled false)
 
 pub good_lines : Good Lines
-good_lines = good_many begins_line Line good_line refl line_takes
+good_lines = good_many begins_line FormulaLine good_line refl line_takes
 
 pub leaves_lines : Leaves Lines
-leaves_lines = leaves_many begins_line Line good_line good_lines.split leaves_line
+leaves_lines = leaves_many begins_line FormulaLine good_line good_lines.split leaves_line
 
 pub lines_skip : CanSkip Lines
-lines_skip = many_skip begins_line Line good_line refl line_takes
+lines_skip = many_skip begins_line FormulaLine good_line refl line_takes
 
-pub lines_here : (s rest : List Mark) → is_at begins_line s ≡ true → RefusesAt Line s rest → RefusesAt Lines s rest
-lines_here = many_here begins_line Line good_line refl line_takes
+pub lines_here : (s rest : List Mark) → is_at begins_line s ≡ true → RefusesAt FormulaLine s rest → RefusesAt Lines s rest
+lines_here = many_here begins_line FormulaLine good_line refl line_takes
 
-pub lines_here_passes : (s rest : List Mark) → is_at begins_line s ≡ true → Passes Line s rest → Passes Lines s rest
-lines_here_passes = many_here_passes begins_line Line good_line refl line_takes
+pub lines_here_passes : (s rest : List Mark) → is_at begins_line s ≡ true → Passes FormulaLine s rest → Passes Lines s rest
+lines_here_passes = many_here_passes begins_line FormulaLine good_line refl line_takes
 
-pub lines_later : (s m rest : List Mark) (x : RawLabelled) → is_at begins_line s ≡ true → Line limits s x m → RefusesAt Lines m rest → RefusesAt Lines s rest
-lines_later = many_later begins_line Line good_line refl line_takes leaves_line
+pub lines_later : (s m rest : List Mark) (x : RawLabelled) → is_at begins_line s ≡ true → FormulaLine limits s x m → RefusesAt Lines m rest → RefusesAt Lines s rest
+lines_later = many_later begins_line FormulaLine good_line refl line_takes leaves_line
 
-pub lines_later_passes : (s m rest : List Mark) (x : RawLabelled) → is_at begins_line s ≡ true → Line limits s x m → Passes Lines m rest → Passes Lines s rest
-lines_later_passes = many_later_passes begins_line Line good_line refl line_takes leaves_line
+pub lines_later_passes : (s m rest : List Mark) (x : RawLabelled) → is_at begins_line s ≡ true → FormulaLine limits s x m → Passes Lines m rest → Passes Lines s rest
+lines_later_passes = many_later_passes begins_line FormulaLine good_line refl line_takes leaves_line
 
 -- sections
 module _ {X : Type 0} (test : Mark → Bool) (P : Bounds → List Mark → List X → List Mark → Type 0) (words : (y : Mark) → test y ≡ true → NoFormula (y ∷ [])) where
@@ -404,8 +404,8 @@ pub exit_with : {X : Type 0} (P : Bounds → List Mark → X → List Mark → T
     IsErrAnd r (λ d. d ≡ e) → ReadsOrStops P old (Err e) new → ReadsOrStops P old r new
 exit_with P old new r e h k = let p = err_from_is_err_and r h in rw (p.1, p.2) k
 
-pub labelled_none : (theorem : Bool) (s m : List Mark) → (m ≡ s) × Lacks label_at s → RefusesAt (Labelled theorem) s m
-labelled_none theorem s m h = subst (λ t. RefusesAt (Labelled theorem) s t) (sym h.0) (labelled_refused theorem s h.1)
+pub labelled_none : (theorem : Bool) (s m : List Mark) → (m ≡ s) × Lacks label_at s → RefusesAt (LabelledPart theorem) s m
+labelled_none theorem s m h = subst (λ t. RefusesAt (LabelledPart theorem) s t) (sym h.0) (labelled_refused theorem s h.1)
 
 pub some_names_none : (s m : List Mark) → (m ≡ s) × Lacks reference s → RefusesAt SomeNames s m
 some_names_none s m h = subst (λ t. RefusesAt SomeNames s t) (sym h.0) (some_names_refused s h.1)
@@ -431,7 +431,7 @@ pub names_done : (first old : List Ref) (whole s m : List Mark) → (m ≡ s) ×
 names_done first old whole s m h so_far = subst (λ ys. AddsNames first ys whole m) (append-nil old) (so_far [] m (no_more (lacks_name s h.1) h.0))
 
 -- lines so far, and one more
-pub lines_more : (old : List RawLabelled) (whole s m : List Mark) (x : RawLabelled) → is_at begins_line s ≡ true → Line limits s x m →
+pub lines_more : (old : List RawLabelled) (whole s m : List Mark) (x : RawLabelled) → is_at begins_line s ≡ true → FormulaLine limits s x m →
     ((xs : List RawLabelled) (rest : List Mark) → Lines limits s xs rest → Lines limits whole (old ++ xs) rest) →
     (xs : List RawLabelled) (rest : List Mark) → Lines limits m xs rest → Lines limits whole ((old ++ x ∷ []) ++ xs) rest
 lines_more old whole s m x does h so_far xs rest k =
@@ -442,7 +442,7 @@ pub lines_done : (old : List RawLabelled) (whole s : List Mark) → is_at begins
 lines_done old whole s isnt so_far = subst (λ ys. Lines limits whole ys s) (append-nil old) (so_far [] s (no_more isnt refl))
 
 -- a line that stops
-pub lines_stop : (whole s rest : List Mark) (e : Stop) → is_at begins_line s ≡ true → ReadsOrStops Line s (Err e) rest →
+pub lines_stop : (whole s rest : List Mark) (e : Stop) → is_at begins_line s ≡ true → ReadsOrStops FormulaLine s (Err e) rest →
     ((r : List Mark) → RefusesAt Lines s r → RefusesAt Lines whole r) → ((r : List Mark) → Passes Lines s r → Passes Lines whole r) → ReadsOrStops Lines whole (Err e) rest
 lines_stop whole s rest stop.Unexpected does h refused passed = refused rest (lines_here s rest does h)
 lines_stop whole s rest stop.TooLarge does h refused passed = passed rest (lines_here_passes s rest does h)

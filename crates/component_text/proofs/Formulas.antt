@@ -8,7 +8,7 @@ use Rattle.formula_parse.specs.Faults.{BeginsOne}
 use Rattle.formula_parse.specs.Limits.{first_large, IsTooLargeIn}
 use Rattle.formula_parse.specs.declared.fault.ParseFault.TheVariants as fault
 use Rattle.component_text.specs.Marks.{Mark, word, label, plain, token_run, behind_run, is_at}
-use Rattle.component_text.specs.Forms.{Bounds, limits, parts, none, One, Run, Then}
+use Rattle.component_text.specs.Forms.{Bounds, limits, parts, none, One, FormulaRun, Then}
 use Rattle.component_text.specs.Grammar.{label_at}
 use Rattle.component_text.specs.Faults.{opens_formula}
 use Rattle.component_text.specs.PrivateReading.{end_mark, BeginsIn, NoneHasIn, NoneHas, RefusesAt, IsLargeIn, is_long, is_wide, Passes, from_token, within_bound, FailsBy, is_plain, AreShort, Placed, not_plain, in_formula}
@@ -53,7 +53,7 @@ no_item (x ∷ f) zero e h = cc
 no_item (x ∷ f) (suc i) e h = let later = no_item f i e (omega arith) in (omega (arith, later.0), ap (λ t. x ∷ t) later.1)
 
 module _ {X : Type 0} (F : Bounds → List Item → X → Type 0) where
-  pub run_begins : (b : Bounds) (f : List Item) → BeginsOne (F b) f → BeginsIn b (Run F) (map plain f)
+  pub run_begins : (b : Bounds) (f : List Item) → BeginsOne (F b) f → BeginsIn b (FormulaRun F) (map plain f)
   run_begins b f c =
       let all : (tail : List Mark) → map plain f ++ (map plain c.0 ++ end_mark ∷ tail) ≡ map plain (f ++ c.0) ++ end_mark ∷ tail =
       λ tail. sym (append_assoc (map plain f) (map plain c.0) (end_mark ∷ tail)) ∙ ap (λ t. t ++ end_mark ∷ tail) (sym (map_append f c.0)) in
@@ -66,7 +66,7 @@ module _ {X : Type 0} (F : Bounds → List Item → X → Type 0) where
         };
       }
 
-  ends_there : (f : List Item) (rest : List Mark) → Ended rest → ((t : X) → F none f t → ⊥) → NoneHas (Run F) (map plain f) rest
+  ends_there : (f : List Item) (rest : List Mark) → Ended rest → ((t : X) → F none f t → ⊥) → NoneHas (FormulaRun F) (map plain f) rest
   ends_there f [] e isnt = λ t r k. isnt t (subst (λ g. F none g t) (ap token_run (sym (append-nil (map plain f))) ∙ run_of f [] nothing_there) k.spelled)
   ends_there f (word w p ∷ rest) e isnt = λ more t r k. isnt t (subst (λ g. F none g t) (run_of f (word w p ∷ more) at_word) k.spelled)
   ends_there f (label l p ∷ rest) e isnt = λ more t r k. isnt t (subst (λ g. F none g t) (run_of f (label l p ∷ more) at_label) k.spelled)
@@ -75,16 +75,16 @@ module _ {X : Type 0} (F : Bounds → List Item → X → Type 0) where
       not_plain_there : (x : Item) (rest : List Mark) → Ended (plain x ∷ rest) → ⊥
       not_plain_there x rest e = elim e [ ]
 
-  goes_on : (b : Bounds) (f : List Item) (y : Item) (rest : List Mark) → (BeginsOne (F b) (f ++ y ∷ []) → ⊥) → NoneHasIn b (Run F) (map plain f) (plain y ∷ rest)
+  goes_on : (b : Bounds) (f : List Item) (y : Item) (rest : List Mark) → (BeginsOne (F b) (f ++ y ∷ []) → ⊥) → NoneHasIn b (FormulaRun F) (map plain f) (plain y ∷ rest)
   goes_on b f y rest isnt = λ more t r k.
       let g : token_run (map plain f ++ plain y ∷ more) ≡ (f ++ y ∷ []) ++ token_run more = run_more f (plain y ∷ more) ∙ sym (append_assoc f (y ∷ []) (token_run more)) in
       isnt (token_run more, t, subst (λ u. F b u t) g k.spelled)
 
   -- no formula goes on with what stands at the place
-  stops_nowhere : (s rest : List Mark) (i : ℕ) → rest ≡ from_token i s → FailsBy F (token_run s) (fault.Unexpected i) → NoneHas (Run F) (map plain (take i (token_run s))) rest
-  stops_nowhere s rest i e k = subst (NoneHas (Run F) (map plain (take i (token_run s)))) (sym e) (go (drop i (token_run s)) refl)
+  stops_nowhere : (s rest : List Mark) (i : ℕ) → rest ≡ from_token i s → FailsBy F (token_run s) (fault.Unexpected i) → NoneHas (FormulaRun F) (map plain (take i (token_run s))) rest
+  stops_nowhere s rest i e k = subst (NoneHas (FormulaRun F) (map plain (take i (token_run s)))) (sym e) (go (drop i (token_run s)) refl)
     where
-      go : (g : List Item) → drop i (token_run s) ≡ g → NoneHas (Run F) (map plain (take i (token_run s))) (map plain g ++ behind_run s)
+      go : (g : List Item) → drop i (token_run s) ≡ g → NoneHas (FormulaRun F) (map plain (take i (token_run s))) (map plain g ++ behind_run s)
       go [] d =
           let last = no_item (token_run s) i d k.first.0 in
           ends_there (take i (token_run s)) (behind_run s) (run_ends s) (λ t p. k.first.2.at_end last.0 t (subst (λ f. F none f t) last.1 p))
@@ -120,7 +120,7 @@ nothing_dropped (z ∷ f) (suc i) l d = nothing_dropped f i (omega arith) d
 module _ {X Z : Type 0} (F : Bounds → List Item → X → Type 0) (R : Bounds → List Mark → Z → List Mark → Type 0)
     (lead : List Mark) (y : Mark) (s m : List Mark) (there : s ≡ lead ++ y ∷ m) (opens : opens_formula y ≡ true) (lead_short : (t : List Mark) → AreShort lead (y ∷ t))
     (begins_as : (b : Bounds) (f : List Item) → BeginsOne (F b) f → BeginsIn b R (lead ++ y ∷ map plain f))
-    (nowhere_as : (b : Bounds) (before rest : List Mark) → m ≡ before ++ rest → NoneHasIn b (Run F) before rest → NoneHasIn b R (lead ++ y ∷ before) rest)
+    (nowhere_as : (b : Bounds) (before rest : List Mark) → m ≡ before ++ rest → NoneHasIn b (FormulaRun F) before rest → NoneHasIn b R (lead ++ y ∷ before) rest)
     (wrong_as : ((x : X) → F limits (token_run m) x → ⊥) → (z : Z) (r : List Mark) → R limits s z r → ⊥) where
   divided : (rest : List Mark) (i : ℕ) → rest ≡ from_token i m → m ≡ map plain (take i (token_run m)) ++ rest
   divided rest i e = front_is m i ∙ ap (λ t. map plain (take i (token_run m)) ++ t) (sym e)
@@ -183,15 +183,15 @@ module _ {X Z : Type 0} (F : Bounds → List Item → X → Type 0) (R : Bounds 
 
 -- a label with a formula behind it
 module _ {X : Type 0} (F : Bounds → List Item → X → Type 0) (s m : List Mark) (x : List ℕ × ℕ) (o : One label_at limits s x m) where
-  wrong_behind : ((t : X) → F limits (token_run m) t → ⊥) → (z : (List ℕ × ℕ) × X) (r : List Mark) → Then (One label_at) (Run F) limits s z r → ⊥
-  wrong_behind isnt = one_then_wrong label_at (Run F) s m x o (λ t r k. isnt t k.spelled)
+  wrong_behind : ((t : X) → F limits (token_run m) t → ⊥) → (z : (List ℕ × ℕ) × X) (r : List Mark) → Then (One label_at) (FormulaRun F) limits s z r → ⊥
+  wrong_behind isnt = one_then_wrong label_at (FormulaRun F) s m x o (λ t r k. isnt t k.spelled)
 
-  pub label_refused : (rest : List Mark) (i : ℕ) → rest ≡ from_token i m → FailsBy F (token_run m) (fault.Unexpected i) → RefusesAt (Then (One label_at) (Run F)) s rest
+  pub label_refused : (rest : List Mark) (i : ℕ) → rest ≡ from_token i m → FailsBy F (token_run m) (fault.Unexpected i) → RefusesAt (Then (One label_at) (FormulaRun F)) s rest
   label_refused =
-      opened_refused F (Then (One label_at) (Run F)) [] o.mark s m o.there (label_opens o.mark x o.is) (λ t. tt) (λ b f c. one_begins label_at (Run F) b o.mark x (map plain f) o.is (run_begins F b f c))
-      (λ b before rest e. one_then_nowhere label_at (Run F) b o.mark before rest) wrong_behind
+      opened_refused F (Then (One label_at) (FormulaRun F)) [] o.mark s m o.there (label_opens o.mark x o.is) (λ t. tt) (λ b f c. one_begins label_at (FormulaRun F) b o.mark x (map plain f) o.is (run_begins F b f c))
+      (λ b before rest e. one_then_nowhere label_at (FormulaRun F) b o.mark before rest) wrong_behind
 
-  pub label_passes : (rest : List Mark) (i : ℕ) → rest ≡ from_token i m → FailsBy F (token_run m) (fault.TooLarge i) → Passes (Then (One label_at) (Run F)) s rest
+  pub label_passes : (rest : List Mark) (i : ℕ) → rest ≡ from_token i m → FailsBy F (token_run m) (fault.TooLarge i) → Passes (Then (One label_at) (FormulaRun F)) s rest
   label_passes =
-      opened_passes F (Then (One label_at) (Run F)) [] o.mark s m o.there (label_opens o.mark x o.is) (λ t. tt) (λ b f c. one_begins label_at (Run F) b o.mark x (map plain f) o.is (run_begins F b f c))
-      (λ b before rest e. one_then_nowhere label_at (Run F) b o.mark before rest) wrong_behind
+      opened_passes F (Then (One label_at) (FormulaRun F)) [] o.mark s m o.there (label_opens o.mark x o.is) (λ t. tt) (λ b f c. one_begins label_at (FormulaRun F) b o.mark x (map plain f) o.is (run_begins F b f c))
+      (λ b before rest e. one_then_nowhere label_at (FormulaRun F) b o.mark before rest) wrong_behind

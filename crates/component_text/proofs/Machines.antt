@@ -23,9 +23,9 @@ use Rattle.component_text.specs.declared.stop.Stop.{Stop}
 use Rattle.component_text.specs.declared.stop.Stop.TheVariants as stop
 use Rattle.component_text.specs.declared.machine.Abstracts.{Abstracts}
 use Rattle.component_text.specs.Marks.{Mark, word, label, plain, token_run, is_word_mark, is_at}
-use Rattle.component_text.specs.Forms.{Bounds, limits, parts, One, Run, Nothing, Then, Choice, taken, other, Of}
-use Rattle.component_text.specs.Grammar.{IsPlaced, reference, label_at, is_a_label, SomeNames, Names, Labelled, Lines, SomeNamesBehind, NamesBehind, LinesBehind}
-use Rattle.component_text.specs.Machines.{IsActionWithin, word_at, Refines, Expression, VariantExpression, variant_of, Variant, Witnesses, labelled_step, Step, ManySteps, extending, refining, References, either, Guards, With, Actions, event_of, EventBody, Event, begins_event, EventList, Events, machine_of, MachineBody}
+use Rattle.component_text.specs.Forms.{Bounds, limits, parts, One, FormulaRun, Nothing, Then, Choice, taken, other, Of}
+use Rattle.component_text.specs.Grammar.{IsPlaced, reference, label_at, is_a_label, SomeNames, Names, LabelledPart, Lines, SomeNamesBehind, NamesBehind, LinesBehind}
+use Rattle.component_text.specs.Machines.{IsActionWithin, word_at, Refines, Expression, VariantExpression, variant_of, Variant, Witnesses, labelled_step, ActionLine, ManySteps, extending, refining, References, either, Guards, With, Actions, event_of, EventBody, EventPart, begins_event, EventList, Events, machine_of, MachineBody}
 use Rattle.component_text.specs.Faults.{opens_formula}
 use Rattle.component_text.specs.PrivateReading.{end_mark, BeginsIn, Begins, NoneHasIn, RefusesAt, ReadsOrStops, Takes, Lacks, ReadsFormula, is_plain, AreShort, NoFormula}
 use Rattle.component_text.proofs.Looser.{action_looser, loose}
@@ -219,7 +219,7 @@ module _ (s m k : List Mark) (v : Takes (is_word_mark (codes "variant")) s true 
   variant_stops rest true e l h = labelled_variant_stops l rest e h
   variant_stops rest false e l h = bare_variant_stops l.1 rest e (subst (λ t. ReadsFormula IsExpression t (Err e) rest) l.0 h)
 
-  pub variant_read : (rest : List Mark) (b : Bool) (x : Raw × ℕ) → Takes is_a_label m b k → Run IsExpression limits k x rest → Variant limits s (variant_of x) rest
+  pub variant_read : (rest : List Mark) (b : Bool) (x : Raw × ℕ) → Takes is_a_label m b k → FormulaRun IsExpression limits k x rest → Variant limits s (variant_of x) rest
   variant_read rest true x l h = taken v.0 m v.1 v.2 (record { from = x; is = refl; part = taken l.0 k l.1 l.2 h })
   variant_read rest false x l h = taken v.0 m v.1 v.2 (record { from = x; is = refl; part = other l.1 (subst (λ t. Expression limits t x rest) l.0 h) })
 
@@ -260,45 +260,45 @@ pub refined_read : (s m rest : List Mark) (ns : List Ref) → Takes (is_word_mar
 refined_read s m rest ns t h = other t.1 (subst (λ u. Of refining (SomeNamesBehind (codes "refines")) limits u (refining ns) rest) t.0 (record { from = ns; is = refl; part = h }))
 
 -- guards, witnesses and actions
-labelled_shorter : {X : Type 0} (F : Bounds → List Item → X → Type 0) (b : Bounds) (s : List Mark) (x : (List ℕ × ℕ) × X) (m : List Mark) → Then (One label_at) (Run F) b s x m → length m < length s
+labelled_shorter : {X : Type 0} (F : Bounds → List Item → X → Type 0) (b : Bounds) (s : List Mark) (x : (List ℕ × ℕ) × X) (m : List Mark) → Then (One label_at) (FormulaRun F) b s x m → length m < length s
 labelled_shorter F b s x m h = omega (arith, ap length h.first.there, ap length h.second.behind, behind_shorter h.middle)
 
-pub witness_takes : (b : Bounds) (s : List Mark) (x : RawLabelled) (m : List Mark) → Labelled false b s x m → length m < length s
+pub witness_takes : (b : Bounds) (s : List Mark) (x : RawLabelled) (m : List Mark) → LabelledPart false b s x m → length m < length s
 witness_takes b s x m h = labelled_shorter (IsPlaced hole.Predicate) b s h.from m h.part
 
-pub good_witness : Good (Labelled false)
+pub good_witness : Good (LabelledPart false)
 good_witness = good_labelled false
 
 pub good_witnesses : Good Witnesses
-good_witnesses = good_many is_a_label (Labelled false) good_witness refl witness_takes
+good_witnesses = good_many is_a_label (LabelledPart false) good_witness refl witness_takes
 
-pub leaves_witness : Leaves (Labelled false)
+pub leaves_witness : Leaves (LabelledPart false)
 leaves_witness = leaves_labelled false
 
 leaves_witnesses : Leaves Witnesses
-leaves_witnesses = leaves_many is_a_label (Labelled false) good_witness good_witnesses.split leaves_witness
+leaves_witnesses = leaves_many is_a_label (LabelledPart false) good_witness good_witnesses.split leaves_witness
 
-pub step_takes : (b : Bounds) (s : List Mark) (x : RawStep) (m : List Mark) → Step b s x m → length m < length s
+pub step_takes : (b : Bounds) (s : List Mark) (x : RawStep) (m : List Mark) → ActionLine b s x m → length m < length s
 step_takes b s x m h = labelled_shorter IsActionWithin b s h.from m h.part
 
-pub good_step : Good Step
-good_step = good_of labelled_step (Then (One label_at) (Run IsActionWithin)) (good_then (One label_at) (Run IsActionWithin) (good_one label_at) (good_run IsActionWithin (loose SpellsAction action_looser)))
+pub good_step : Good ActionLine
+good_step = good_of labelled_step (Then (One label_at) (FormulaRun IsActionWithin)) (good_then (One label_at) (FormulaRun IsActionWithin) (good_one label_at) (good_run IsActionWithin (loose SpellsAction action_looser)))
 
 pub good_steps : Good ManySteps
-good_steps = good_many is_a_label Step good_step refl step_takes
+good_steps = good_many is_a_label ActionLine good_step refl step_takes
 
-pub leaves_step : Leaves Step
+pub leaves_step : Leaves ActionLine
 leaves_step = leaves_formula labelled_step label_at IsActionWithin (λ f a k. k.1)
 
 leaves_steps : Leaves ManySteps
-leaves_steps = leaves_many is_a_label Step good_step good_steps.split leaves_step
+leaves_steps = leaves_many is_a_label ActionLine good_step good_steps.split leaves_step
 
-pub step_stops : (s m rest : List Mark) (x : List ℕ × ℕ) (e : Stop) → One label_at limits s x m → ReadsFormula IsActionWithin m (Err e) rest → ReadsOrStops Step s (Err e) rest
-step_stops s m rest x stop.Unexpected o h = of_stops labelled_step (Then (One label_at) (Run IsActionWithin)) s rest stop.Unexpected (label_refused IsActionWithin s m x o rest h.0 h.1 h.2)
-step_stops s m rest x stop.TooLarge o h = of_stops labelled_step (Then (One label_at) (Run IsActionWithin)) s rest stop.TooLarge (label_passes IsActionWithin s m x o rest h.0 h.1 h.2)
+pub step_stops : (s m rest : List Mark) (x : List ℕ × ℕ) (e : Stop) → One label_at limits s x m → ReadsFormula IsActionWithin m (Err e) rest → ReadsOrStops ActionLine s (Err e) rest
+step_stops s m rest x stop.Unexpected o h = of_stops labelled_step (Then (One label_at) (FormulaRun IsActionWithin)) s rest stop.Unexpected (label_refused IsActionWithin s m x o rest h.0 h.1 h.2)
+step_stops s m rest x stop.TooLarge o h = of_stops labelled_step (Then (One label_at) (FormulaRun IsActionWithin)) s rest stop.TooLarge (label_passes IsActionWithin s m x o rest h.0 h.1 h.2)
 step_stops s m rest x stop.OutOfMemory o h = tt
 
-pub step_read : (s m rest : List Mark) (x : List ℕ × ℕ) (a : RawAction) → One label_at limits s x m → Run IsActionWithin limits m a rest → Step limits s (labelled_step (x, a)) rest
+pub step_read : (s m rest : List Mark) (x : List ℕ × ℕ) (a : RawAction) → One label_at limits s x m → FormulaRun IsActionWithin limits m a rest → ActionLine limits s (labelled_step (x, a)) rest
 step_read s m rest x a o h = record { from = (x, a); is = refl; part = record { middle = m; first = o; second = h } }
 
 pub good_guards : Good Guards
@@ -543,10 +543,10 @@ good_unconvergent = good_choice (is_word_mark (codes "anticipated")) (EventBody 
 pub good_unordinary : Good Unordinary
 good_unordinary = good_choice (is_word_mark (codes "convergent")) (EventBody Convergent) Unconvergent (good_event_body Convergent) good_unconvergent refl
 
-pub good_event : Good Event
+pub good_event : Good EventPart
 good_event = good_choice (is_word_mark (codes "ordinary")) (EventBody Ordinary) Unordinary (good_event_body Ordinary) good_unordinary refl
 
-pub leaves_event : Leaves Event
+pub leaves_event : Leaves EventPart
 leaves_event =
     leaves_choice (is_word_mark (codes "ordinary")) (EventBody Ordinary) Unordinary (good_event_body Ordinary) (word_alone (codes "ordinary") refl) (leaves_event_body Ordinary)
     (leaves_choice (is_word_mark (codes "convergent")) (EventBody Convergent) Unconvergent (good_event_body Convergent) (word_alone (codes "convergent") refl) (leaves_event_body Convergent)
@@ -558,27 +558,27 @@ unconvergent_begins = record { more = (event_body_begins Ordinary).more; value =
 unordinary_begins : Begins Unordinary []
 unordinary_begins = record { more = (event_body_begins Ordinary).more; value = (event_body_begins Ordinary).value; goes_on = λ tail. other refl (other refl ((event_body_begins Ordinary).goes_on tail)) }
 
-event_begins : Begins Event []
+event_begins : Begins EventPart []
 event_begins = record { more = (event_body_begins Ordinary).more; value = (event_body_begins Ordinary).value; goes_on = λ tail. other refl (other refl (other refl ((event_body_begins Ordinary).goes_on tail))) }
 
-pub ordinary_reads : (s m rest : List Mark) (r : Result RawEvent Stop) → Takes (is_word_mark (codes "ordinary")) s true m → ReadsOrStops (EventBody Ordinary) m r rest → ReadsOrStops Event s r rest
+pub ordinary_reads : (s m rest : List Mark) (r : Result RawEvent Stop) → Takes (is_word_mark (codes "ordinary")) s true m → ReadsOrStops (EventBody Ordinary) m r rest → ReadsOrStops EventPart s r rest
 ordinary_reads = taken_reads (is_word_mark (codes "ordinary")) (EventBody Ordinary) Unordinary (word_alone (codes "ordinary") refl)
 
 module _ (s a : List Mark) (t : Takes (is_word_mark (codes "ordinary")) s false a) where
-  unordinary_reads : (rest : List Mark) (r : Result RawEvent Stop) → ReadsOrStops Unordinary a r rest → ReadsOrStops Event s r rest
+  unordinary_reads : (rest : List Mark) (r : Result RawEvent Stop) → ReadsOrStops Unordinary a r rest → ReadsOrStops EventPart s r rest
   unordinary_reads rest r h = other_reads (is_word_mark (codes "ordinary")) (EventBody Ordinary) Unordinary event_begins s a rest r t h
 
-  pub convergent_reads : (m rest : List Mark) (r : Result RawEvent Stop) → Takes (is_word_mark (codes "convergent")) a true m → ReadsOrStops (EventBody Convergent) m r rest → ReadsOrStops Event s r rest
+  pub convergent_reads : (m rest : List Mark) (r : Result RawEvent Stop) → Takes (is_word_mark (codes "convergent")) a true m → ReadsOrStops (EventBody Convergent) m r rest → ReadsOrStops EventPart s r rest
   convergent_reads m rest r u h = unordinary_reads rest r (taken_reads (is_word_mark (codes "convergent")) (EventBody Convergent) Unconvergent (word_alone (codes "convergent") refl) a m rest r u h)
 
   module _ (b : List Mark) (u : Takes (is_word_mark (codes "convergent")) a false b) where
-    unconvergent_reads : (rest : List Mark) (r : Result RawEvent Stop) → ReadsOrStops Unconvergent b r rest → ReadsOrStops Event s r rest
+    unconvergent_reads : (rest : List Mark) (r : Result RawEvent Stop) → ReadsOrStops Unconvergent b r rest → ReadsOrStops EventPart s r rest
     unconvergent_reads rest r h = unordinary_reads rest r (other_reads (is_word_mark (codes "convergent")) (EventBody Convergent) Unconvergent unordinary_begins a b rest r u h)
 
-    pub anticipated_reads : (m rest : List Mark) (r : Result RawEvent Stop) → Takes (is_word_mark (codes "anticipated")) b true m → ReadsOrStops (EventBody Anticipated) m r rest → ReadsOrStops Event s r rest
+    pub anticipated_reads : (m rest : List Mark) (r : Result RawEvent Stop) → Takes (is_word_mark (codes "anticipated")) b true m → ReadsOrStops (EventBody Anticipated) m r rest → ReadsOrStops EventPart s r rest
     anticipated_reads m rest r v h = unconvergent_reads rest r (taken_reads (is_word_mark (codes "anticipated")) (EventBody Anticipated) (EventBody Ordinary) (word_alone (codes "anticipated") refl) b m rest r v h)
 
-    pub plain_reads : (m rest : List Mark) (r : Result RawEvent Stop) → Takes (is_word_mark (codes "anticipated")) b false m → ReadsOrStops (EventBody Ordinary) m r rest → ReadsOrStops Event s r rest
+    pub plain_reads : (m rest : List Mark) (r : Result RawEvent Stop) → Takes (is_word_mark (codes "anticipated")) b false m → ReadsOrStops (EventBody Ordinary) m r rest → ReadsOrStops EventPart s r rest
     plain_reads m rest r v h = unconvergent_reads rest r (other_reads (is_word_mark (codes "anticipated")) (EventBody Anticipated) (EventBody Ordinary) unconvergent_begins b m rest r v h)
 
 -- events
@@ -587,14 +587,14 @@ event_body_takes c b s x m h =
     let front = good_from_name.split b h.part.middle h.from.1 m h.part.second in
     omega (arith, ap length h.part.first.there, ap length front.1, length-append front.0 m)
 
-pub event_takes : (b : Bounds) (s : List Mark) (x : RawEvent) (m : List Mark) → Event b s x m → length m < length s
+pub event_takes : (b : Bounds) (s : List Mark) (x : RawEvent) (m : List Mark) → EventPart b s x m → length m < length s
 event_takes b s x m (taken y t e is h) = omega (arith, ap length e, event_body_takes Ordinary b t x m h)
 event_takes b s x m (other _ (taken y t e is h)) = omega (arith, ap length e, event_body_takes Convergent b t x m h)
 event_takes b s x m (other _ (other _ (taken y t e is h))) = omega (arith, ap length e, event_body_takes Anticipated b t x m h)
 event_takes b s x m (other _ (other _ (other _ h))) = event_body_takes Ordinary b s x m h
 
 pub good_event_list : Good EventList
-good_event_list = good_many begins_event Event good_event refl event_takes
+good_event_list = good_many begins_event EventPart good_event refl event_takes
 
 pub good_events : Good Events
 good_events = good_optional (is_word_mark (codes "events")) [] EventList good_event_list refl
@@ -603,7 +603,7 @@ skip_events : CanSkip Events
 skip_events = skip_optional (is_word_mark (codes "events")) [] EventList refl
 
 leaves_event_list : Leaves EventList
-leaves_event_list = leaves_many begins_event Event good_event good_event_list.split leaves_event
+leaves_event_list = leaves_many begins_event EventPart good_event good_event_list.split leaves_event
 
 leaves_events : Leaves Events
 leaves_events = leaves_optional (is_word_mark (codes "events")) [] EventList (word_alone (codes "events") refl) good_event_list leaves_event_list
@@ -775,13 +775,13 @@ module _ (s a : List Mark) (n : Ref) (name : One reference limits s n a) where
             }
 
 -- x :∈ x
-action_begins : Begins (Run IsActionWithin) []
+action_begins : Begins (FormulaRun IsActionWithin) []
 action_begins = run_begins IsActionWithin parts [] (
   item sign.Word 0 (codes "x") ∷ (item sign.BecomesIn 0 (codes "x") ∷ (item sign.Word 0 (codes "x") ∷ [])),
   act.ChooseIn (record { name = codes "x"; place = 0 }) (raw.Name (codes "x") 0),
   chooses_in refl (record { g = grade.Name; reads = a_name refl; fit = refl }),
 )
 
-pub step_missing : (s m : List Mark) → (m ≡ s) × Lacks label_at s → RefusesAt Step s m
+pub step_missing : (s m : List Mark) → (m ≡ s) × Lacks label_at s → RefusesAt ActionLine s m
 step_missing s m h =
-    of_stops labelled_step (Then (One label_at) (Run IsActionWithin)) s m stop.Unexpected (one_missing_first label_at (Run IsActionWithin) s m (label (codes "x") 0) (codes "x", 0) h refl action_begins)
+    of_stops labelled_step (Then (One label_at) (FormulaRun IsActionWithin)) s m stop.Unexpected (one_missing_first label_at (FormulaRun IsActionWithin) s m (label (codes "x") 0) (codes "x", 0) h refl action_begins)

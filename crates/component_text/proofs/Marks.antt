@@ -12,7 +12,7 @@ use Rattle.formula_parse.specs.Limits.{IsFaultOf, IsFault, IsSentence}
 use Rattle.component_text.specs.declared.stop.Stop.TheVariants as stop
 use Rattle.formula_core.specs.declared.raw.RawAction.{RawAction}
 use Rattle.math_action.specs.Limits.{IsAction, IsActionFault}
-use Rattle.component_text.specs.Forms.{Bounds, limits, parts, none, Run}
+use Rattle.component_text.specs.Forms.{Bounds, limits, parts, none, FormulaRun}
 use Rattle.component_text.specs.Grammar.{IsFormula, first_place, IsPlaced}
 use Rattle.component_text.specs.Machines.{IsActionWithin, either}
 use Rattle.formula_core.specs.Texts.{begins_with}
@@ -156,7 +156,7 @@ module _ {X : Type 0} (F : Bounds → List Item → X → Type 0) (text : List �
   run_is : token_run s ≡ items_of text (take n tokens)
   run_is = ap token_run (sym view) ∙ run_tokens text tokens ∙ ap (λ k. items_of text (take k tokens)) (sym size)
 
-  pub formula_read : (t : X) → F limits (items_of text (take n tokens)) t → Run F limits s t (marks_of text (take (length tokens - n) (drop n tokens)))
+  pub formula_read : (t : X) → F limits (items_of text (take n tokens)) t → FormulaRun F limits s t (marks_of text (take (length tokens - n) (drop n tokens)))
   formula_read t k = record {
     spelled = subst (λ f. F limits f t) (sym run_is) k;
     behind =

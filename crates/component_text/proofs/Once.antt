@@ -9,9 +9,9 @@ use Rattle.model_core.specs.declared.component.Convergence.{Convergence}
 use Rattle.model_core.specs.declared.component.Convergence.TheVariants.{Ordinary, Convergent, Anticipated}
 use Rattle.model_core.specs.declared.component.RawComponent.{RawComponent}
 use Rattle.component_text.specs.Marks.{Mark, word, is_word_mark, is_at}
-use Rattle.component_text.specs.Forms.{Bounds, One, Run, Nothing, Then, Of}
-use Rattle.component_text.specs.Grammar.{IsPlaced, reference, label_at, is_a_label, Names, SomeNames, Labelled, Lines, SomeNamesBehind, NamesBehind, LinesBehind}
-use Rattle.component_text.specs.Machines.{IsActionWithin, word_at, Refines, Expression, VariantExpression, variant_of, Variant, Witnesses, labelled_step, Step, ManySteps, extending, refining, References, either, Guards, With, Actions, event_of, EventBody, Event, begins_event, EventList, Events, machine_of, MachineBody, IsMachine, IsComponent, a_context, a_machine}
+use Rattle.component_text.specs.Forms.{Bounds, One, FormulaRun, Nothing, Then, Of}
+use Rattle.component_text.specs.Grammar.{IsPlaced, reference, label_at, is_a_label, Names, SomeNames, LabelledPart, Lines, SomeNamesBehind, NamesBehind, LinesBehind}
+use Rattle.component_text.specs.Machines.{IsActionWithin, word_at, Refines, Expression, VariantExpression, variant_of, Variant, Witnesses, labelled_step, ActionLine, ManySteps, extending, refining, References, either, Guards, With, Actions, event_of, EventBody, EventPart, begins_event, EventList, Events, machine_of, MachineBody, IsMachine, IsComponent, a_context, a_machine}
 use Rattle.component_text.proofs.Parts.{good_one}
 use Rattle.component_text.proofs.Unique.{Unique, OneFormula, within_once, placed_once, one_unique, run_unique, nothing_unique, then_unique, of_unique, choice_unique, many_unique, labelled_unique, lines_unique, names_unique, some_names_unique, section_unique, context_unique}
 use Rattle.component_text.proofs.Machines.{good_refines, good_variant, good_witness, good_step, good_references, good_any, good_guards, good_with, good_actions, Unordinary, Unconvergent, good_event, good_sees, good_variables, good_invariants}
@@ -33,9 +33,9 @@ module _ (law : OneFormula) (action_law : OneAction) where
   action_once : (b : Bounds) (s : List Item) (x y : RawAction) → IsActionWithin b s x → IsActionWithin b s y → x ≡ y
   action_once = within_once SpellsAction action_law
 
-  step_unique : Unique Step
-  step_unique = of_unique labelled_step (Then (One label_at) (Run IsActionWithin))
-      (then_unique (One label_at) (Run IsActionWithin) (good_one label_at) (one_unique label_at) (run_unique IsActionWithin action_once))
+  step_unique : Unique ActionLine
+  step_unique = of_unique labelled_step (Then (One label_at) (FormulaRun IsActionWithin))
+      (then_unique (One label_at) (FormulaRun IsActionWithin) (good_one label_at) (one_unique label_at) (run_unique IsActionWithin action_once))
 
   references_unique : Unique References
   references_unique = choice_unique (is_word_mark (codes "extends")) (Of extending (One reference)) (Of refining (SomeNamesBehind (codes "refines"))) (of_unique extending (One reference) (one_unique reference))
@@ -49,11 +49,11 @@ module _ (law : OneFormula) (action_law : OneAction) where
       (then_unique References _ good_references references_unique
       (then_unique (NamesBehind (codes "any")) _ good_any (section_unique law (is_word_mark (codes "any")) Names (names_unique law))
       (then_unique Guards _ good_guards (section_unique law (either (codes "where") (codes "when")) Lines (lines_unique law))
-      (then_unique With _ good_with (section_unique law (is_word_mark (codes "with")) Witnesses (many_unique is_a_label (Labelled false) good_witness (labelled_unique law false)))
-      (then_unique Actions (One (word_at (codes "end"))) good_actions (section_unique law (either (codes "then") (codes "begin")) ManySteps (many_unique is_a_label Step good_step step_unique))
+      (then_unique With _ good_with (section_unique law (is_word_mark (codes "with")) Witnesses (many_unique is_a_label (LabelledPart false) good_witness (labelled_unique law false)))
+      (then_unique Actions (One (word_at (codes "end"))) good_actions (section_unique law (either (codes "then") (codes "begin")) ManySteps (many_unique is_a_label ActionLine good_step step_unique))
       (one_unique (word_at (codes "end"))))))))))
 
-  event_unique : Unique Event
+  event_unique : Unique EventPart
   event_unique =
       choice_unique (is_word_mark (codes "ordinary")) (EventBody Ordinary) Unordinary (event_body_unique Ordinary)
       (choice_unique (is_word_mark (codes "convergent")) (EventBody Convergent) Unconvergent (event_body_unique Convergent)
@@ -68,7 +68,7 @@ module _ (law : OneFormula) (action_law : OneAction) where
       (then_unique (NamesBehind (codes "variables")) _ good_variables (section_unique law (is_word_mark (codes "variables")) Names (names_unique law))
       (then_unique (LinesBehind (codes "invariants")) _ good_invariants (section_unique law (is_word_mark (codes "invariants")) Lines (lines_unique law))
       (then_unique Variant Events good_variant variant_unique
-      (section_unique law (is_word_mark (codes "events")) EventList (many_unique begins_event Event good_event event_unique))))))))
+      (section_unique law (is_word_mark (codes "events")) EventList (many_unique begins_event EventPart good_event event_unique))))))))
 
   machine_unique : (b : Bounds) (s : List Mark) (c d : RawComponent) → IsMachine b s c → IsMachine b s d → c ≡ d
   machine_unique b s c d h k =

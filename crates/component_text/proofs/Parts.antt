@@ -4,7 +4,7 @@ use Rattle.std.specs.Prelude.{Option}
 use Rattle.std.proofs.lemmas.List.{append_cancel_right}
 use Rattle.math_grammar.specs.Tokens.{Item}
 use Rattle.component_text.specs.Marks.{Mark, word, label, plain, token_run, behind_run, is_at}
-use Rattle.component_text.specs.Forms.{Bounds, limits, parts, none, One, Run, Nothing, Then, Choice, taken, other, Many, no_more, one_more, Of}
+use Rattle.component_text.specs.Forms.{Bounds, limits, parts, none, One, FormulaRun, Nothing, Then, Choice, taken, other, Many, no_more, one_more, Of}
 use Rattle.component_text.specs.PrivateReading.{end_mark}
 
 -- the same token stands first, or none
@@ -127,22 +127,22 @@ ended_follow m n (same e) h = ended_start m n e h
 ended_follow m n (closing tail e) h = subst Ended (sym e) at_word
 
 module _ {X : Type 0} (F : Bounds → List Item → X → Type 0) where
-  run_front : (b : Bounds) (front m : List Mark) (x : X) → Run F b (front ++ m) x m → front ≡ map plain (token_run (front ++ m))
+  run_front : (b : Bounds) (front m : List Mark) (x : X) → FormulaRun F b (front ++ m) x m → front ≡ map plain (token_run (front ++ m))
   run_front b front m x h =
       let whole : front ++ m ≡ map plain (token_run (front ++ m)) ++ m = run_split (front ++ m) ∙ ap (λ t. map plain (token_run (front ++ m)) ++ t) (sym h.behind) in
       append_cancel_right front (map plain (token_run (front ++ m))) m whole
 
-  run_ended : (b : Bounds) (front m : List Mark) (x : X) → Run F b (front ++ m) x m → Ended m
+  run_ended : (b : Bounds) (front m : List Mark) (x : X) → FormulaRun F b (front ++ m) x m → Ended m
   run_ended b front m x h = subst Ended (sym h.behind) (run_ends (front ++ m))
 
-  run_agrees : (b c : Bounds) (front m n : List Mark) (x y : X) (r : List Mark) → Run F b (front ++ m) x m → SameStart m n → Run F c (front ++ n) y r → r ≡ n
+  run_agrees : (b c : Bounds) (front m n : List Mark) (x y : X) (r : List Mark) → FormulaRun F b (front ++ m) x m → SameStart m n → FormulaRun F c (front ++ n) y r → r ≡ n
   run_agrees b c front m n x y r h e k =
       let f = token_run (front ++ m) in
       let is : front ≡ map plain f = run_front b front m x h in
       let ended : Ended n = ended_start m n e (run_ended b front m x h) in
       k.behind ∙ ap (λ t. behind_run (t ++ n)) is ∙ behind_of f n ended
 
-  run_keeps : (b : Bounds) (front m n : List Mark) (x : X) → Run F b (front ++ m) x m → MayFollow m n → Run F b (front ++ n) x n
+  run_keeps : (b : Bounds) (front m n : List Mark) (x : X) → FormulaRun F b (front ++ m) x m → MayFollow m n → FormulaRun F b (front ++ n) x n
   run_keeps b front m n x h e =
       let f = token_run (front ++ m) in
       let is : front ≡ map plain f = run_front b front m x h in
@@ -150,7 +150,7 @@ module _ {X : Type 0} (F : Bounds → List Item → X → Type 0) where
       let again : token_run (front ++ n) ≡ f = ap (λ t. token_run (t ++ n)) is ∙ run_of f n ended in
       record { spelled = subst (λ g. F b g x) (sym again) h.spelled; behind = sym (ap (λ t. behind_run (t ++ n)) is ∙ behind_of f n ended) }
 
-  pub good_run : ((b c : Bounds) → IsLooser b c → (f : List Item) (x : X) → F b f x → F c f x) → Good (Run F)
+  pub good_run : ((b c : Bounds) → IsLooser b c → (f : List Item) (x : X) → F b f x → F c f x) → Good (FormulaRun F)
   good_run loose = record {
     split = λ b s x m h. (map plain (token_run s), run_split s ∙ ap (λ t. map plain (token_run s) ++ t) (sym h.behind));
     agrees = run_agrees;

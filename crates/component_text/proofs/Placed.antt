@@ -5,7 +5,7 @@ use Rattle.std.proofs.lemmas.List.{append_cancel_right}
 use Rattle.math_grammar.specs.Tokens.{Item}
 use Rattle.formula_parse.specs.Limits.{first_large}
 use Rattle.component_text.specs.Marks.{Mark, word, label, plain, token_run, is_at}
-use Rattle.component_text.specs.Forms.{Bounds, limits, One, Run, Nothing, Then, Choice, taken, other, Many, no_more, one_more, Of}
+use Rattle.component_text.specs.Forms.{Bounds, limits, One, FormulaRun, Nothing, Then, Choice, taken, other, Many, no_more, one_more, Of}
 use Rattle.component_text.specs.Faults.{opens_formula, IsLong}
 use Rattle.component_text.specs.PrivateReading.{is_plain, NoFormula, behind_word, all_plain, AreShort, Placed, not_plain, no_formula, in_formula}
 use Rattle.component_text.proofs.Shorts.{alone_short, short_append, run_short}
@@ -152,7 +152,7 @@ module _ {X : Type 0} (absent : X) where
 
 -- a part that ends in a formula
 module _ {X Y Z : Type 0} (f : X × Y → Z) (value : Mark → Option X) (F : Bounds → List Item → Y → Type 0) (fits : (s : List Item) (y : Y) → F limits s y → first_large s ≡ None) where
-  pub leaves_formula : Leaves (Of f (Then (One value) (Run F)))
+  pub leaves_formula : Leaves (Of f (Then (One value) (FormulaRun F)))
   leaves_formula = record {
     free = λ b front m x h e. absurd (not_ended m (subst Ended (sym h.part.second.behind) (run_ends h.part.middle)) e);
     short = λ front m x h. run_short F fits h.part.first.mark front h.part.middle m h.from.1 h.part.second h.part.first.there;

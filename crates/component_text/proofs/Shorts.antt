@@ -4,7 +4,7 @@ use Rattle.std.proofs.lemmas.List.{append_cancel_right}
 use Rattle.math_grammar.specs.Tokens.{Item}
 use Rattle.formula_parse.specs.Limits.{passes, open_after, first_large_from, first_large}
 use Rattle.component_text.specs.Marks.{Mark, word, label, plain, token_run}
-use Rattle.component_text.specs.Forms.{Bounds, limits, Run}
+use Rattle.component_text.specs.Forms.{Bounds, limits, FormulaRun}
 use Rattle.component_text.specs.Grammar.{is_a_label}
 use Rattle.component_text.specs.Faults.{opens_formula, NoneIsLong}
 use Rattle.component_text.specs.PrivateReading.{NoFormula, behind_word, all_plain, AreShort}
@@ -90,7 +90,7 @@ pub formula_short : (y : Mark) (f : List Item) → first_large f ≡ None → Ar
 formula_short y f few = (λ o. ap first_large (run_of f [] nothing_there) ∙ few, short_plain f [])
 
 pub run_short : {X : Type 0} (F : Bounds → List Item → X → Type 0) → ((f : List Item) (x : X) → F limits f x → first_large f ≡ None) →
-    (y : Mark) (front t m : List Mark) (x : X) → Run F limits t x m → front ++ m ≡ y ∷ t → AreShort front m
+    (y : Mark) (front t m : List Mark) (x : X) → FormulaRun F limits t x m → front ++ m ≡ y ∷ t → AreShort front m
 run_short F fits y front t m x h e =
     let f = token_run t in
     let there : t ≡ map plain f ++ m = run_split t ∙ ap (λ u. map plain f ++ u) (sym h.behind) in

@@ -9,8 +9,8 @@ use Rattle.math_grammar.specs.Grammar.{Spells}
 use Rattle.formula_parse.specs.Limits.{most_parts}
 use Rattle.model_core.specs.declared.component.RawComponent.{RawComponent}
 use Rattle.component_text.specs.Marks.{Mark, word, is_word_mark, is_at}
-use Rattle.component_text.specs.Forms.{Bounds, limits, parts, none, One, Run, Nothing, Then, Choice, taken, other, Many, no_more, one_more, Of}
-use Rattle.component_text.specs.Grammar.{Within, IsFormula, IsPlaced, reference, is_reference, label_at, Names, SomeNames, labelled, Labelled, Line, begins_line, Lines, NamesBehind, SomeNamesBehind, LinesBehind, context_of, ContextBody, IsContext}
+use Rattle.component_text.specs.Forms.{Bounds, limits, parts, none, One, FormulaRun, Nothing, Then, Choice, taken, other, Many, no_more, one_more, Of}
+use Rattle.component_text.specs.Grammar.{Within, IsFormula, IsPlaced, reference, is_reference, label_at, Names, SomeNames, labelled, LabelledPart, FormulaLine, begins_line, Lines, NamesBehind, SomeNamesBehind, LinesBehind, context_of, ContextBody, IsContext}
 use Rattle.component_text.proofs.Parts.{Good, same_start_self, good_one}
 use Rattle.component_text.proofs.Components.{good_line, good_extends, good_sets, good_constants}
 
@@ -31,7 +31,7 @@ one_unique value b s x y m n h k =
     let values : Some x ≡ Some y = sym h.is ∙ ap value same ∙ k.is in
     cc
 
-pub run_unique : {X : Type 0} (F : Bounds → List Item → X → Type 0) → ((b : Bounds) (f : List Item) (x y : X) → F b f x → F b f y → x ≡ y) → Unique (Run F)
+pub run_unique : {X : Type 0} (F : Bounds → List Item → X → Type 0) → ((b : Bounds) (f : List Item) (x y : X) → F b f x → F b f y → x ≡ y) → Unique (FormulaRun F)
 run_unique F one b s x y m n h k = one b _ x y h.spelled k.spelled
 
 pub nothing_unique : {X : Type 0} (absent : X) → Unique (Nothing absent)
@@ -83,18 +83,18 @@ module _ (law : OneFormula) where
   pub placed_once : (h : Hole) (b : Bounds) (s : List Item) (p q : Raw × ℕ) → IsPlaced h b s p → IsPlaced h b s q → p ≡ q
   placed_once h b s p q k l = ap (λ (t : Raw). (t, p.1)) (formula_once h b s p.0 q.0 k.0 l.0) ∙ ap (λ (n : ℕ). (q.0, n)) (k.1 ∙ sym l.1)
 
-  predicate_unique : Unique (Run (IsPlaced hole.Predicate))
+  predicate_unique : Unique (FormulaRun (IsPlaced hole.Predicate))
   predicate_unique = run_unique (IsPlaced hole.Predicate) (placed_once hole.Predicate)
 
-  pub labelled_unique : (theorem : Bool) → Unique (Labelled theorem)
-  labelled_unique theorem = of_unique (labelled theorem) (Then (One label_at) (Run (IsPlaced hole.Predicate)))
-      (then_unique (One label_at) (Run (IsPlaced hole.Predicate)) (good_one label_at) (one_unique label_at) predicate_unique)
+  pub labelled_unique : (theorem : Bool) → Unique (LabelledPart theorem)
+  labelled_unique theorem = of_unique (labelled theorem) (Then (One label_at) (FormulaRun (IsPlaced hole.Predicate)))
+      (then_unique (One label_at) (FormulaRun (IsPlaced hole.Predicate)) (good_one label_at) (one_unique label_at) predicate_unique)
 
-  line_unique : Unique Line
-  line_unique = choice_unique (is_word_mark (codes "theorem")) (Labelled true) (Labelled false) (labelled_unique true) (labelled_unique false)
+  line_unique : Unique FormulaLine
+  line_unique = choice_unique (is_word_mark (codes "theorem")) (LabelledPart true) (LabelledPart false) (labelled_unique true) (labelled_unique false)
 
   pub lines_unique : Unique Lines
-  lines_unique = many_unique begins_line Line good_line line_unique
+  lines_unique = many_unique begins_line FormulaLine good_line line_unique
 
   pub names_unique : Unique Names
   names_unique = many_unique is_reference (One reference) (good_one reference) (one_unique reference)

@@ -16,7 +16,7 @@ pub record One {X : Type 0} (value : Mark → Option X) (b : Bounds) (s : List M
   pub is : value mark ≡ Some x
 
 -- a formula: all tokens before the next structural word or label
-pub record Run {X : Type 0} (F : Bounds → List Item → X → Type 0) (b : Bounds) (s : List Mark) (x : X) (rest : List Mark) : Type 0 where
+pub record FormulaRun {X : Type 0} (F : Bounds → List Item → X → Type 0) (b : Bounds) (s : List Mark) (x : X) (rest : List Mark) : Type 0 where
   pub spelled : F b (token_run s) x
   pub behind : rest ≡ behind_run s
 

@@ -13,7 +13,7 @@ use Rattle.model_core.specs.declared.component.RawLabelled.{RawLabelled}
 use Rattle.model_core.specs.declared.component.RawComponent.{RawComponent}
 use Rattle.model_core.specs.declared.component.RawComponent.TheVariants.{Context}
 use Rattle.component_text.specs.Marks.{Mark, word, label, plain, is_word_mark}
-use Rattle.component_text.specs.Forms.{Bounds, limits, parts, none, One, Run, Nothing, Then, Choice, Many, Of}
+use Rattle.component_text.specs.Forms.{Bounds, limits, parts, none, One, FormulaRun, Nothing, Then, Choice, Many, Of}
 
 -- what is spelled within the bounds
 abbrev pub Within : {X : Type 0} → (Option ℕ → List Item → X → Type 0) → Bounds → List Item → X → Type 0
@@ -66,19 +66,19 @@ SomeNames = Of (λ p. p.0 ∷ p.1) (Then (One reference) Names)
 abbrev pub labelled : Bool → ((List ℕ × ℕ) × (Raw × ℕ)) → RawLabelled
 labelled theorem p = record { label = p.0.0; theorem = theorem; formula = p.1.0; place = p.0.1; first = p.1.1 }
 
-abbrev pub Labelled : Bool → Bounds → List Mark → RawLabelled → List Mark → Type 0
-Labelled theorem = Of (labelled theorem) (Then (One label_at) (Run (IsPlaced hole.Predicate)))
+abbrev pub LabelledPart : Bool → Bounds → List Mark → RawLabelled → List Mark → Type 0
+LabelledPart theorem = Of (labelled theorem) (Then (One label_at) (FormulaRun (IsPlaced hole.Predicate)))
 
 -- ["theorem"] label pred
-abbrev pub Line : Bounds → List Mark → RawLabelled → List Mark → Type 0
-Line = Choice (is_word_mark (codes "theorem")) (Labelled true) (Labelled false)
+abbrev pub FormulaLine : Bounds → List Mark → RawLabelled → List Mark → Type 0
+FormulaLine = Choice (is_word_mark (codes "theorem")) (LabelledPart true) (LabelledPart false)
 
 abbrev pub begins_line : Mark → Bool
 begins_line x = is_a_label x || is_word_mark (codes "theorem") x
 
 -- {line}
 abbrev pub Lines : Bounds → List Mark → List RawLabelled → List Mark → Type 0
-Lines = Many begins_line Line
+Lines = Many begins_line FormulaLine
 
 -- [word {name}]
 abbrev pub NamesBehind : List ℕ → Bounds → List Mark → List Ref → List Mark → Type 0

@@ -16,8 +16,8 @@ use Rattle.model_core.specs.declared.component.RawComponent.{RawComponent}
 use Rattle.model_core.specs.declared.component.RawComponent.TheVariants.{Machine}
 use Rattle.component_text.specs.declared.machine.Abstracts.{Abstracts}
 use Rattle.component_text.specs.Marks.{Mark, word, label, plain, is_word_mark}
-use Rattle.component_text.specs.Forms.{Bounds, One, Run, Nothing, Then, Choice, Many, Of}
-use Rattle.component_text.specs.Grammar.{Within, IsPlaced, reference, label_at, is_a_label, Labelled, Lines, NamesBehind, SomeNamesBehind, LinesBehind, Headed, IsContext}
+use Rattle.component_text.specs.Forms.{Bounds, One, FormulaRun, Nothing, Then, Choice, Many, Of}
+use Rattle.component_text.specs.Grammar.{Within, IsPlaced, reference, label_at, is_a_label, LabelledPart, Lines, NamesBehind, SomeNamesBehind, LinesBehind, Headed, IsContext}
 
 abbrev pub IsActionWithin : Bounds → List Item → RawAction → Type 0
 IsActionWithin = Within SpellsAction
@@ -34,7 +34,7 @@ Refines = Choice (is_word_mark (codes "refines")) (Of Some (One reference)) (Not
 
 -- ["variant" [label] expr]
 abbrev pub Expression : Bounds → List Mark → (Raw × ℕ) → List Mark → Type 0
-Expression = Run (IsPlaced hole.Expression)
+Expression = FormulaRun (IsPlaced hole.Expression)
 
 abbrev pub VariantExpression : Bounds → List Mark → (Raw × ℕ) → List Mark → Type 0
 VariantExpression = Choice is_a_label Expression Expression
@@ -47,17 +47,17 @@ Variant = Choice (is_word_mark (codes "variant")) (Of variant_of VariantExpressi
 
 -- {label pred}
 abbrev pub Witnesses : Bounds → List Mark → List RawLabelled → List Mark → Type 0
-Witnesses = Many is_a_label (Labelled false)
+Witnesses = Many is_a_label (LabelledPart false)
 
 -- {label action}
 abbrev pub labelled_step : ((List ℕ × ℕ) × RawAction) → RawStep
 labelled_step p = record { label = p.0.0; action = p.1; place = p.0.1 }
 
-abbrev pub Step : Bounds → List Mark → RawStep → List Mark → Type 0
-Step = Of labelled_step (Then (One label_at) (Run IsActionWithin))
+abbrev pub ActionLine : Bounds → List Mark → RawStep → List Mark → Type 0
+ActionLine = Of labelled_step (Then (One label_at) (FormulaRun IsActionWithin))
 
 abbrev pub ManySteps : Bounds → List Mark → List RawStep → List Mark → Type 0
-ManySteps = Many is_a_label Step
+ManySteps = Many is_a_label ActionLine
 
 -- ["extends" name | "refines" name {name}]
 abbrev pub extending : Ref → Abstracts
@@ -104,8 +104,8 @@ EventBody c =
     (Then Guards (Then With (Then Actions (One (word_at (codes "end"))))))))))
 
 -- ["ordinary"|"convergent"|"anticipated"] "event" ..
-abbrev pub Event : Bounds → List Mark → RawEvent → List Mark → Type 0
-Event =
+abbrev pub EventPart : Bounds → List Mark → RawEvent → List Mark → Type 0
+EventPart =
     Choice (is_word_mark (codes "ordinary")) (EventBody Ordinary)
     (Choice (is_word_mark (codes "convergent")) (EventBody Convergent)
     (Choice (is_word_mark (codes "anticipated")) (EventBody Anticipated) (EventBody Ordinary)))
@@ -115,7 +115,7 @@ begins_event x = is_word_mark (codes "event") x || (is_word_mark (codes "ordinar
 
 -- ["events" {event}]
 abbrev pub EventList : Bounds → List Mark → List RawEvent → List Mark → Type 0
-EventList = Many begins_event Event
+EventList = Many begins_event EventPart
 
 abbrev pub Events : Bounds → List Mark → List RawEvent → List Mark → Type 0
 Events = Choice (is_word_mark (codes "events")) EventList (Nothing [])

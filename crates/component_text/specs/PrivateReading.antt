@@ -8,7 +8,7 @@ use Rattle.formula_parse.specs.declared.fault.ParseFault.TheVariants as fault
 use Rattle.component_text.specs.declared.stop.Stop.{Stop}
 use Rattle.component_text.specs.declared.stop.Stop.TheVariants as stop
 use Rattle.component_text.specs.Marks.{Mark, word, label, plain, token_run, behind_run, is_word_mark, is_at}
-use Rattle.component_text.specs.Forms.{Bounds, limits, parts, none, One, Run}
+use Rattle.component_text.specs.Forms.{Bounds, limits, parts, none, One, FormulaRun}
 use Rattle.component_text.specs.Grammar.{Names}
 use Rattle.component_text.specs.Faults.{opens_formula, IsLong, IsUnexpectedAt, IsTooLargeAt}
 
@@ -116,7 +116,7 @@ pub record FailsBy {X : Type 0} (F : Bounds → List Item → X → Type 0) (s :
 
 -- a formula was read, or it is refused at a token
 abbrev pub ReadsFormula : {X : Type 0} → (Bounds → List Item → X → Type 0) → List Mark → Result X Stop → List Mark → Type 0
-ReadsFormula F old (Ok t) new = Run F limits old t new
+ReadsFormula F old (Ok t) new = FormulaRun F limits old t new
 ReadsFormula F old (Err stop.Unexpected) new = (i : ℕ) × (new ≡ from_token i old) × FailsBy F (token_run old) (fault.Unexpected i)
 ReadsFormula F old (Err stop.TooLarge) new =
     (i : ℕ) × (new ≡ from_token i old) × FailsBy F (token_run old) (fault.TooLarge i)

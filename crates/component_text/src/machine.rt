@@ -1,7 +1,7 @@
 //! The grammar of machines, read from left to right.
 
-ghost use Rattle.component_text.specs.Grammar.{Labelled};
-ghost use Rattle.component_text.specs.Machines.{Refines, Variant, References, Guards, Witnesses, With, Step, ManySteps, Actions, EventBody, Event, EventList, Events, MachineBody, IsMachine, IsComponent};
+ghost use Rattle.component_text.specs.Grammar.{LabelledPart};
+ghost use Rattle.component_text.specs.Machines.{Refines, Variant, References, Guards, Witnesses, With, ActionLine, ManySteps, Actions, EventBody, EventPart, EventList, Events, MachineBody, IsMachine, IsComponent};
 ghost use Rattle.component_text.specs.PrivateReading.{ReadsOrStops, ReadsWhole};
 
 use crate::cursor::Cursor;
@@ -95,7 +95,7 @@ fn with(alloc: Global, cursor: &mut Cursor<'_, '_>) -> Result<List<RawLabelled>,
 }
 
 fn step(alloc: Global, cursor: &mut Cursor<'_, '_>) -> Result<RawStep, Stop>
-    ensures { ReadsOrStops Step cursor.old result cursor.new }
+    ensures { ReadsOrStops ActionLine cursor.old result cursor.new }
 {
     let Some((label, place)) = cursor.label(alloc)? else {
         return Err(Stop::Unexpected);
@@ -165,7 +165,7 @@ fn event_body(
 }
 
 fn event(alloc: Global, cursor: &mut Cursor<'_, '_>) -> Result<RawEvent, Stop>
-    ensures { ReadsOrStops Event cursor.old result cursor.new }
+    ensures { ReadsOrStops EventPart cursor.old result cursor.new }
 {
     if cursor.take_word("ordinary") {
         event_body(alloc, cursor, Convergence::Ordinary)

@@ -1,7 +1,7 @@
 //! The grammar of components, read from left to right: the next token decides.
 
 ghost use Rattle.std.specs.Prelude.{IfOk, ◌≡◌, false, bytes_eq, codes};
-ghost use Rattle.component_text.specs.Grammar.{Names, SomeNames, NamesBehind, SomeNamesBehind, Labelled, Line, Lines, LinesBehind, ContextBody, IsContext};
+ghost use Rattle.component_text.specs.Grammar.{Names, SomeNames, NamesBehind, SomeNamesBehind, LabelledPart, FormulaLine, Lines, LinesBehind, ContextBody, IsContext};
 ghost use Rattle.component_text.specs.PrivateReading.{ReadsOrStops, AddsNames, TakesEnd, ReadsWhole};
 
 use crate::cursor::Cursor;
@@ -82,7 +82,7 @@ pub fn labelled(
     cursor: &mut Cursor<'_, '_>,
     theorem: bool,
 ) -> Result<RawLabelled, Stop>
-    ensures { ReadsOrStops (Labelled theorem) cursor.old result cursor.new }
+    ensures { ReadsOrStops (LabelledPart theorem) cursor.old result cursor.new }
 {
     let Some((label, place)) = cursor.label(alloc)? else {
         return Err(Stop::Unexpected);
@@ -98,7 +98,7 @@ pub fn labelled(
 }
 
 fn line(alloc: Global, cursor: &mut Cursor<'_, '_>) -> Result<RawLabelled, Stop>
-    ensures { ReadsOrStops Line cursor.old result cursor.new }
+    ensures { ReadsOrStops FormulaLine cursor.old result cursor.new }
 {
     let theorem = cursor.take_word("theorem");
     labelled(alloc, cursor, theorem)

@@ -12,8 +12,8 @@ use Rattle.model_core.specs.declared.component.RawStep.{RawStep}
 use Rattle.model_core.specs.declared.component.RawComponent.{RawComponent}
 use Rattle.component_text.specs.Marks.{Mark, word, label, plain, marks_of, is_word_mark}
 use Rattle.component_text.specs.Forms.{Bounds, limits, One, Nothing, Choice, taken, other, Many, no_more, one_more, Of}
-use Rattle.component_text.specs.Grammar.{reference, label_at, is_reference, is_a_label, begins_line, context_of, Names, Labelled, Line, Lines, NamesBehind, LinesBehind, ContextBody}
-use Rattle.component_text.specs.Machines.{either, begins_event, event_of, machine_of, Witnesses, Step, ManySteps, Guards, With, Actions, EventBody, Event, EventList, Events, MachineBody, IsComponent, a_context, a_machine}
+use Rattle.component_text.specs.Grammar.{reference, label_at, is_reference, is_a_label, begins_line, context_of, Names, LabelledPart, FormulaLine, Lines, NamesBehind, LinesBehind, ContextBody}
+use Rattle.component_text.specs.Machines.{either, begins_event, event_of, machine_of, Witnesses, ActionLine, ManySteps, Guards, With, Actions, EventBody, EventPart, EventList, Events, MachineBody, IsComponent, a_context, a_machine}
 use Rattle.name_laws.specs.Labels.{IsPlain}
 use Rattle.name_laws.specs.Written.{IsPlainlyWrittenEvent, IsPlainlyWritten}
 use Rattle.name_laws.proofs.Lists.{all_map}
@@ -86,16 +86,16 @@ name_plain = one_gives reference HasPlainName reference_plain
 names_plain : (w : List ℕ) → Gives (NamesBehind w) (AllByRecursion HasPlainName)
 names_plain w = choice_gives (is_word_mark w) Names (Nothing []) (AllByRecursion HasPlainName) (many_gives is_reference (One reference) HasPlainName name_plain) (nothing_gives [] (AllByRecursion HasPlainName) tt)
 
-labelled_plain : (theorem : Bool) → Gives (Labelled theorem) HasPlainLabel
+labelled_plain : (theorem : Bool) → Gives (LabelledPart theorem) HasPlainLabel
 labelled_plain theorem b s l rest o = subst HasPlainLabel o.is (label_plain o.part.first.mark o.from.0 o.part.first.is)
 
 lines_plain : Gives Lines (AllByRecursion HasPlainLabel)
-lines_plain = many_gives begins_line Line HasPlainLabel (choice_gives (is_word_mark (codes "theorem")) (Labelled true) (Labelled false) HasPlainLabel (labelled_plain true) (labelled_plain false))
+lines_plain = many_gives begins_line FormulaLine HasPlainLabel (choice_gives (is_word_mark (codes "theorem")) (LabelledPart true) (LabelledPart false) HasPlainLabel (labelled_plain true) (labelled_plain false))
 
 lines_behind_plain : (w : List ℕ) → Gives (LinesBehind w) (AllByRecursion HasPlainLabel)
 lines_behind_plain w = choice_gives (is_word_mark w) Lines (Nothing []) (AllByRecursion HasPlainLabel) lines_plain (nothing_gives [] (AllByRecursion HasPlainLabel) tt)
 
-step_plain : Gives Step HasPlainStep
+step_plain : Gives ActionLine HasPlainStep
 step_plain b s x rest o = subst HasPlainStep o.is (label_plain o.part.first.mark o.from.0 o.part.first.is)
 
 -- Events.
@@ -105,11 +105,11 @@ guards_plain = choice_gives (either (codes "where") (codes "when")) Lines (Nothi
 
 witnesses_plain : Gives With (AllByRecursion HasPlainLabel)
 witnesses_plain = choice_gives (is_word_mark (codes "with")) Witnesses (Nothing []) (AllByRecursion HasPlainLabel)
-    (many_gives is_a_label (Labelled false) HasPlainLabel (labelled_plain false)) (nothing_gives [] (AllByRecursion HasPlainLabel) tt)
+    (many_gives is_a_label (LabelledPart false) HasPlainLabel (labelled_plain false)) (nothing_gives [] (AllByRecursion HasPlainLabel) tt)
 
 actions_plain : Gives Actions (AllByRecursion HasPlainStep)
 actions_plain = choice_gives (either (codes "then") (codes "begin")) ManySteps (Nothing []) (AllByRecursion HasPlainStep)
-    (many_gives is_a_label Step HasPlainStep step_plain) (nothing_gives [] (AllByRecursion HasPlainStep) tt)
+    (many_gives is_a_label ActionLine HasPlainStep step_plain) (nothing_gives [] (AllByRecursion HasPlainStep) tt)
 
 event_body_plain : (c : Convergence) → Gives (EventBody c) IsPlainlyWrittenEvent
 event_body_plain c b s e rest o =
@@ -127,7 +127,7 @@ event_body_plain c b s e rest o =
     } in
     subst IsPlainlyWrittenEvent o.is mine
 
-event_plain : Gives Event IsPlainlyWrittenEvent
+event_plain : Gives EventPart IsPlainlyWrittenEvent
 event_plain =
     choice_gives (is_word_mark (codes "ordinary")) (EventBody Ordinary) (Choice (is_word_mark (codes "convergent")) (EventBody Convergent) (Choice (is_word_mark (codes "anticipated")) (EventBody Anticipated) (EventBody Ordinary))) IsPlainlyWrittenEvent
     (event_body_plain Ordinary)
@@ -136,7 +136,7 @@ event_plain =
 
 events_plain : Gives Events (AllByRecursion IsPlainlyWrittenEvent)
 events_plain = choice_gives (is_word_mark (codes "events")) EventList (Nothing []) (AllByRecursion IsPlainlyWrittenEvent)
-    (many_gives begins_event Event IsPlainlyWrittenEvent event_plain) (nothing_gives [] (AllByRecursion IsPlainlyWrittenEvent) tt)
+    (many_gives begins_event EventPart IsPlainlyWrittenEvent event_plain) (nothing_gives [] (AllByRecursion IsPlainlyWrittenEvent) tt)
 
 -- Components.
 

@@ -17,7 +17,7 @@ use Rattle.model_core.specs.declared.component.RawComponent.{RawComponent}
 use Rattle.component_text.specs.Marks.{Mark, word, label, plain, marks_of, is_word_mark}
 use Rattle.component_text.specs.Forms.{Bounds, limits, parts, none, One, Nothing, Choice, taken, other, Many, no_more, one_more}
 use Rattle.component_text.specs.Grammar.{reference, is_reference, is_a_label, context_of, Names, NamesBehind, ContextBody}
-use Rattle.component_text.specs.Machines.{IsActionWithin, either, begins_event, event_of, machine_of, Step, ManySteps, Actions, EventBody, Event, EventList, Events, MachineBody, IsComponent, a_context, a_machine}
+use Rattle.component_text.specs.Machines.{IsActionWithin, either, begins_event, event_of, machine_of, ActionLine, ManySteps, Actions, EventBody, EventPart, EventList, Events, MachineBody, IsComponent, a_context, a_machine}
 use Rattle.component_text.specs.Spelled.{IsRead}
 use Rattle.check_rules.specs.Assignments.{written_targets}
 use Rattle.checked_laws.specs.Laws.{DeclareIdentifiers, DeclaresIdentifiers, AssignsSomething}
@@ -83,11 +83,11 @@ act_assigns none s a h = spelled_assigns None s a h
 abbrev HasWrittenTargets : RawStep → Type 0
 HasWrittenTargets s = written_targets s.action ≢ []
 
-step_assigns : Gives Step HasWrittenTargets
+step_assigns : Gives ActionLine HasWrittenTargets
 step_assigns b s x rest o = subst HasWrittenTargets o.is (act_assigns b _ o.from.1 o.part.second.spelled)
 
 actions_assign : Gives Actions (AllByRecursion HasWrittenTargets)
-actions_assign = list_gives (either (codes "then") (codes "begin")) ManySteps HasWrittenTargets (many_gives is_a_label Step HasWrittenTargets step_assigns)
+actions_assign = list_gives (either (codes "then") (codes "begin")) ManySteps HasWrittenTargets (many_gives is_a_label ActionLine HasWrittenTargets step_assigns)
 
 -- Events.
 
@@ -107,7 +107,7 @@ event_body_written c b s e rest o =
     ) in
     subst IsWritten o.is mine
 
-event_written : Gives Event IsWritten
+event_written : Gives EventPart IsWritten
 event_written =
     choice_gives (is_word_mark (codes "ordinary")) (EventBody Ordinary) (Choice (is_word_mark (codes "convergent")) (EventBody Convergent) (Choice (is_word_mark (codes "anticipated")) (EventBody Anticipated) (EventBody Ordinary))) IsWritten
     (event_body_written Ordinary)
@@ -115,7 +115,7 @@ event_written =
     (choice_gives (is_word_mark (codes "anticipated")) (EventBody Anticipated) (EventBody Ordinary) IsWritten (event_body_written Anticipated) (event_body_written Ordinary)))
 
 events_written : Gives Events (AllByRecursion IsWritten)
-events_written = list_gives (is_word_mark (codes "events")) EventList IsWritten (many_gives begins_event Event IsWritten event_written)
+events_written = list_gives (is_word_mark (codes "events")) EventList IsWritten (many_gives begins_event EventPart IsWritten event_written)
 
 -- Components.
 

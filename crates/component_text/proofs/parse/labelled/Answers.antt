@@ -1,4 +1,4 @@
-use Rattle.component_text.specs.Grammar.{Labelled}
+use Rattle.component_text.specs.Grammar.{LabelledPart}
 use Rattle.component_text.proofs.Components.{exit_with, labelled_none, labelled_read, labelled_stops}
 use Rattle.component_text.proofs.parse.labelled.Goals as goal
 
@@ -7,7 +7,7 @@ returns-in_default c = labelled_none c.args.theorem c.args.cursor.now c.label.ne
 
 pub returns-in_err-formula : goal.returns-in_err-formula
 returns-in_err-formula c =
-    exit_with (Labelled c.args.theorem) c.args.cursor.now c.predicate.new.self c.from_residual-in_err-formula.result c.in_err-formula.field-0.0 c.from_residual-in_err-formula.ensures.1
+    exit_with (LabelledPart c.args.theorem) c.args.cursor.now c.predicate.new.self c.from_residual-in_err-formula.result c.in_err-formula.field-0.0 c.from_residual-in_err-formula.ensures.1
     (labelled_stops c.args.theorem c.args.cursor.now c.label.new.self c.predicate.new.self (c.in-Some.label, c.in-Some.place) c.in_err-formula.field-0.0 (rw c.in-Some.is at c.in_ok-label.ensures) c.in_err-formula.ensures)
 
 pub returns : goal.returns
