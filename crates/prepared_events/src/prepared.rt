@@ -50,7 +50,13 @@ impl Model for Prepared {
 
     ghost Value = { Ready };
 
-    ghost coded = { Prim.hlevel (codes, reply_of.the_row.coded, entry_of.the_row.coded, moves_of.the_row.coded, map.code {R = text_cmp} (coded_list coded_ℕ) (coded_list coded_ℕ)) };
+    ghost coded = { Prim.hlevel (
+      codes,
+      reply_of.the_row.coded,
+      entry_of.the_row.coded,
+      moves_of.the_row.coded,
+      map.code {R = text_cmp} (coded_list coded_ℕ) (coded_list coded_ℕ),
+    ) };
 
     ghost use Rattle.prepared_events.specs.Kept.{HasFacts};
 

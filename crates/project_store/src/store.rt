@@ -95,7 +95,15 @@ impl<D: Disk> Model for Store<D> {
     ghost use Rattle.core_steps.specs.contracts.events.Event as event_of;
     ghost use Rattle.project_store.specs.contracts.fault.KeptFault as kept_of;
 
-    ghost coded = { Prim.hlevel (codes, D.code, lasting.the_row.coded, taken.the_row.coded, event_of.the_row.coded, kept_of.the_row.coded, map.code {R = text_cmp} (coded_list coded_ℕ) goal_of.the_row.coded) };
+    ghost coded = { Prim.hlevel (
+      codes,
+      D.code,
+      lasting.the_row.coded,
+      taken.the_row.coded,
+      event_of.the_row.coded,
+      kept_of.the_row.coded,
+      map.code {R = text_cmp} (coded_list coded_ℕ) goal_of.the_row.coded,
+    ) };
 
     ghost view = { λ s. record {
       journal = s.journal;

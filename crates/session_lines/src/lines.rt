@@ -34,7 +34,8 @@ impl Model for Lines {
 
     ghost view = { λ c. record { left = drop c.start c.bytes.items; ended = c.ended } };
 
-    ghost invariant = { λ c. (c.start ≤ c.scanned) × (c.scanned ≤ length c.bytes.items) × HasNoFeed (take (c.scanned - c.start) (drop c.start c.bytes.items)) };
+    ghost invariant = { λ c. (c.start ≤ c.scanned) × (c.scanned ≤ length c.bytes.items)
+        × HasNoFeed (take (c.scanned - c.start) (drop c.start c.bytes.items)) };
 }
 
 impl Lines {

@@ -33,7 +33,8 @@ impl<V: EventStore> Act<V> for Apply {
 
     ghost use Rattle.store_log.specs.Storing.{Handles};
 
-    ghost does = { λ act k before answer after. Handles (V.base before) k act.event (V.log before) answer (V.log after) };
+    ghost does = { λ act k before answer after.
+        Handles (V.base before) k act.event (V.log before) answer (V.log after) };
 
     fn act(self, chair: u32, value: &mut V) -> Result<Reply, StoreFault> {
         let Apply { event } = self;
