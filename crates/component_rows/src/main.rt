@@ -12,14 +12,17 @@
 //!   with kind, line, column and words, or that it is checked.
 //! - `! built`: of each project behind a line `# TITLE` that line, its faults and warnings, and then each obligation: its
 //!   name, its identifiers with their types, its hypotheses and its goal. Where the title ends in ` names`, the names alone
-//!   come. A line `## then` in a project stands between its text and an edited one, which is built behind it. Of these come
-//!   how many obligations of the new table are those of before, `the same table` where it is, and whether table, places,
-//!   faults and warnings are `as from nothing`. Where the title ends in ` often`, the project is edited and edited back
-//!   twenty times, for who times it, and the number of its obligations comes.
+//!   come. Behind them comes a line for each component without fault, by name: how many obligations it has, how many of them
+//!   it owes by itself and how many beside, and that all of them have `the same names` as in the table. A line `## then` in a
+//!   project stands between its text and an edited one, which is built behind it. Of these come how many obligations of the
+//!   new table are those of before, `the same table` where it is, and whether table, places, faults and warnings are `as from
+//!   nothing`. Where the title ends in ` often`, the project is edited and edited back twenty times, for who times it, and
+//!   the number of its obligations comes.
 #![tactic(auto)]
 
 mod builds;
 mod compared;
+mod lists;
 mod pieces;
 mod projects;
 mod readings;

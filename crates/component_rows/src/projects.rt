@@ -2,6 +2,7 @@
 
 use crate::builds::{build_again, build_each};
 use crate::compared::add_compared;
+use crate::lists::add_lists;
 use crate::pieces::{Piece, add};
 use crate::sequents::add_table;
 use crate::told::{add_told, add_verdicts};
@@ -66,7 +67,8 @@ fn add_first(
     match part {
         Part::Built => {
             add_told(builder, out)?;
-            add_table(alloc, title.ends_with(" names"), builder, out)
+            add_table(alloc, title.ends_with(" names"), builder, out)?;
+            add_lists(alloc, builder, out)
         }
         _ => add_verdicts(builder, out),
     }

@@ -9,7 +9,7 @@
 //! | `projects` | the same with the word `check` |
 //! | `inputs` | the same with the word `check` and the prover by hypotheses; the exit status, the number of events and what the program writes stand in the line of its name |
 //! | `events` | events on a store, and on a core alone: see below |
-//! | `bytes` | bytes that are read as entries; for each version the entries are printed, or where the good ones end |
+//! | `bytes` | bytes that are read as entries; for each version the entries are printed, or where the good ones end; behind those of version 1 stands `written again` where they are written to these bytes again |
 //!
 //! | line | |
 //! |---|---|
