@@ -150,34 +150,7 @@ module _ (m : Main) (b : Body) (g : b.goal ≡ m.goal) (h : b.hyps ≡ m.hyps) w
   made_again kind.FunIn e =
       let w = then_some (first m.hyps) (λ x. option_and_then (fun_in x) m.chosen) b e in
       let v = then_some m.chosen (fun_in w.0) b w.2 in with_choice kind.FunIn v.0 v.1 (chosen_by_fun_in w.0 v.0 b v.2) e
-  made_again kind.Hyp e = by_needed kind.Hyp e
-  made_again (kind.AllL terms) e = by_needed (kind.AllL terms) e
-  made_again (kind.ExR terms) e = by_needed (kind.ExR terms) e
-  made_again (kind.RwGoal law place) e = by_needed (kind.RwGoal law place) e
-  made_again (kind.RwHyp law place) e = by_needed (kind.RwHyp law place) e
-  made_again (kind.Linear ks) e = by_needed (kind.Linear ks) e
-  made_again kind.Top e = by_needed kind.Top e
-  made_again kind.Bot e = by_needed kind.Bot e
-  made_again kind.Contr e = by_needed kind.Contr e
-  made_again kind.AndR e = by_needed kind.AndR e
-  made_again kind.AndL e = by_needed kind.AndL e
-  made_again kind.OrR e = by_needed kind.OrR e
-  made_again kind.OrL e = by_needed kind.OrL e
-  made_again kind.ImpR e = by_needed kind.ImpR e
-  made_again kind.ImpL e = by_needed kind.ImpL e
-  made_again kind.Mp e = by_needed kind.Mp e
-  made_again kind.IffR e = by_needed kind.IffR e
-  made_again kind.IffL e = by_needed kind.IffL e
-  made_again kind.NotR e = by_needed kind.NotR e
-  made_again kind.NotL e = by_needed kind.NotL e
-  made_again kind.Contra e = by_needed kind.Contra e
-  made_again kind.Review e = by_needed kind.Review e
-  made_again kind.EqRefl e = by_needed kind.EqRefl e
-  made_again kind.EqGoal e = by_needed kind.EqGoal e
-  made_again kind.EqHyp e = by_needed kind.EqHyp e
-  made_again kind.BoolDiff e = by_needed kind.BoolDiff e
-  made_again kind.FunEq e = by_needed kind.FunEq e
-  made_again kind.OverOther e = by_needed kind.OverOther e
+  made_again k e = by_needed k e
 
 -- what was named is what is needed
 same_goal_exact : (o p : Option Formula) → same_goal o p ≡ true → o ≡ p

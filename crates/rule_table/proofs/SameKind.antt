@@ -27,40 +27,7 @@ made n law place multipliers terms = slice_get (kinds law place multipliers term
 
 made_of : (k : RuleKind) → made (kind_number k) (law_in k) (place_in k) (multipliers_in k) (terms_of k) ≡ Some k
 made_of kind.Hyp = refl
-made_of kind.Top = refl
-made_of kind.Bot = refl
-made_of kind.Contr = refl
-made_of kind.AndR = refl
-made_of kind.AndL = refl
-made_of kind.OrR = refl
-made_of kind.OrL = refl
-made_of kind.ImpR = refl
-made_of kind.ImpL = refl
-made_of kind.Mp = refl
-made_of kind.IffR = refl
-made_of kind.IffL = refl
-made_of kind.NotR = refl
-made_of kind.NotL = refl
-made_of kind.Contra = refl
-made_of kind.AllR = refl
-made_of (kind.AllL terms) = refl
-made_of (kind.ExR terms) = refl
-made_of kind.ExL = refl
-made_of kind.Cut = refl
-made_of kind.Cases = refl
-made_of kind.Review = refl
-made_of kind.EqRefl = refl
-made_of kind.EqGoal = refl
-made_of kind.EqHyp = refl
-made_of kind.BoolCases = refl
-made_of kind.BoolDiff = refl
-made_of (kind.RwGoal law place) = refl
-made_of (kind.RwHyp law place) = refl
-made_of (kind.Linear multipliers) = refl
-made_of kind.CardNat = refl
-made_of kind.FunIn = refl
-made_of kind.FunEq = refl
-made_of kind.OverOther = refl
+made_of _ = refl
 
 some_same : (a b : RuleKind) → Some a ≡ Some b → a ≡ b
 some_same a b e = cc e
