@@ -4,7 +4,7 @@ use Rattle.std.specs.Prelude.{Option, Some, None}
 use Rattle.std.proofs.lemmas.List.{take_more}
 use Rattle.std.proofs.lemmas.Bool.Decides.{Decides-ltb, Decides-eqb}
 use Rattle.model_core.specs.declared.fault.Fault.{Fault}
-use Rattle.model_core.specs.Faults.{fault_rank, comes_before, earlier, first_by_place}
+use Rattle.model_core.specs.Faults.{number, comes_before, earlier, first_by_place}
 use Rattle.model_core.specs.Each.{at_each}
 
 or_cases : (a b : Bool) → (a || b) ≡ true → (a ≡ true) ⊎ (b ≡ true)
@@ -35,16 +35,16 @@ less_or zero (suc b) = inl (omega arith)
 less_or (suc a) zero = inr (omega arith)
 less_or (suc a) (suc b) = elim (less_or a b) [ inl h ↦ inl (omega (arith, h)) | inr h ↦ inr (omega (arith, h)) ]
 
-known : (a b : Fault) → comes_before a b ≡ true → (a.place < b.place) ⊎ ((a.place ≡ b.place) × (fault_rank a.kind < fault_rank b.kind))
+known : (a b : Fault) → comes_before a b ≡ true → (a.place < b.place) ⊎ ((a.place ≡ b.place) × (number a.kind < number b.kind))
 known a b e = elim (or_cases (nat_lt a.place b.place) _ e) [
   | inl l ↦ inl ((Decides-ltb a.place b.place).0 l)
-  | inr h ↦ inr ((Decides-eqb a.place b.place).0 (and_both (a.place == b.place) _ h).0, (Decides-ltb (fault_rank a.kind) (fault_rank b.kind)).0 (and_both (a.place == b.place) _ h).1)
+  | inr h ↦ inr ((Decides-eqb a.place b.place).0 (and_both (a.place == b.place) _ h).0, (Decides-ltb (number a.kind) (number b.kind)).0 (and_both (a.place == b.place) _ h).1)
 ]
 
-told : (a b : Fault) → (a.place < b.place) ⊎ ((a.place ≡ b.place) × (fault_rank a.kind < fault_rank b.kind)) → comes_before a b ≡ true
+told : (a b : Fault) → (a.place < b.place) ⊎ ((a.place ≡ b.place) × (number a.kind < number b.kind)) → comes_before a b ≡ true
 told a b h = or_true (nat_lt a.place b.place) _ (elim h [
   | inl l ↦ inl ((Decides-ltb a.place b.place).1 l)
-  | inr p ↦ inr (and_of (a.place == b.place) _ ((Decides-eqb a.place b.place).1 p.0) ((Decides-ltb (fault_rank a.kind) (fault_rank b.kind)).1 p.1))
+  | inr p ↦ inr (and_of (a.place == b.place) _ ((Decides-eqb a.place b.place).1 p.0) ((Decides-ltb (number a.kind) (number b.kind)).1 p.1))
 ])
 
 through : (p q r k l m : ℕ) → (p < q) ⊎ ((p ≡ q) × (k < l)) → (q < r) ⊎ ((q ≡ r) × (l < m)) → (p < r) ⊎ ((p ≡ r) × (k < m))
@@ -79,10 +79,10 @@ false_true b e f = absurd (unequal (sym f ∙ e))
 chosen : (a b c : Fault) (x y z : Bool) → comes_before b a ≡ x → comes_before c b ≡ y → comes_before c a ≡ z →
     earlier (earlier (Some a) (Some b)) (Some c) ≡ earlier (Some a) (earlier (Some b) (Some c))
 chosen a b c true true true e f g = rw (e, f, g) refl
-chosen a b c true true false e f g = false_true (comes_before c a) (told c a (through c.place b.place a.place (fault_rank c.kind) (fault_rank b.kind) (fault_rank a.kind) (known c b f) (known b a e))) g
+chosen a b c true true false e f g = false_true (comes_before c a) (told c a (through c.place b.place a.place (number c.kind) (number b.kind) (number a.kind) (known c b f) (known b a e))) g
 chosen a b c true false z e f g = rw (e, f) (rw e refl)
 chosen a b c false true z e f g = rw (e, f) refl
-chosen a b c false false true e f g = elim (between c.place b.place a.place (fault_rank c.kind) (fault_rank b.kind) (fault_rank a.kind) (known c a g)) [
+chosen a b c false false true e f g = elim (between c.place b.place a.place (number c.kind) (number b.kind) (number a.kind) (known c a g)) [
   | inl h ↦ false_true (comes_before b a) (told b a h) e
   | inr h ↦ false_true (comes_before c b) (told c b h) f
 ]

@@ -31,13 +31,9 @@ number kind.BadWitness = 22
 number kind.Lost = 23
 number kind.BadConvergence = 24
 
--- the number that counts on one place, where a formula too large (4) goes before an unexpected token (3)
-abbrev pub fault_rank : FaultKind → ℕ
-fault_rank k = if number k == 4 then 2 else number k
-
 -- of one phase: an earlier place, or a lower number on one place
 abbrev pub comes_before : Fault → Fault → Bool
-comes_before a b = nat_lt a.place b.place || a.place == b.place && nat_lt (fault_rank a.kind) (fault_rank b.kind)
+comes_before a b = nat_lt a.place b.place || a.place == b.place && nat_lt (number a.kind) (number b.kind)
 
 -- the earlier of two, and of two that tie the first
 abbrev pub earlier : Option Fault → Option Fault → Option Fault

@@ -1,7 +1,7 @@
 //! Faults of components.
 
 ghost use Rattle.std.specs.Prelude.{◌≡◌, ◌++◌, IfOk};
-ghost use Rattle.model_core.specs.Faults.{number, fault_rank, comes_before, earlier, fault_at};
+ghost use Rattle.model_core.specs.Faults.{number, comes_before, earlier, fault_at};
 
 use formula_core::{Name, OutOfMemory, Text};
 use std::alloc::Global;
@@ -67,14 +67,6 @@ impl FaultKind {
             FaultKind::BadConvergence => 24,
         }
     }
-
-    /// The place of a kind among those of one phase at one byte: a formula too large goes before an unexpected token.
-    fn rank(self) -> u8
-        ensures { result ≡ fault_rank self }
-    {
-        let number = self.number();
-        if number == 4 { 2 } else { number }
-    }
 }
 
 /// A fault of a component: its byte place in the component's text, and the name, label or token that its message shows,
@@ -91,7 +83,7 @@ fn comes_before(first: &Fault, second: &Fault) -> bool
     ensures { result ≡ comes_before first.now second.now }
 {
     first.place < second.place
-        || first.place == second.place && first.kind.rank() < second.kind.rank()
+        || first.place == second.place && first.kind.number() < second.kind.number()
 }
 
 /// The earlier of two faults of one phase, if there is one. Of two that tie it is the first.

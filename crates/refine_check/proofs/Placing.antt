@@ -15,7 +15,7 @@ use Rattle.std.proofs.lemmas.Map.Text.{btree_map_updates_str}
 use Rattle.model_core.specs.declared.fault.Fault.{Fault}
 use Rattle.model_core.specs.declared.fault.FaultKind.{FaultKind}
 use Rattle.model_core.specs.Each.{is_among}
-use Rattle.model_core.specs.Faults.{fault_rank, comes_before, earlier, first_by_place, fault_at}
+use Rattle.model_core.specs.Faults.{number, comes_before, earlier, first_by_place, fault_at}
 use Rattle.model_core.proofs.Lists.{any_append, at_index}
 use Rattle.refine_check.specs.Private.{first_index, lower, index_in}
 use Rattle.model_core.specs.Borrowed.{texts}
@@ -113,7 +113,7 @@ one_placed list i d inside before after u h text =
     at false (Some k) = let e : (i + 1) + k ≡ i + suc k = omega arith in ap (λ n. Some n) e
 
 tied : (component : List ℕ) (k : FaultKind) (place : ℕ) (one other : List ℕ) → comes_before (fault_at component k place other) (fault_at component k place one) ≡ false
-tied component k place one other = at (nat_lt place place) (nat_lt (fault_rank k) (fault_rank k)) (place == place) (grind (arith, nat_tests)) (grind (arith, nat_tests))
+tied component k place one other = at (nat_lt place place) (nat_lt (number k) (number k)) (place == place) (grind (arith, nat_tests)) (grind (arith, nat_tests))
   where
     at : (x y z : Bool) → x ≡ false → y ≡ false → (x || (z && y)) ≡ false
     at true y z e f = e

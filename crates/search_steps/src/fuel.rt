@@ -54,9 +54,4 @@ impl Search {
         self.most_looks = before.1;
         self.steps_made <= self.most_steps && self.looks <= self.most_looks
     }
-
-    /// How many steps were made.
-    pub fn steps_made(&self) -> u32 {
-        self.steps_made
-    }
 }
