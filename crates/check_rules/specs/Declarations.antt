@@ -13,8 +13,8 @@ abbrev pub LabelAt : Type 0
 LabelAt = List ℕ × ℕ
 
 -- a reference to a context, with that context
-abbrev pub Part : Type 0
-Part = Ref × CheckedContext
+abbrev pub ContextPart : Type 0
+ContextPart = Ref × CheckedContext
 
 -- `NAME is declared twice`: a name that is known, or stands before it
 abbrev pub declared_twice_row : List ℕ → List (List ℕ) → List Ref → Ref → List Fault
@@ -25,11 +25,11 @@ abbrev pub declared_twice : List ℕ → List (List ℕ) → List Ref → List F
 declared_twice component known refs = at_each (declared_twice_row component known) [] refs
 
 -- `NAME is declared twice`: a reference to a context brings a name of another component
-abbrev pub brings_clash_row : List ℕ → Visible → List Part → Part → List Fault
+abbrev pub brings_clash_row : List ℕ → Visible → List ContextPart → ContextPart → List Fault
 brings_clash_row component v before x =
     map (λ n. fault_at component kind.DeclaredTwice x.0.place n.0.0) (clashing (all_visible (seen_from v (map (λ b. b.1) before))) (of_context x.1))
 
-abbrev pub brings_clash : List ℕ → Visible → List Part → List Fault
+abbrev pub brings_clash : List ℕ → Visible → List ContextPart → List Fault
 brings_clash component v parts = at_each (brings_clash_row component v) [] parts
 
 -- `label LABEL twice`: a label that is inherited, or stands before it

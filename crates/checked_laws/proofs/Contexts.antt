@@ -24,7 +24,7 @@ use Rattle.model_core.specs.declared.checked.Labelled.{Labelled}
 use Rattle.model_core.specs.Each.{at_each, is_among}
 use Rattle.model_core.specs.Faults.{first_by_place}
 use Rattle.check_rules.specs.Contexts.{Outcome, names_of, labels_of, carrier_set, context_env, checked_context_of, context_declarations, ChecksAxioms, ChecksContext}
-use Rattle.check_rules.specs.Declarations.{Part, brings_clash_row, brings_clash, declared_twice, labelled_twice}
+use Rattle.check_rules.specs.Declarations.{ContextPart, brings_clash_row, brings_clash, declared_twice, labelled_twice}
 use Rattle.check_rules.specs.Typed.{Entries, AreTyped, never_typed, in_order}
 use Rattle.check_rules.specs.Visible.{Identifiers, Visible, nothing, all_visible, entries, origins, names, of_context, with_context, seen_from, clashing}
 use Rattle.checked_laws.specs.Projects.{ProjectNames, AreOf, AreConstantsOf, DeclaresIn, Has, BelongsTo}
@@ -69,7 +69,7 @@ variables_kept v (c ∷ cs) = variables_kept (with_context v c) cs
 abbrev pub IsGoodContext : ProjectNames → CheckedContext → Type 0
 IsGoodContext project c = IsSoundContext c × AreConstantsOf project (of_context c)
 
-abbrev contexts_before : List Part → List CheckedContext
+abbrev contexts_before : List ContextPart → List CheckedContext
 contexts_before before = map (λ b. b.1) before
 
 -- the view with more contexts is sound, and what stood in the old one stands there
@@ -78,7 +78,7 @@ pub record IsSoundOver (project : ProjectNames) (old new : Visible) : Type 0 whe
   pub within : IsWithin (all_entries old) (all_entries new)
   pub constants : IsWithin (entries old.constants) (entries new.constants)
 
-view_at : (project : ProjectNames) (component : List ℕ) (v : Visible) (before : List Part) (refs : List Ref) (cs : List CheckedContext) →
+view_at : (project : ProjectNames) (component : List ℕ) (v : Visible) (before : List ContextPart) (refs : List Ref) (cs : List CheckedContext) →
     IsSoundOver project v (seen_from v (contexts_before before)) → at_each (brings_clash_row component v) before (zip refs cs) ≡ [] → length cs ≡ length refs →
     AllByRecursion (IsGoodContext project) cs → IsSoundOver project v (seen_from (seen_from v (contexts_before before)) cs)
 view_at project component v before refs [] over clear n good = over

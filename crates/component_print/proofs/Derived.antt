@@ -28,7 +28,7 @@ use Rattle.math_grammar.specs.declared.symbols.Symbol.TheVariants as sym
 use Rattle.math_grammar.specs.declared.shapes.Shape.{Shape}
 use Rattle.math_grammar.specs.Levels.{infix_of, binder_of, implicit_of, takes_names, takes_shape}
 use Rattle.math_grammar.specs.Tokens.{Item}
-use Rattle.math_grammar.specs.Grammar.{Reads, a_name, a_number, a_truth, a_constant, prefixed, two_sides, in_parentheses, called, applied, converted, set_by_members, by_names, by_shape, lambda, Parts, last_one, next_one, TypeOf, last_side, first_side, Bound, bare, of_type, Declares, last_name, next_name, Body, a_predicate, a_value, LastPart, up_to_brace, reaching, Pattern, last_atom, next_atom, Atom, bare_atom, typed_atom, grouped_atom, type_with, joined_shape, lone, bound, place_of}
+use Rattle.math_grammar.specs.Grammar.{Reads, a_name, a_number, a_truth, a_constant, prefixed, two_sides, in_parentheses, called, applied, converted, set_by_members, by_names, by_shape, lambda, Parts, last_one, next_one, TypeOf, last_side, first_side, Bound, bare, of_type, Declares, last_name, next_name, BinderBody, a_predicate, a_value, LastPart, up_to_brace, reaching, Pattern, last_atom, next_atom, Atom, bare_atom, typed_atom, grouped_atom, type_with, joined_shape, lone, bound, place_of}
 use Rattle.token_text.specs.Spacing.{is_space}
 use Rattle.token_text.proofs.Following.{stops, Follows}
 use Rattle.math_grammar.specs.Characters.{bytes}
@@ -273,7 +273,7 @@ module _ (limit : Option ℕ) where
         let later = names_printed more own.1.1 in
         (b, later.0 ∷ later.1, later.2 ∙ append_assoc before (b ∷ []) (later.0 ∷ later.1), (own.0, later.3), later.4)
 
-    body_printed : {c : Binding} {before parts : List Raw} {s rest : List Item} → Body limit c before s parts rest → AllProper s → BodyPrinted before parts rest
+    body_printed : {c : Binding} {before parts : List Raw} {s rest : List Item} → BinderBody limit c before s parts rest → AllProper s → BodyPrinted before parts rest
     body_printed (a_predicate {t = t} is lp) all = let own = last_printed lp all in (t ∷ [], refl, own.0, own.1)
     body_printed (a_value {before = before} {t = t} {e = e} is r f lp) all =
         let first = reads r all in

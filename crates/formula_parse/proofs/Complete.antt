@@ -26,7 +26,7 @@ use Rattle.math_grammar.specs.declared.symbols.Symbol.TheVariants as sign
 use Rattle.math_grammar.specs.declared.shapes.Shape.{Shape}
 use Rattle.math_grammar.specs.Levels.{rank, level, right_of, takes_left, reaches, fits, inside, suffixes, goes_on, infix_of, suffix_of, is_typing, is_declaration, prefix_hole, prefix_op, call_hole, call_grade, call_parts, has_room, binding_grade, binder_of, implicit_of, takes_names, takes_shape, is_braced}
 use Rattle.math_grammar.specs.Tokens.{Item}
-use Rattle.math_grammar.specs.Grammar.{item, place_of, bound, between, Ends, Reads, a_name, a_number, a_truth, a_constant, prefixed, two_sides, in_parentheses, called, applied, converted, set_by_members, by_names, by_shape, lambda, Parts, last_one, next_one, TypeOf, last_side, first_side, Bound, bare, of_type, Declares, last_name, next_name, Body, a_predicate, a_value, LastPart, up_to_brace, reaching, Pattern, last_atom, next_atom, Atom, bare_atom, typed_atom, grouped_atom}
+use Rattle.math_grammar.specs.Grammar.{item, place_of, bound, between, Ends, Reads, a_name, a_number, a_truth, a_constant, prefixed, two_sides, in_parentheses, called, applied, converted, set_by_members, by_names, by_shape, lambda, Parts, last_one, next_one, TypeOf, last_side, first_side, Bound, bare, of_type, Declares, last_name, next_name, BinderBody, a_predicate, a_value, LastPart, up_to_brace, reaching, Pattern, last_atom, next_atom, Atom, bare_atom, typed_atom, grouped_atom}
 use Rattle.formula_parse.specs.declared.frames.Frame.{Frame}
 use Rattle.formula_parse.specs.declared.frames.Frame.TheVariants as frame
 use Rattle.formula_parse.specs.Machine.{hole_of, hole_wanted, ParseState, want, have, calling, shape_want, shape_have, bound_from, bounds_from, binding_body, binding_opened, begin, extend, finished, after_names, after_shape, closed, attach}
@@ -278,7 +278,7 @@ module _ (limit : Option ℕ) where
 
     -- what follows the names
     pub complete_body : (goal : Hole) (fs : List Frame) (c : Binding) (names : List RawBound) (p : ℕ) {s rest : List Item} {before parts : List Raw} →
-        Body limit c before s parts rest →
+        BinderBody limit c before s parts rest →
         reach limit goal (want (binding_body c names before p ∷ fs)) s ≡ reach limit goal (have fs (binding_grade c) (raw.Bind (binder_of c) names parts p)) rest
     complete_body goal fs c names p (a_predicate {before = before} is r) =
         rw is (complete_last goal fs c hole.Predicate (binder_of c) names before p r)

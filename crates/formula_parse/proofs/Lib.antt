@@ -8,4 +8,5 @@ pub mod Small
 pub mod Place
 pub mod Words
 pub mod Limited
+pub mod Outcomes
 pub mod Slices

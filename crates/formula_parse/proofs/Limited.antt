@@ -7,7 +7,8 @@ use Rattle.formula_parse.specs.declared.fault.ParseFault.{ParseFault}
 use Rattle.formula_parse.specs.declared.fault.ParseFault.TheVariants as fault
 use Rattle.formula_parse.specs.Faults.{BeginsOne}
 use Rattle.formula_parse.specs.Limits.{most_parts, passes, open_after, first_large_from, SpellsWithin, FindsFormula, IsFaultOf}
-use Rattle.formula_parse.specs.PrivateReaders.{TokenReader, found, refused, outcome_by, LimitedReading, read_whole, stopped, passed, reading_at_end, next_reading, limited_reading, ReadsTokens}
+use Rattle.formula_parse.specs.PrivateReaders.{TokenReader, LimitedReading, read_whole, stopped, passed, reading_at_end, next_reading, limited_reading, ReadsTokens}
+use Rattle.formula_parse.proofs.Outcomes.{outcome_by, found, refused}
 use Rattle.formula_parse.proofs.Basics.{chosen}
 use Rattle.formula_parse.proofs.Readers.{unless_full, ReadsGrammar, found_one, unexpected}
 

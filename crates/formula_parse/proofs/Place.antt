@@ -33,7 +33,8 @@ use Rattle.math_grammar.specs.Grammar.{item, bound, between, type_with, lone, jo
 use Rattle.formula_parse.specs.declared.frames.Frame.{Frame}
 use Rattle.formula_parse.specs.declared.frames.Frame.TheVariants as frame
 use Rattle.formula_parse.specs.Machine.{hole_of, hole_wanted, ParseState, want, have, shape_want, shape_name, shape_have, plain_name_of, binding_body, finished, shape_next, closed}
-use Rattle.formula_parse.specs.PrivateReaders.{found, formula_reader, run}
+use Rattle.formula_parse.specs.PrivateReaders.{formula_reader}
+use Rattle.formula_parse.proofs.Outcomes.{run, found}
 use Rattle.formula_parse.proofs.Basics.{name_of-name, both, fits_reaches, rank_most, level_rank, left_most, reached, name_reaches, group_fits}
 use Rattle.formula_parse.proofs.Complete.{Stops, attach_infix, suffix_closes}
 use Rattle.formula_parse.proofs.Runs.{goes, ends_finished, takes_sign, complete_reads}

@@ -5,7 +5,7 @@ use Rattle.formula_core.specs.declared.raw.Raw.{Raw}
 use Rattle.math_grammar.specs.declared.holes.Hole.{Hole}
 use Rattle.math_grammar.specs.Tokens.{Item}
 use Rattle.formula_parse.specs.Machine.{ParseState, step, ended}
-use Rattle.formula_parse.specs.PrivateReaders.{ReadOutcome, found, refused, run}
+use Rattle.formula_parse.proofs.Outcomes.{ReadOutcome, run, found, refused}
 
 -- the formula that is complete, if there is one, and the tokens from the first one on that isn't taken
 pub data Stop : Type 0 where

@@ -7,7 +7,8 @@ use Rattle.std.proofs.Math.Seq.{take-append-add}
 use Rattle.math_grammar.specs.Tokens.{Item}
 use Rattle.formula_parse.specs.Faults.{BeginsOne, IsUnexpectedIn}
 use Rattle.formula_parse.specs.Limits.{most_parts}
-use Rattle.formula_parse.specs.PrivateReaders.{TokenReader, ReadOutcome, found, refused, outcome_by}
+use Rattle.formula_parse.specs.PrivateReaders.{TokenReader}
+use Rattle.formula_parse.proofs.Outcomes.{ReadOutcome, outcome_by, found, refused}
 
 -- what a test of an option came to
 pub option_ways : {A B : Type 0} {f : A → B} {d z : B} (o : Option A) → option_map_or f o d ≡ z → ((a : A) × (o ≡ Some a) × (f a ≡ z)) ⊎ ((o ≡ None) × (d ≡ z))

@@ -9,7 +9,7 @@ use Rattle.math_grammar.specs.Tokens.{Item}
 use Rattle.math_grammar.specs.Grammar.{item, Ends, Reads}
 use Rattle.formula_parse.specs.declared.frames.Frame.{Frame}
 use Rattle.formula_parse.specs.Machine.{hole_of, hole_wanted, ParseState, want, have, finished, closed, attach}
-use Rattle.formula_parse.specs.PrivateReaders.{run}
+use Rattle.formula_parse.proofs.Outcomes.{run}
 use Rattle.formula_parse.proofs.Reach.{reach, outcome, run_reaches}
 use Rattle.formula_parse.proofs.Complete as complete
 

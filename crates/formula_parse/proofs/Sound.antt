@@ -28,7 +28,7 @@ use Rattle.math_grammar.specs.declared.symbols.Symbol.TheVariants as sign
 use Rattle.math_grammar.specs.declared.shapes.Shape.{Shape}
 use Rattle.math_grammar.specs.Levels.{rank, typed, level, prefix_of, right_of, takes_left, reaches, fits, inside, grouped, suffixes, goes_on, infix_of, suffix_of, opens, is_typing, is_declaration, prefix_hole, prefix_grade, prefix_op, call_hole, call_grade, call_parts, has_room, binding_grade, binder_of, is_quantified, takes_names, takes_shape, is_braced}
 use Rattle.math_grammar.specs.Tokens.{Item}
-use Rattle.math_grammar.specs.Grammar.{item, bound, between, lone, joined_shape, Ends, Reads, a_name, a_number, a_truth, a_constant, prefixed, two_sides, in_parentheses, called, applied, converted, set_by_members, by_names, by_shape, lambda, Parts, last_one, next_one, TypeOf, last_side, first_side, Bound, bare, of_type, Declares, last_name, next_name, Body, a_predicate, a_value, LastPart, up_to_brace, reaching, Pattern, last_atom, next_atom, Atom, bare_atom, typed_atom, grouped_atom, Spells}
+use Rattle.math_grammar.specs.Grammar.{item, bound, between, lone, joined_shape, Ends, Reads, a_name, a_number, a_truth, a_constant, prefixed, two_sides, in_parentheses, called, applied, converted, set_by_members, by_names, by_shape, lambda, Parts, last_one, next_one, TypeOf, last_side, first_side, Bound, bare, of_type, Declares, last_name, next_name, BinderBody, a_predicate, a_value, LastPart, up_to_brace, reaching, Pattern, last_atom, next_atom, Atom, bare_atom, typed_atom, grouped_atom, Spells}
 use Rattle.formula_parse.specs.declared.frames.Frame.{Frame}
 use Rattle.formula_parse.specs.declared.frames.Frame.TheVariants as frame
 use Rattle.formula_parse.specs.Machine.{hole_of, hole_wanted, ParseState, want, have, calling, shape_want, shape_name, shape_have, only_if, plain_name_of, typed_name_of, bound_from, bounds_from, binding_body, begin, extend, finished, after_name, after_type, type_next, shape_next, after_member, after_shape, shape_step, closed, after_form, attach, begin_shape, call_word, step, complete, ended}
@@ -253,7 +253,7 @@ module _ (limit : Option ℕ) where
         Spelled goal s0 (frame.Listed c names before p ∷ fs) rest
     given_so_far : {fs : List Frame} {c : Binding} {names : List RawBound} {parts : List Raw} {p : ℕ} {m rest : List Item} →
         Spelled goal s0 fs m → reaches (hole_wanted goal fs) (binding_grade c) ≡ true → is_quantified c ≡ false →
-        ((all : List Raw) (after : List Item) → Body limit c parts rest all after → Reads limit (binding_grade c) m (raw.Bind (binder_of c) names all p) after) →
+        ((all : List Raw) (after : List Item) → BinderBody limit c parts rest all after → Reads limit (binding_grade c) m (raw.Bind (binder_of c) names all p) after) →
         Spelled goal s0 (frame.Given c names parts p ∷ fs) rest
     last_so_far : {fs : List Frame} {c : Binding} {h : Hole} {b : RawBinder} {names : List RawBound} {parts : List Raw} {p : ℕ} {m rest : List Item} →
         Spelled goal s0 fs m → reaches (hole_wanted goal fs) (binding_grade c) ≡ true → (h ≡ hole.Predicate) ⊎ (h ≡ hole.Expression) →
@@ -478,7 +478,7 @@ module _ (limit : Option ℕ) where
 
     close_given : {m rest after : List Item} (c : Binding) (names : List RawBound) (parts : List Raw) (g : Grade) (t : Raw) (y : Symbol) {p q : ℕ} {v : List ℕ} →
         Spelled goal s0 fs m → reaches (hole_wanted goal fs) (binding_grade c) ≡ true → is_quantified c ≡ false →
-        ((all : List Raw) (end : List Item) → Body limit c parts rest all end → Reads limit (binding_grade c) m (raw.Bind (binder_of c) names all p) end) →
+        ((all : List Raw) (end : List Item) → BinderBody limit c parts rest all end → Reads limit (binding_grade c) m (raw.Bind (binder_of c) names all p) end) →
         fits hole.Predicate g ≡ true → Reads limit g rest t (item y q v ∷ after) → closed limit fs (frame.Given c names parts p) g t y ≡ Some st → Sound goal s0 st after
     close_given c names parts g t sign.Bar sp room is k fit r e = along e (wanting refl (last_so_far sp room (inr refl) (λ u end l. k _ _ (a_value is r fit l))))
     close_given c names parts g t _ sp room is k fit r e = cc

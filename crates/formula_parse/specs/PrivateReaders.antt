@@ -1,6 +1,5 @@
 -- Readers of tokens, as functions, and their limits.
 use Rattle.std.specs.Prelude.{◌≡◌, ℕ, ◌+◌, List, [], ◌∷◌, Bool, Option, Some, None, Result, Ok, Err, cond}
-use Rattle.std.specs.Option.{option_map_or}
 use Rattle.formula_core.specs.declared.raw.Raw.{Raw}
 use Rattle.math_tokens.specs.declared.cutting.Token.{Token}
 use Rattle.math_grammar.specs.declared.holes.Hole.{Hole}
@@ -18,16 +17,7 @@ pub record TokenReader (S T : Type 0) : Type 0 where
   -- a part behind the last one allowed is wanted
   pub is_full : S → Bool
 
--- what comes of a list of tokens: what is read, or the tokens from the first one on that isn't taken
-pub data ReadOutcome (T : Type 0) : Type 0 where
-  found : (t : T) → ReadOutcome T
-  refused : (rest : List Item) → ReadOutcome T
-
-abbrev pub outcome_by : {S T : Type 0} → TokenReader S T → Option ℕ → S → List Item → ReadOutcome T
-outcome_by r limit st [] = option_map_or found (r.ended st) (refused [])
-outcome_by r limit st (x ∷ rest) = option_map_or (λ after. outcome_by r limit after rest) (r.step limit st x) (refused (x ∷ rest))
-
--- the same within the limits: what is read, or the place of the first token that isn't taken, or that passes a limit
+-- what comes of tokens within the limits: what is read, or the place of the first token that isn't taken, or that passes a limit
 pub data LimitedReading (T : Type 0) : Type 0 where
   read_whole : (t : T) → LimitedReading T
   stopped : (i : ℕ) → LimitedReading T
@@ -58,6 +48,3 @@ ReadsTokens r text tokens (Err fault.OutOfMemory) = Unit {0}
 -- the parser of formulas is one
 abbrev pub formula_reader : Hole → TokenReader ParseState Raw
 formula_reader goal = record { start = want []; step = λ limit. step limit goal; ended = ended goal; is_full = is_full }
-
-abbrev pub run : Option ℕ → Hole → ParseState → List Item → ReadOutcome Raw
-run limit goal = outcome_by (formula_reader goal) limit

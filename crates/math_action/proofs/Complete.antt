@@ -15,7 +15,7 @@ use Rattle.math_grammar.specs.Tokens.{Item}
 use Rattle.math_grammar.specs.Grammar.{Spells}
 use Rattle.math_grammar.specs.Actions.{ref, Targets, last_target, next_target, Values, last_value, next_value, SpellsAction, assigns, applies, chooses_in, chooses_such}
 use Rattle.formula_parse.specs.Machine.{ParseState, want, step, ended, is_ready}
-use Rattle.formula_parse.specs.PrivateReaders.{ReadOutcome, found, refused}
+use Rattle.formula_parse.proofs.Outcomes.{ReadOutcome, found, refused}
 use Rattle.formula_parse.proofs.Reach.{Stop, stop, reach}
 use Rattle.math_action.specs.declared.stages.Head.{Head}
 use Rattle.math_action.specs.declared.stages.Head.TheVariants as head

@@ -1,4 +1,5 @@
 -- What was read goes on to an action.
+use Rattle.formula_parse.proofs.Outcomes.{found}
 use Rattle.std.proofs.Common.{◌≡◌, ℕ, zero, suc, ◌+◌, ◌-◌, List, [], ◌∷◌, ◌++◌, true, Option, Some, None, refl, ap, sym, ◌∙◌, arith, length, length-append, append-nil, nat_lt}
 use Rattle.std.specs.Prelude.{nat_eq}
 use Rattle.std.proofs.lemmas.Bool.Decides.{nat_tests}
@@ -16,7 +17,6 @@ use Rattle.math_grammar.specs.Tokens.{Item}
 use Rattle.math_grammar.specs.Grammar.{item}
 use Rattle.math_grammar.specs.Actions.{SpellsAction}
 use Rattle.formula_parse.specs.Machine.{ParseState, want}
-use Rattle.formula_parse.specs.PrivateReaders.{found}
 use Rattle.formula_parse.proofs.Readers.{ReadsGrammar}
 use Rattle.formula_parse.proofs.Reach.{Stop, stop, reach, outcome, run_reaches}
 use Rattle.formula_parse.proofs.Place as places

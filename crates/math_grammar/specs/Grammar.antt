@@ -106,7 +106,7 @@ mutual
         Reads limit grade.Primary (item x p w ∷ s) (raw.Node (rawop.Plain op.SetExtension) members p) rest
     -- names with a dot: ∀ and ∃, a set in braces, ⋃ and ⋂
     by_names : {k : Grade} {c : Binding} {x : Symbol} {p : ℕ} {w : List ℕ} {s m rest : List Item} {names : List RawBound} {parts : List Raw} →
-        opens x ≡ Some c → takes_names c ≡ true → Declares limit [] s names m → Body limit c [] m parts rest →
+        opens x ≡ Some c → takes_names c ≡ true → Declares limit [] s names m → BinderBody limit c [] m parts rest →
         binding_grade c ≡ k → Reads limit k (item x p w ∷ s) (raw.Bind (binder_of c) names parts p) rest
     -- an expression with a bar: a set in braces, ⋃ and ⋂, which bind the free names of the expression
     by_shape : {g k : Grade} {c : Binding} {x : Symbol} {p q : ℕ} {w v : List ℕ} {s m rest : List Item} {e t : Raw} →
@@ -114,7 +114,7 @@ mutual
         LastPart limit c hole.Predicate m t rest →
         binding_grade c ≡ k → Reads limit k (item x p w ∷ s) (raw.Bind (implicit_of c) [] (e ∷ t ∷ []) p) rest
     lambda : {p q : ℕ} {w v : List ℕ} {s m rest : List Item} {shape : Shape} {parts : List Raw} →
-        Pattern limit None s shape (item sym.Dot q v ∷ m) → Body limit binding.Lambda (shape.tree ∷ []) m parts rest →
+        Pattern limit None s shape (item sym.Dot q v ∷ m) → BinderBody limit binding.Lambda (shape.tree ∷ []) m parts rest →
         Reads limit grade.Reaching (item (sym.Binder binding.Lambda) p w ∷ s) (raw.Bind rawbinder.Lambda shape.names parts p) rest
 
   -- the parts between commas up to the bracket, behind those before, no more than there is room for
@@ -151,12 +151,12 @@ mutual
         Bound limit s b (item sym.Comma p w ∷ m) → Declares limit (before ++ b ∷ []) m names rest → Declares limit before s names rest
 
   -- what follows the dot: a predicate, or a predicate, a bar and an expression
-  pub data Body (limit : Option ℕ) : Binding → List Raw → List Item → List Raw → List Item → Type 0 where
+  pub data BinderBody (limit : Option ℕ) : Binding → List Raw → List Item → List Raw → List Item → Type 0 where
     a_predicate : {c : Binding} {before : List Raw} {s rest : List Item} {t : Raw} →
-        is_quantified c ≡ true → LastPart limit c hole.Predicate s t rest → Body limit c before s (before ++ t ∷ []) rest
+        is_quantified c ≡ true → LastPart limit c hole.Predicate s t rest → BinderBody limit c before s (before ++ t ∷ []) rest
     a_value : {c : Binding} {before : List Raw} {g : Grade} {p : ℕ} {w : List ℕ} {s m rest : List Item} {t e : Raw} →
         is_quantified c ≡ false → Reads limit g s t (item sym.Bar p w ∷ m) → fits hole.Predicate g ≡ true →
-        LastPart limit c hole.Expression m e rest → Body limit c before s ((before ++ t ∷ []) ++ e ∷ []) rest
+        LastPart limit c hole.Expression m e rest → BinderBody limit c before s ((before ++ t ∷ []) ++ e ∷ []) rest
 
   -- the last part of a form: up to its brace, or as far as it reaches
   pub data LastPart (limit : Option ℕ) : Binding → Hole → List Item → Raw → List Item → Type 0 where

@@ -18,7 +18,7 @@ use Rattle.math_grammar.specs.declared.shapes.Shape.{Shape}
 use Rattle.math_grammar.specs.Levels.{has_room, prefix_op, right_of, binder_of, implicit_of}
 use Rattle.math_grammar.specs.Tokens.{Item}
 use Rattle.math_grammar.specs.Grammar as grammar
-use Rattle.math_grammar.specs.Grammar.{item, place_of, bound, between, lone, type_with, joined_shape, Ends, Reads, Parts, TypeOf, Bound, Declares, Body, LastPart, Pattern, Atom, Spells}
+use Rattle.math_grammar.specs.Grammar.{item, place_of, bound, between, lone, type_with, joined_shape, Ends, Reads, Parts, TypeOf, Bound, Declares, BinderBody, LastPart, Pattern, Atom, Spells}
 use Rattle.math_places.specs.Places.{unplaced, AlikeTokens}
 use Rattle.math_places.proofs.Equations.{unplaced-Int, unplaced-Name, unplaced-Node, unplaced-Bind, unplaced_bound}
 use Rattle.math_places.proofs.Tokens.{Alike, none, next, one_by_one, at_end}
@@ -238,7 +238,7 @@ module _ (limit : Option ℕ) where
         let v = names_again (front ++ u.tree ∷ []) r' (append_names front before (u.tree ∷ []) (b ∷ []) e (λ i. u.same i ∷ [])) u.alike in
         record { tree = v.tree; after = v.after; reads = grammar.next_name u.reads v.reads; same = v.same; alike = v.alike }
 
-    body_again : {c : Binding} {before parts : List Raw} {s rest others : List Item} (front : List Raw) → Body limit c before s parts rest → AllSame front before → Alike s others → Again (Body limit c front others) (λ u. AllSame u parts) rest
+    body_again : {c : Binding} {before parts : List Raw} {s rest others : List Item} (front : List Raw) → BinderBody limit c before s parts rest → AllSame front before → Alike s others → Again (BinderBody limit c front others) (λ u. AllSame u parts) rest
     body_again front (grammar.a_predicate {before = before} {t = t} is r) e a =
         let u = last_again r a in
         record { tree = front ++ u.tree ∷ []; after = u.after; reads = grammar.a_predicate is u.reads; same = append_same front before u.tree t e u.same; alike = u.alike }

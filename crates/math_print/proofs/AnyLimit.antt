@@ -17,7 +17,7 @@ use Rattle.math_grammar.specs.declared.shapes.Shape.{Shape}
 use Rattle.math_grammar.specs.Levels.{call_parts, call_hole}
 use Rattle.math_grammar.specs.Tokens.{Item}
 use Rattle.math_grammar.specs.Grammar as grammar
-use Rattle.math_grammar.specs.Grammar.{Reads, Parts, TypeOf, Bound, Declares, Body, LastPart, Pattern, Atom, Spells}
+use Rattle.math_grammar.specs.Grammar.{Reads, Parts, TypeOf, Bound, Declares, BinderBody, LastPart, Pattern, Atom, Spells}
 
 abbrev pub is_limited : Symbol → Bool
 is_limited (sym_of.Call call.Partition o) = true
@@ -95,7 +95,7 @@ module _ (limit : Option ℕ) where
         let v = names_within r' u.1.1 in
         (grammar.next_name u.0 v.0, v.1)
 
-    body_within : {c : Binding} {before parts : List Raw} {s rest : List Item} → Body None c before s parts rest → AreUnlimited s → Body limit c before s parts rest × AreUnlimited rest
+    body_within : {c : Binding} {before parts : List Raw} {s rest : List Item} → BinderBody None c before s parts rest → AreUnlimited s → BinderBody limit c before s parts rest × AreUnlimited rest
     body_within (grammar.a_predicate is r) all = let u = last_within r all in (grammar.a_predicate is u.0, u.1)
     body_within (grammar.a_value is r fit r') all =
         let u = reads_within r all in

@@ -47,7 +47,7 @@ use Rattle.math_grammar.specs.declared.symbols.Symbol.{Symbol}
 use Rattle.math_grammar.specs.declared.symbols.Symbol.TheVariants as sym
 use Rattle.math_grammar.specs.Levels.{rank, fits, opens, takes_names, binding_grade, binder_of}
 use Rattle.math_grammar.specs.Tokens.{Item}
-use Rattle.math_grammar.specs.Grammar.{place_at, place_of, Reads, a_name, a_number, by_names, Declares, Body, a_predicate, a_value, up_to_brace, reaching}
+use Rattle.math_grammar.specs.Grammar.{place_at, place_of, Reads, a_name, a_number, by_names, Declares, BinderBody, a_predicate, a_value, up_to_brace, reaching}
 use Rattle.math_grammar.specs.Operators.{binder_sign_of, binder_class_of}
 use Rattle.token_text.specs.Pieces.{Piece, Blank, Token, tokens_of, word_piece, close_brace_piece, dot_piece, bar_piece, not_piece, in_round, sign_between, separated_pieces}
 use Rattle.token_text.proofs.Pieces.{tokens-behind, token_before}
@@ -181,7 +181,7 @@ module _ (names : List (List ℕ)) (named : (i : ℕ) → i < length names → i
 
   module _ (d : ℕ) where
     names_form : (c : Binding) (x : Symbol) (w : List ℕ) → opens x ≡ Some c → takes_names c ≡ true → (t : Ty) (types : List Ty) → IsTypeRead t → AreTypesRead types → d + suc (length types) ≤ length names → (s : List Piece) (rest : List Item) (parts : List Raw)
-        → Body None c [] (tokens_of s ++ rest) parts rest
+        → BinderBody None c [] (tokens_of s ++ rest) parts rest
         → Reads None (binding_grade c) (tokens_of (Token x w ∷ (separated_pieces (printed_declarations names (t ∷ types) d) ++ (dot_piece ∷ s))) ++ rest) (raw.Bind (binder_of c) (declared_with_types names (t ∷ types) d) parts 0) rest
     names_form c x w is takes t types read all few s rest parts body =
         let l : List Piece = separated_pieces (printed_declarations names (t ∷ types) d) in
@@ -193,18 +193,18 @@ module _ (names : List (List ℕ)) (named : (i : ℕ) → i < length names → i
     body_pieces p deep = printed names p false deep
 
     -- a predicate, as far as it reaches
-    predicate_body : (b : Binder) (deep : ℕ) (p : Formula) → IsRead names deep p → is_value_type (type_of p) ≡ false → (rest : List Item) → Quiet 0 rest → Body None (binding.Quantified b) [] (tokens_of (body_pieces p deep ++ []) ++ rest) (written names p deep ∷ []) rest
+    predicate_body : (b : Binder) (deep : ℕ) (p : Formula) → IsRead names deep p → is_value_type (type_of p) ≡ false → (rest : List Item) → Quiet 0 rest → BinderBody None (binding.Quantified b) [] (tokens_of (body_pieces p deep ++ []) ++ rest) (written names p deep ∷ []) rest
     predicate_body b deep p rp v rest q =
         let g : nat_lt 3 (rank (grade_of p)) ≡ false = rp.sorted ∙ v in
-        let P : List Piece → Type 0 = λ l. Body None (binding.Quantified b) [] (tokens_of l ++ rest) (written names p deep ∷ []) rest in
+        let P : List Piece → Type 0 = λ l. BinderBody None (binding.Quantified b) [] (tokens_of l ++ rest) (written names p deep ∷ []) rest in
         subst P (back (append-nil (body_pieces p deep)))
         (a_predicate refl (reaching refl (rp.plain rest (quieter 0 (quiet (formula_level p)) rest (zero_le (quiet (formula_level p))) q)) (fits_predicate (grade_of p) g) (ends hole.Predicate (grade_of p) 0 rest refl q)))
 
     -- a predicate, a bar and an expression up to the brace
     set_body : (deep : ℕ) (p e : Formula) → IsRead names deep p → IsRead names deep e → is_value_type (type_of p) ≡ false → is_value_type (type_of e) ≡ true → (rest : List Item)
-        → Body None binding.Set [] (tokens_of (sign_between (body_pieces p deep) bar_piece (body_pieces e deep) ++ (close_brace_piece ∷ [])) ++ rest) (written names p deep ∷ written names e deep ∷ []) rest
+        → BinderBody None binding.Set [] (tokens_of (sign_between (body_pieces p deep) bar_piece (body_pieces e deep) ++ (close_brace_piece ∷ [])) ++ rest) (written names p deep ∷ written names e deep ∷ []) rest
     set_body deep p e rp re v u rest =
-        let P : List Item → Type 0 = λ l. Body None binding.Set [] l (written names p deep ∷ written names e deep ∷ []) rest in
+        let P : List Item → Type 0 = λ l. BinderBody None binding.Set [] l (written names p deep ∷ written names e deep ∷ []) rest in
         let after : List Item = token_before close_brace_piece rest in
         let whole : P (tokens_of (body_pieces p deep) ++ token_before bar_piece (tokens_of (body_pieces e deep) ++ after))
         = a_value refl (rp.plain (token_before bar_piece (tokens_of (body_pieces e deep) ++ after)) (zero_le (quiet (formula_level p)))) (fits_predicate (grade_of p) (rp.sorted ∙ v))
@@ -215,9 +215,9 @@ module _ (names : List (List ℕ)) (named : (i : ℕ) → i < length names → i
 
     -- or as far as it reaches
     reaching_body : (b : Binder) (deep : ℕ) (p e : Formula) → IsRead names deep p → IsRead names deep e → is_value_type (type_of p) ≡ false → is_value_type (type_of e) ≡ true → (rest : List Item) → Quiet 3 rest
-        → Body None (binding.Reaching b) [] (tokens_of (sign_between (body_pieces p deep) bar_piece (body_pieces e deep) ++ []) ++ rest) (written names p deep ∷ written names e deep ∷ []) rest
+        → BinderBody None (binding.Reaching b) [] (tokens_of (sign_between (body_pieces p deep) bar_piece (body_pieces e deep) ++ []) ++ rest) (written names p deep ∷ written names e deep ∷ []) rest
     reaching_body b deep p e rp re v u rest q =
-        let P : List Item → Type 0 = λ l. Body None (binding.Reaching b) [] l (written names p deep ∷ written names e deep ∷ []) rest in
+        let P : List Item → Type 0 = λ l. BinderBody None (binding.Reaching b) [] l (written names p deep ∷ written names e deep ∷ []) rest in
         let g : nat_lt 3 (rank (grade_of e)) ≡ true = re.sorted ∙ u in
         let whole : P (tokens_of (body_pieces p deep) ++ token_before bar_piece (tokens_of (body_pieces e deep) ++ rest))
         = a_value refl (rp.plain (token_before bar_piece (tokens_of (body_pieces e deep) ++ rest)) (zero_le (quiet (formula_level p)))) (fits_predicate (grade_of p) (rp.sorted ∙ v))

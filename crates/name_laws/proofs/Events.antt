@@ -26,7 +26,7 @@ use Rattle.sequent_core.specs.declared.sequent.Obligation.{Obligation}
 use Rattle.po_rules.specs.Parts.{EventParts, path_with, formulas, initialises, is_extended, actions_of, actions_of_first, as_term, new_values, machine_hyps, after_pairs, primed_values, parts_of}
 use Rattle.formula_core.specs.Names.{with_prime}
 use Rattle.po_rules.specs.Rows.{needed, of_kind, from_base, from_choices, from_witnesses, chain, for_some_of, equal_terms, labelled_rows, guard_rows, witness_row, witness_rows, conditions, strengthening_rows, merging_rows, action_condition, feasible, action_row, action_rows, simulated, simulation_row, simulation_rows, kept_variables, equality_row, equality_rows, is_changed, invariant_row, invariant_rows, was_convergent, decrease, naturals, decrease_rows}
-use Rattle.po_rules.specs.Tables.{Row, guards, witnesses, strengthening, merging, actions, simulation, equality, invariants, variant, all_rows, row_of_event}
+use Rattle.po_rules.specs.Tables.{EventRow, guards, witnesses, strengthening, merging, actions, simulation, equality, invariants, variant, all_rows, row_of_event}
 use Rattle.name_laws.specs.Labels.{IsPlain, labels, action_labels, names_of_witnesses, own_invariants, HasPlainNamesInEvent, HasDistinctLabelsInEvent}
 use Rattle.name_laws.proofs.Lists.{AreKeyedOnce, never, differ, all_map, all_unmap, all_two, all_drop, all_filter, all_told, once_front, once_back, once_apart, once_drop, once_filter, keyed_once, map_map, among_self, not_among}
 use Rattle.name_laws.proofs.Calls.{Parts, AreCalled, AreApart, OfSome, Begins, none_called, called_as, if_called, keyed_called, for_keys, for_apart, for_option, plain_kind, word_called, part_called, one_called, two_called, exactly, words_called, labelled_called}
@@ -49,7 +49,7 @@ row_of is_guard (w ∷ []) = if bytes_eq w (codes "MRG") then 3 else 8
 row_of is_guard (k ∷ w ∷ []) = if bytes_eq w (codes "WD") then (if is_guard k then 0 else 4) else number_of_kind w
 row_of is_guard (k ∷ l ∷ m ∷ w) = 9
 
-abbrev number : Row → ℕ
+abbrev number : EventRow → ℕ
 number guards = 0
 number witnesses = 1
 number strengthening = 2
@@ -73,7 +73,7 @@ IsBehindEvent c = (event : List ℕ) → place_of (event ∷ c) ≡ 2
 abbrev IsInRow : (List ℕ → Bool) → ℕ → Parts → Type 0
 IsInRow is_guard n c = (row_of is_guard c ≡ n) × IsBehindEvent c
 
-all_differ : List Row → Bool
+all_differ : List EventRow → Bool
 all_differ [] = true
 all_differ (x ∷ xs) = list_all (λ y. not (number x == number y)) xs && all_differ xs
 
@@ -84,7 +84,7 @@ and_both false b e = absurd (unequal e)
     unequal : false ≡ true → ⊥
     unequal e = cc
 
-others_differ : (x y : Row) (rows : List Row) → list_all (λ z. not (number x == number z)) rows ≡ true → IsIn y rows → not (number x == number y) ≡ true
+others_differ : (x y : EventRow) (rows : List EventRow) → list_all (λ z. not (number x == number z)) rows ≡ true → IsIn y rows → not (number x == number y) ≡ true
 others_differ x y [] e i = absurd i
 others_differ x y (z ∷ rows) e i =
     let b = and_both (not (number x == number z)) (list_all (λ u. not (number x == number u)) rows) e in
@@ -93,7 +93,7 @@ others_differ x y (z ∷ rows) e i =
 pub numbers_tell : (a b : ℕ) → not (a == b) ≡ true → a ≡ b → ⊥
 numbers_tell a b e same = never (sym e ∙ ap not ((Decides-eqb a b).1 same))
 
-rows_apart : (is_guard : List ℕ → Bool) (rows : List Row) → all_differ rows ≡ true → AreApart (λ row. IsInRow is_guard (number row)) rows
+rows_apart : (is_guard : List ℕ → Bool) (rows : List EventRow) → all_differ rows ≡ true → AreApart (λ row. IsInRow is_guard (number row)) rows
 unfolding all_differ
 rows_apart is_guard [] e = tt
 rows_apart is_guard (x ∷ rows) e =
@@ -262,7 +262,7 @@ module _ (m : CheckedMachine) (abstraction : Option CheckedMachine) (e : Checked
       (if_called path (λ c. c ≡ codes "NAT" ∷ []) (is_integer (type_of v)) nat [] (word_called path (codes "NAT") p.env p.base (member v naturals) (plain_kind (codes "NAT") refl)) (none_called path (λ c. c ≡ codes "NAT" ∷ [])))
       (word_called path (codes "VAR") p.env choice_hyps goal (plain_kind (codes "VAR") refl)))
 
-  row_called : (row : Row) → AreCalled path (In (number row)) (row_of_event m abstraction e refined p row)
+  row_called : (row : EventRow) → AreCalled path (In (number row)) (row_of_event m abstraction e refined p row)
   row_called guards = guards_called
   row_called witnesses = witnesses_called
   row_called strengthening = strengthening_called refined all_good

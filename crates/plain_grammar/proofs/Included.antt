@@ -11,7 +11,7 @@ use Rattle.math_grammar.specs.declared.shapes.Shape.{Shape}
 use Rattle.math_grammar.specs.Levels.{has_room, fits}
 use Rattle.math_grammar.specs.Tokens.{Item}
 use Rattle.math_grammar.specs.Grammar as grammar
-use Rattle.math_grammar.specs.Grammar.{Reads, Parts, TypeOf, Bound, Declares, Body, LastPart, Pattern, Atom, Spells}
+use Rattle.math_grammar.specs.Grammar.{Reads, Parts, TypeOf, Bound, Declares, BinderBody, LastPart, Pattern, Atom, Spells}
 use Rattle.plain_grammar.specs.Plain as plain
 use Rattle.plain_grammar.specs.Plain.{Plain, PlainParts, PlainName, PlainNames, PlainBody, PlainLast, PlainPattern, PlainAtom, Accepts}
 
@@ -52,7 +52,7 @@ module _ (limit : Option ℕ) (everywhere : Bool) where
     plain_names (grammar.last_name r) = plain.last_name (plain_name r)
     plain_names (grammar.next_name r others) = plain.next_name (plain_name r) (plain_names others)
 
-    plain_body : {c : Binding} {before parts : List Raw} {s rest : List Item} → Body limit c before s parts rest → PlainBody limit everywhere c s rest
+    plain_body : {c : Binding} {before parts : List Raw} {s rest : List Item} → BinderBody limit c before s parts rest → PlainBody limit everywhere c s rest
     plain_body (grammar.a_predicate is r) = plain.a_predicate is (plain_last r)
     plain_body (grammar.a_value is r fit last) = plain.a_value is (plain_reads r) fit (plain_last last)
 

@@ -6,7 +6,7 @@ use Rattle.math_grammar.specs.declared.holes.Hole.TheVariants as hole
 use Rattle.math_grammar.specs.Tokens.{Item}
 use Rattle.math_grammar.specs.Grammar.{Spells}
 use Rattle.formula_parse.specs.Machine.{want}
-use Rattle.formula_parse.specs.PrivateReaders.{found, run}
+use Rattle.formula_parse.proofs.Outcomes.{run, found}
 use Rattle.formula_parse.proofs.Place.{found_sentence}
 use Rattle.plain_grammar.specs.Plain as plain
 use Rattle.plain_grammar.specs.Plain.{Plain, PlainPattern, Accepts}

@@ -12,10 +12,10 @@ use Rattle.sequent_core.specs.declared.sequent.Obligation.{Obligation}
 use Rattle.po_rules.specs.Parts.{parts_of}
 use Rattle.model_core.specs.Refined.{refined_by}
 use Rattle.po_rules.specs.Rows.{own_invariant_rows, variant_rows}
-use Rattle.po_rules.specs.Tables.{Row, guards, witnesses, strengthening, merging, actions, simulation, equality, invariants, variant, all_rows, row_of_event, event_rows, machine_rows, obligations_of}
+use Rattle.po_rules.specs.Tables.{EventRow, guards, witnesses, strengthening, merging, actions, simulation, equality, invariants, variant, all_rows, row_of_event, event_rows, machine_rows, obligations_of}
 use Rattle.po_generate.specs.Lists.{rows_alone, rows_beside, machine_obligations_of, refine_obligations_of}
 
-is_row : (row : Row) → IsIn row all_rows
+is_row : (row : EventRow) → IsIn row all_rows
 is_row guards = inl refl
 is_row witnesses = inr (inl refl)
 is_row strengthening = inr (inr (inl refl))
@@ -26,7 +26,7 @@ is_row equality = inr (inr (inr (inr (inr (inr (inl refl))))))
 is_row invariants = inr (inr (inr (inr (inr (inr (inr (inl refl)))))))
 is_row variant = inr (inr (inr (inr (inr (inr (inr (inr (inl refl))))))))
 
-is_either : (refined : List CheckedEvent) (row : Row) → IsIn row (rows_alone refined) ⊎ IsIn row (rows_beside refined)
+is_either : (refined : List CheckedEvent) (row : EventRow) → IsIn row (rows_alone refined) ⊎ IsIn row (rows_beside refined)
 is_either [] guards = inl (inl refl)
 is_either [] witnesses = inr (inl refl)
 is_either [] strengthening = inr (inr (inl refl))
@@ -47,7 +47,7 @@ is_either (r ∷ refined) invariants = inr (inr (inr (inr (inr (inr (inl refl)))
 is_either (r ∷ refined) variant = inr (inr (inr (inr (inr (inr (inr (inl refl)))))))
 
 module _ (m : CheckedMachine) (abstraction : Option CheckedMachine) (o : Obligation) where
-  abbrev Of : CheckedEvent → Row → List Obligation
+  abbrev Of : CheckedEvent → EventRow → List Obligation
   Of e = row_of_event m abstraction e (refined_by abstraction e) (parts_of m e (refined_by abstraction e))
 
   abbrev own : List Obligation
@@ -56,13 +56,13 @@ module _ (m : CheckedMachine) (abstraction : Option CheckedMachine) (o : Obligat
   abbrev variants : List Obligation
   variants = for_each (variant_rows m) (option_to_list m.variant)
 
-  abbrev some : (List CheckedEvent → List Row) → CheckedEvent → List Obligation
+  abbrev some : (List CheckedEvent → List EventRow) → CheckedEvent → List Obligation
   some rows e = event_rows (rows (refined_by abstraction e)) m abstraction e
 
-  abbrev events : (List CheckedEvent → List Row) → List Obligation
+  abbrev events : (List CheckedEvent → List EventRow) → List Obligation
   events rows = for_each (some rows) m.events
 
-  in_events : (rows : List CheckedEvent → List Row) (e : CheckedEvent) (row : Row) → IsIn e m.events → IsIn row (rows (refined_by abstraction e)) → IsIn o (Of e row) → IsIn o (events rows)
+  in_events : (rows : List CheckedEvent → List EventRow) (e : CheckedEvent) (row : EventRow) → IsIn e m.events → IsIn row (rows (refined_by abstraction e)) → IsIn o (Of e row) → IsIn o (events rows)
   in_events rows e row h r k = (given (some rows) m.events o).1 (e, h, (given (Of e) (rows (refined_by abstraction e)) o).1 (row, r, k))
 
   to_machine : IsIn o (machine_rows m abstraction) → IsIn o (own ++ events rows_alone) ⊎ IsIn o (variants ++ events rows_beside)
@@ -80,7 +80,7 @@ module _ (m : CheckedMachine) (abstraction : Option CheckedMachine) (o : Obligat
         ]
   ]
 
-  of_events : (rows : List CheckedEvent → List Row) → IsIn o (events rows) → IsIn o (machine_rows m abstraction)
+  of_events : (rows : List CheckedEvent → List EventRow) → IsIn o (events rows) → IsIn o (machine_rows m abstraction)
   of_events rows h =
       let g = (given (some rows) m.events o).0 h in
       let k = (given (Of g.0) (rows (refined_by abstraction g.0)) o).0 g.2 in

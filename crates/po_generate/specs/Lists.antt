@@ -9,15 +9,15 @@ use Rattle.model_core.specs.Each.{for_each, IsIn}
 use Rattle.sequent_core.specs.declared.sequent.Obligation.{Obligation}
 use Rattle.model_core.specs.Refined.{refined_by}
 use Rattle.po_rules.specs.Rows.{axiom_rows, own_invariant_rows, variant_rows}
-use Rattle.po_rules.specs.Tables.{Row, guards, witnesses, strengthening, merging, actions, simulation, equality, invariants, variant, event_rows, obligations_of}
+use Rattle.po_rules.specs.Tables.{EventRow, guards, witnesses, strengthening, merging, actions, simulation, equality, invariants, variant, event_rows, obligations_of}
 
 -- what an event owes by itself, beside the events that it refines
-abbrev pub rows_alone : List CheckedEvent → List Row
+abbrev pub rows_alone : List CheckedEvent → List EventRow
 rows_alone [] = guards ∷ actions ∷ invariants ∷ []
 rows_alone (r ∷ refined) = guards ∷ actions ∷ []
 
 -- and what it owes to the variant and to those events
-abbrev pub rows_beside : List CheckedEvent → List Row
+abbrev pub rows_beside : List CheckedEvent → List EventRow
 rows_beside [] = witnesses ∷ strengthening ∷ merging ∷ simulation ∷ equality ∷ variant ∷ []
 rows_beside (r ∷ refined) = witnesses ∷ strengthening ∷ merging ∷ simulation ∷ equality ∷ invariants ∷ variant ∷ []
 

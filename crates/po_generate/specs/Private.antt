@@ -6,13 +6,13 @@ use Rattle.sequent_core.specs.declared.sequent.Obligation.{Obligation}
 use Rattle.po_rules.specs.Parts.{EventParts}
 use Rattle.model_core.specs.Refined.{refined_by}
 use Rattle.po_rules.specs.Rows.{invariant_rows}
-use Rattle.po_rules.specs.Tables.{Row, all_rows, event_rows}
+use Rattle.po_rules.specs.Tables.{EventRow, all_rows, event_rows}
 use Rattle.po_generate.specs.declared.table.Part.{Part}
 use Rattle.po_generate.specs.declared.table.Part.TheVariants.{Whole, Alone, Beside}
 use Rattle.po_generate.specs.Lists.{rows_alone, rows_beside}
 
 -- the rows that are wanted of an event that refines these
-abbrev pub rows_in : Part → List CheckedEvent → List Row
+abbrev pub rows_in : Part → List CheckedEvent → List EventRow
 rows_in Whole refined = all_rows
 rows_in Alone refined = rows_alone refined
 rows_in Beside refined = rows_beside refined

@@ -13,11 +13,11 @@ use Rattle.sequent_core.specs.declared.sequent.Obligation.{Obligation}
 use Rattle.po_rules.specs.Parts.{formulas, parts_of}
 use Rattle.model_core.specs.Refined.{refined_by}
 use Rattle.po_rules.specs.Rows.{labelled_rows, own_invariant_rows, variant_rows}
-use Rattle.po_rules.specs.Tables.{Row, guards, witnesses, strengthening, merging, actions, simulation, equality, invariants, variant, all_rows, row_of_event, event_rows, machine_rows, obligations_of}
+use Rattle.po_rules.specs.Tables.{EventRow, guards, witnesses, strengthening, merging, actions, simulation, equality, invariants, variant, all_rows, row_of_event, event_rows, machine_rows, obligations_of}
 use Rattle.po_rules.specs.Members.{IsMachineObligation, by_own_invariant, by_variant, by_event, IsObligation}
 
 -- the table has each row
-is_row : (row : Row) → IsIn row all_rows
+is_row : (row : EventRow) → IsIn row all_rows
 is_row guards = inl refl
 is_row witnesses = inr (inl refl)
 is_row strengthening = inr (inr (inl refl))
@@ -32,7 +32,7 @@ is_beside : {X Y : Type 0} (rows : List X → X → List Y) (earlier xs : List X
 is_beside rows earlier xs y g = subst (λ zs. IsIn y (at_each rows earlier zs)) (sym g.3) (is_given_beside rows earlier g.0 g.1 g.2 y g.4)
 
 module _ (m : CheckedMachine) (abstraction : Option CheckedMachine) (o : Obligation) where
-  abbrev Of : CheckedEvent → Row → List Obligation
+  abbrev Of : CheckedEvent → EventRow → List Obligation
   Of e = row_of_event m abstraction e (refined_by abstraction e) (parts_of m e (refined_by abstraction e))
 
   abbrev variants : List Obligation
@@ -47,7 +47,7 @@ module _ (m : CheckedMachine) (abstraction : Option CheckedMachine) (o : Obligat
       let k = (given (Of g.0) all_rows o).0 g.2 in
       by_event g.0 k.0 g.1 k.2
 
-  in_events : (e : CheckedEvent) (row : Row) → IsIn e m.events → IsIn o (Of e row) → IsIn o events
+  in_events : (e : CheckedEvent) (row : EventRow) → IsIn e m.events → IsIn o (Of e row) → IsIn o events
   in_events e row at has = (given (event_rows all_rows m abstraction) m.events o).1 (e, at, (given (Of e) all_rows o).1 (row, is_row row, has))
 
   of_variant : (v : Option Formula) → IsIn o (for_each (variant_rows m) (option_to_list v)) → (w : Formula) × (v ≡ Some w) × IsIn o (variant_rows m w)

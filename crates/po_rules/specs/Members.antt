@@ -10,7 +10,7 @@ use Rattle.sequent_core.specs.declared.sequent.Obligation.{Obligation}
 use Rattle.po_rules.specs.Parts.{formulas, parts_of}
 use Rattle.model_core.specs.Refined.{refined_by}
 use Rattle.po_rules.specs.Rows.{labelled_rows, variant_rows}
-use Rattle.po_rules.specs.Tables.{Row, row_of_event}
+use Rattle.po_rules.specs.Tables.{EventRow, row_of_event}
 
 -- What gives an obligation of a machine.
 pub data IsMachineObligation (m : CheckedMachine) (abstraction : Option CheckedMachine) (o : Obligation) : Type 0 where
@@ -21,7 +21,7 @@ pub data IsMachineObligation (m : CheckedMachine) (abstraction : Option CheckedM
   -- the variant
   by_variant : (v : Formula) → m.variant ≡ Some v → IsIn o (variant_rows m v) → IsMachineObligation m abstraction o
   -- a row of the table, at an event
-  by_event : (e : CheckedEvent) (row : Row) → IsIn e m.events →
+  by_event : (e : CheckedEvent) (row : EventRow) → IsIn e m.events →
       IsIn o (row_of_event m abstraction e (refined_by abstraction e) (parts_of m e (refined_by abstraction e)) row) →
       IsMachineObligation m abstraction o
 

@@ -12,22 +12,22 @@ use Rattle.model_core.specs.Refined.{refined_by}
 use Rattle.po_rules.specs.Rows.{axiom_rows, own_invariant_rows, variant_rows, guard_rows, witness_rows, strengthening_rows, merging_rows, action_rows, simulation_rows, equality_rows, invariant_rows, decrease_rows}
 
 -- the rows of one event
-pub data Row : Type 0 where
-  guards : Row
-  witnesses : Row
-  strengthening : Row
-  merging : Row
-  actions : Row
-  simulation : Row
-  equality : Row
-  invariants : Row
-  variant : Row
+pub data EventRow : Type 0 where
+  guards : EventRow
+  witnesses : EventRow
+  strengthening : EventRow
+  merging : EventRow
+  actions : EventRow
+  simulation : EventRow
+  equality : EventRow
+  invariants : EventRow
+  variant : EventRow
 
 -- the order of the table
-abbrev pub all_rows : List Row
+abbrev pub all_rows : List EventRow
 all_rows = guards ∷ witnesses ∷ strengthening ∷ merging ∷ actions ∷ simulation ∷ equality ∷ invariants ∷ variant ∷ []
 
-abbrev pub row_of_event : CheckedMachine → Option CheckedMachine → CheckedEvent → List CheckedEvent → EventParts → Row → List Obligation
+abbrev pub row_of_event : CheckedMachine → Option CheckedMachine → CheckedEvent → List CheckedEvent → EventParts → EventRow → List Obligation
 row_of_event m abstraction e refined p guards = guard_rows m e p
 row_of_event m abstraction e refined p witnesses = witness_rows p
 row_of_event m abstraction e refined p strengthening = strengthening_rows e refined p
@@ -39,7 +39,7 @@ row_of_event m abstraction e refined p invariants = invariant_rows m e p
 row_of_event m abstraction e refined p variant = for_each (decrease_rows e refined p) (option_to_list m.variant)
 
 -- some rows of an event, in this order
-abbrev pub event_rows : List Row → CheckedMachine → Option CheckedMachine → CheckedEvent → List Obligation
+abbrev pub event_rows : List EventRow → CheckedMachine → Option CheckedMachine → CheckedEvent → List Obligation
 event_rows rows m abstraction e =
     for_each (row_of_event m abstraction e (refined_by abstraction e) (parts_of m e (refined_by abstraction e))) rows
 

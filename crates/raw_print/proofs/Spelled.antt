@@ -33,7 +33,7 @@ use Rattle.math_grammar.specs.declared.symbols.Symbol.TheVariants as sym
 use Rattle.math_grammar.specs.declared.shapes.Shape.{Shape}
 use Rattle.math_grammar.specs.Levels.{level, right_of, infix_of, fits, grouped, opens, binder_of, implicit_of, binding_grade, takes_names, takes_shape, is_quantified, call_hole, call_grade, call_parts, has_room}
 use Rattle.math_grammar.specs.Tokens.{Item}
-use Rattle.math_grammar.specs.Grammar.{item, place_at, place_of, bound, lone, joined_shape, type_with, between, Reads, a_name, a_number, a_truth, a_constant, prefixed, two_sides, in_parentheses, called, applied, converted, set_by_members, by_names, by_shape, lambda, Parts, last_one, next_one, TypeOf, last_side, first_side, Bound, bare, of_type, Declares, last_name, next_name, Body, a_predicate, a_value, LastPart, up_to_brace, reaching, Pattern, last_atom, next_atom, Atom, bare_atom, typed_atom, grouped_atom, Spells}
+use Rattle.math_grammar.specs.Grammar.{item, place_at, place_of, bound, lone, joined_shape, type_with, between, Reads, a_name, a_number, a_truth, a_constant, prefixed, two_sides, in_parentheses, called, applied, converted, set_by_members, by_names, by_shape, lambda, Parts, last_one, next_one, TypeOf, last_side, first_side, Bound, bare, of_type, Declares, last_name, next_name, BinderBody, a_predicate, a_value, LastPart, up_to_brace, reaching, Pattern, last_atom, next_atom, Atom, bare_atom, typed_atom, grouped_atom, Spells}
 use Rattle.math_places.specs.Places.{unplaced}
 use Rattle.math_places.proofs.Equations.{unplaced-Int, unplaced-Name, unplaced-Node, unplaced-Bind, unplaced_bound}
 use Rattle.math_grammar.specs.Characters.{bytes}
@@ -431,14 +431,14 @@ module _ (limit : Option ℕ) where
   record BodyAgain (c : Binding) (before parts : List Raw) (rest : List Item) : Type 0 where
     new : List Raw
     is : parts ≡ before ++ new
-    reads : (others : List Raw) (m : List Item) → MayEnd c m → Body limit c others (tokens_of (body_pieces (map with_pieces new)) ++ tail c m) (others ++ map unplaced new) m
+    reads : (others : List Raw) (m : List Item) → MayEnd c m → BinderBody limit c others (tokens_of (body_pieces (map with_pieces new)) ++ tail c m) (others ++ map unplaced new) m
     proper : AllProper rest
 
   predicate_body : (c : Binding) (before : List Raw) (t : Raw) (rest : List Item) → is_quantified c ≡ true → Again true t → AllProper rest → BodyAgain c before (before ++ t ∷ []) rest
   predicate_body c before t rest q a proper = record {
     new = t ∷ [];
     is = refl;
-    reads = λ others m may. subst (λ u. Body limit c others (tokens_of (pieces t) ++ tail c m) (others ++ u ∷ []) m) (back a.is) (a_predicate q (last_reads c hole.Predicate true t a (fits_predicate a.bare_grade a.sort) m may));
+    reads = λ others m may. subst (λ u. BinderBody limit c others (tokens_of (pieces t) ++ tail c m) (others ++ u ∷ []) m) (back a.is) (a_predicate q (last_reads c hole.Predicate true t a (fits_predicate a.bare_grade a.sort) m may));
     proper = proper;
   }
 
@@ -449,11 +449,11 @@ module _ (limit : Option ℕ) where
     reads = λ others m may.
         let behind_it : List Item = tokens_of (pieces e) ++ tail c m in
         let first : Reads limit a.bare_grade (tokens_of (pieces t) ++ (item sym.Bar 0 (bytes "∣") ∷ behind_it)) a.tree (item sym.Bar 0 (bytes "∣") ∷ behind_it) = a.bare _ (closing refl) in
-        let all : Body limit c others (tokens_of (pieces t) ++ (item sym.Bar 0 (bytes "∣") ∷ behind_it)) ((others ++ a.tree ∷ []) ++ d.tree ∷ []) m =
+        let all : BinderBody limit c others (tokens_of (pieces t) ++ (item sym.Bar 0 (bytes "∣") ∷ behind_it)) ((others ++ a.tree ∷ []) ++ d.tree ∷ []) m =
         a_value q first (fits_predicate a.bare_grade a.sort) (last_reads c hole.Expression false e d (fits_expression d.bare_grade d.sort) m may) in
         let trees : (others ++ a.tree ∷ []) ++ d.tree ∷ [] ≡ others ++ (unplaced t ∷ unplaced e ∷ []) = append_assoc others (a.tree ∷ []) (d.tree ∷ []) ∙ (λ i. others ++ (back a.is i ∷ back d.is i ∷ [])) in
-        subst (λ us. Body limit c others (tokens_of (sign_between (pieces t) bar_piece (pieces e)) ++ tail c m) us m) trees
-        (subst (λ s. Body limit c others s ((others ++ a.tree ∷ []) ++ d.tree ∷ []) m) (back (behind (pieces t) (Blank ∷ bar_piece ∷ Blank ∷ pieces e) (tail c m))) all);
+        subst (λ us. BinderBody limit c others (tokens_of (sign_between (pieces t) bar_piece (pieces e)) ++ tail c m) us m) trees
+        (subst (λ s. BinderBody limit c others s ((others ++ a.tree ∷ []) ++ d.tree ∷ []) m) (back (behind (pieces t) (Blank ∷ bar_piece ∷ Blank ∷ pieces e) (tail c m))) all);
     proper = proper;
   }
 
@@ -467,8 +467,8 @@ module _ (limit : Option ℕ) where
       (r : List Item) → NamesAgain [] names r → (q : List Item) → BodyAgain c [] parts q → (rest : List Item) → tokens_of back_end ++ rest ≡ tail c rest → MayEnd c rest →
       Reads limit (binding_grade c) (tokens_of (pieces (raw.Bind (binder_of c) names parts p)) ++ rest) (raw.Bind (binder_of c) (map unplaced_bound names) (map unplaced parts) 0) rest
   named_reads c x back_end ox tn names parts p text r ns q bs rest ends may =
-      let inside : Body limit c [] (tokens_of (body_pieces (map with_pieces parts)) ++ tail c rest) (map unplaced parts) rest =
-      subst (λ ps. Body limit c [] (tokens_of (body_pieces (map with_pieces ps)) ++ tail c rest) (map unplaced ps) rest) (back bs.is) (bs.reads [] rest may) in
+      let inside : BinderBody limit c [] (tokens_of (body_pieces (map with_pieces parts)) ++ tail c rest) (map unplaced parts) rest =
+      subst (λ ps. BinderBody limit c [] (tokens_of (body_pieces (map with_pieces ps)) ++ tail c rest) (map unplaced ps) rest) (back bs.is) (bs.reads [] rest may) in
       let whole : Reads limit (binding_grade c) (item x 0 (raw_binder_sign_of (binder_of c)) ∷ (tokens_of (separated_pieces (map declared names)) ++ (item sym.Dot 0 (bytes "·") ∷ (tokens_of (body_pieces (map with_pieces parts)) ++ tail c rest)))) (raw.Bind (binder_of c) (map unplaced_bound names) (map unplaced parts) 0) rest =
       by_names ox tn (all_names names r ns _) inside refl in
       let tokens = ap (λ ps. tokens_of ps ++ rest) text
@@ -623,7 +623,7 @@ module _ (limit : Option ℕ) where
       bracketed false (raw.Bind rawbinder.Lambda shape.names parts p) tree (unplaced-Bind rawbinder.Lambda shape.names parts p ∙ (λ i. raw.Bind rawbinder.Lambda (a.names i) (trees i) 0)) (place-Bind rawbinder.Lambda a.to.names (a.to.tree ∷ map unplaced bs.new))
       (alone-Bind rawbinder.Lambda shape.names parts p) grade.Reaching refl
       (λ rest c.
-      let inside : Body limit binding.Lambda (a.to.tree ∷ []) (tokens_of (body_pieces (map with_pieces bs.new)) ++ rest) (a.to.tree ∷ map unplaced bs.new) rest = bs.reads (a.to.tree ∷ []) rest c in
+      let inside : BinderBody limit binding.Lambda (a.to.tree ∷ []) (tokens_of (body_pieces (map with_pieces bs.new)) ++ rest) (a.to.tree ∷ map unplaced bs.new) rest = bs.reads (a.to.tree ∷ []) rest c in
       let whole : Reads limit grade.Reaching (item (sym.Binder binding.Lambda) 0 (bytes "λ") ∷ (tokens_of a.qs ++ (item sym.Dot 0 (bytes "·") ∷ (tokens_of (body_pieces (map with_pieces bs.new)) ++ rest)))) tree rest =
       lambda (a.bare_pattern (item sym.Dot 0 (bytes "·") ∷ (tokens_of (body_pieces (map with_pieces bs.new)) ++ rest)) (closing refl)) inside in
       let printed : pattern shape.tree (map declared shape.names) ≡ a.qs = ap (pattern shape.tree) (back (append-nil (map declared shape.names))) ∙ a.prints [] in
@@ -711,7 +711,7 @@ module _ (limit : Option ℕ) where
     names_again (last_name {before = before} {b = b} {rest = rest} one) all = let own = bound_again one all in last_named before b rest own.0 own.1.1
     names_again (next_name {before = before} {names = names} {b = b} {rest = rest} one more) all = let own = bound_again one all in next_named before names b rest own.0 (names_again more own.1.1)
 
-    body_again : {c : Binding} {before parts : List Raw} {s rest : List Item} → Body limit c before s parts rest → AllProper s → BodyAgain c before parts rest
+    body_again : {c : Binding} {before parts : List Raw} {s rest : List Item} → BinderBody limit c before s parts rest → AllProper s → BodyAgain c before parts rest
     body_again {c = c} (a_predicate {before = before} {rest = rest} {t = t} q lp) all = let own = last_again refl lp all in predicate_body c before t rest q own.0 own.1
     body_again {c = c} (a_value {before = before} {g = g} {rest = rest} {t = t} {e = e} q r f lp) all =
         let first = reads_again r all in

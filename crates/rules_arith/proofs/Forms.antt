@@ -10,14 +10,14 @@ use Rattle.formula_core.specs.declared.formula.Formula.TheOpen.{Int as IntF, Fre
 use Rattle.formula_core.specs.declared.formula.Formula.TheVariants.{Int, Free, Bound, Node, Bind}
 use Rattle.formula_core.specs.declared.formula.Formula.TheViews.{rolls-Int, rolls-Free, rolls-Bound, rolls-Node, rolls-Bind}
 use Rattle.formula_core.proofs.Equations.{formula_para}
-use Rattle.rule_table.specs.Linear.{Linear, Checked, constant_form, atom, unary_form, binary_form, node_form, linear_step, linear}
+use Rattle.rule_table.specs.Linear.{Linear, OrTooWide, constant_form, atom, unary_form, binary_form, node_form, linear_step, linear}
 use Rattle.rules_arith.specs.Private.{has_linear_parts}
 
-parts-beside : (g : Formula → Checked Linear) (fs : List Formula) → map (λ (p : Formula × Checked Linear). p.0) (map (λ f. (f, g f)) fs) ≡ fs
+parts-beside : (g : Formula → OrTooWide Linear) (fs : List Formula) → map (λ (p : Formula × OrTooWide Linear). p.0) (map (λ f. (f, g f)) fs) ≡ fs
 parts-beside g [] = refl
 parts-beside g (f ∷ fs) = ap (λ gs. f ∷ gs) (parts-beside g fs)
 
-forms-beside : (g : Formula → Checked Linear) (fs : List Formula) → map (λ (p : Formula × Checked Linear). p.1) (map (λ f. (f, g f)) fs) ≡ map g fs
+forms-beside : (g : Formula → OrTooWide Linear) (fs : List Formula) → map (λ (p : Formula × OrTooWide Linear). p.1) (map (λ f. (f, g f)) fs) ≡ map g fs
 forms-beside g [] = refl
 forms-beside g (f ∷ fs) = ap (λ gs. g f ∷ gs) (forms-beside g fs)
 
@@ -37,17 +37,17 @@ pub linear-Node : (o : Op) (ps : List Formula) (t : Ty) → linear (Node o ps t)
 linear-Node o ps t = formula_para linear_step (NodeF o ps t) (Node o ps t) (rolls-Node o ps t)
     ∙ (λ i. node_form o (Node o (parts-beside linear ps i) t) (forms-beside linear ps i))
 
-unary-whole : (o : Op) (f : Formula) (a : Checked Linear) → has_linear_parts o ≡ false → unary_form o f a ≡ Ok (atom f)
+unary-whole : (o : Op) (f : Formula) (a : OrTooWide Linear) → has_linear_parts o ≡ false → unary_form o f a ≡ Ok (atom f)
 unary-whole op.Negate f a h = absurd (cc)
 unary-whole _ f a h = refl
 
-binary-whole : (o : Op) (f : Formula) (a b : Checked Linear) → has_linear_parts o ≡ false → binary_form o f a b ≡ Ok (atom f)
+binary-whole : (o : Op) (f : Formula) (a b : OrTooWide Linear) → has_linear_parts o ≡ false → binary_form o f a b ≡ Ok (atom f)
 binary-whole op.Plus f a b h = absurd (cc)
 binary-whole op.Minus f a b h = absurd (cc)
 binary-whole op.Times f a b h = absurd (cc)
 binary-whole _ f a b h = refl
 
-node-whole : (o : Op) (f : Formula) (xs : List (Checked Linear)) → has_linear_parts o ≡ false → node_form o f xs ≡ Ok (atom f)
+node-whole : (o : Op) (f : Formula) (xs : List (OrTooWide Linear)) → has_linear_parts o ≡ false → node_form o f xs ≡ Ok (atom f)
 node-whole o f [] h = refl
 node-whole o f (a ∷ []) h = unary-whole o f a h
 node-whole o f (a ∷ b ∷ []) h = binary-whole o f a b h

@@ -1,10 +1,10 @@
 -- Hypotheses and their multipliers, from a place on.
 use Rattle.std.proofs.Common.{◌≡◌, ◌∙◌, sym, ap, refl, ℕ, zero, suc, ◌+◌, ℤ, pos, ◌<◌, ◌≤◌, Bool, true, false, ◌&&◌, not, List, [], ◌∷◌, length, drop, get_or, leb, arith}
 use Rattle.formula_core.specs.declared.Formula.{Formula}
-use Rattle.rule_table.specs.Linear.{Linear, Checked, added, are_multiplied, may_be_multiplied, shape, is_formula_among}
+use Rattle.rule_table.specs.Linear.{Linear, OrTooWide, added, are_multiplied, may_be_multiplied, shape, is_formula_among}
 use Rattle.rules_arith.specs.Private.{with_hypothesis}
 
-no_multipliers : (total : Checked Linear) (hs : List Formula) → added total hs [] ≡ total
+no_multipliers : (total : OrTooWide Linear) (hs : List Formula) → added total hs [] ≡ total
 no_multipliers total [] = refl
 no_multipliers total (x ∷ hs) = refl
 
@@ -14,7 +14,7 @@ none_from [] (suc i) h = refl
 none_from (k ∷ ks) zero h = absurd (omega arith)
 none_from (k ∷ ks) (suc i) h = none_from ks i (omega arith)
 
-pub added_too_few : (total : Checked Linear) (hs : List Formula) (ks : List ℤ) (i : ℕ) → length ks ≤ i → added total (drop i hs) (drop i ks) ≡ total
+pub added_too_few : (total : OrTooWide Linear) (hs : List Formula) (ks : List ℤ) (i : ℕ) → length ks ≤ i → added total (drop i hs) (drop i ks) ≡ total
 added_too_few total hs ks i h = ap (added total (drop i hs)) (none_from ks i h) ∙ no_multipliers total (drop i hs)
 
 next : (i : ℕ) → suc i + 1 ≡ suc (i + 1)
@@ -30,11 +30,11 @@ number_at [] i h = absurd (omega arith)
 number_at (k ∷ ks) zero h = refl
 number_at (k ∷ ks) (suc i) h = number_at ks i (omega arith) ∙ (λ j. get_or ks i (pos 0) ∷ drop (sym (next i) j) (k ∷ ks))
 
-pub added_one_more : (total : Checked Linear) (hs : List Formula) (ks : List ℤ) (i : ℕ) (x : Formula) → i < length hs → i < length ks → x ≡ get_or hs i x
+pub added_one_more : (total : OrTooWide Linear) (hs : List Formula) (ks : List ℤ) (i : ℕ) (x : Formula) → i < length hs → i < length ks → x ≡ get_or hs i x
     → added total (drop i hs) (drop i ks) ≡ added (with_hypothesis total x (get_or ks i (pos 0))) (drop (i + 1) hs) (drop (i + 1) ks)
 added_one_more total hs ks i x h k e = λ j. added total (drop_at hs i x h e j) (number_at ks i k j)
 
-pub added_at_end : (total : Checked Linear) (hs : List Formula) (ks : List ℤ) → added total (drop (length hs) hs) ks ≡ total
+pub added_at_end : (total : OrTooWide Linear) (hs : List Formula) (ks : List ℤ) → added total (drop (length hs) hs) ks ≡ total
 added_at_end total [] ks = refl
 added_at_end total (x ∷ hs) ks = added_at_end total hs ks
 

@@ -23,7 +23,7 @@ use Rattle.formula_core.specs.Names.{with_prime}
 use Rattle.model_core.specs.Refined.{refined_by}
 use Rattle.po_rules.specs.Rows.{of_kind, chain, equal_terms, simulated_value, simulated, simulation_row, simulation_rows, own_invariant_rows, variant_rows, decrease_rows}
 use Rattle.po_rules.specs.Sequents.{IsNewValueIn, AreGoodParts, AreSequents}
-use Rattle.po_rules.specs.Tables.{Row, guards, witnesses, strengthening, merging, actions, simulation, equality, invariants, variant, all_rows, row_of_event, event_rows, machine_rows, obligations_of}
+use Rattle.po_rules.specs.Tables.{EventRow, guards, witnesses, strengthening, merging, actions, simulation, equality, invariants, variant, all_rows, row_of_event, event_rows, machine_rows, obligations_of}
 use Rattle.sequent_laws.specs.Sound.{IsTypedVariantIn, IsAbstractActionAt, IsReadIn, HasGoodParts, IsGoodMachine, IsGoodComponent}
 use Rattle.sequent_laws.proofs.Formulas
 use Rattle.sequent_laws.proofs.Primes.{unprimed}
@@ -81,7 +81,7 @@ listed P None h = tt
 listed P (Some x) h = (h, tt)
 
 -- each row of an event
-pub row_is : (m : CheckedMachine) (abstraction : Option CheckedMachine) (e : CheckedEvent) (refined : List CheckedEvent) (p : EventParts) (row : Row)
+pub row_is : (m : CheckedMachine) (abstraction : Option CheckedMachine) (e : CheckedEvent) (refined : List CheckedEvent) (p : EventParts) (row : EventRow)
     → AreGoodParts p → IsReadIn p.env m e refined → AreSequents (row_of_event m abstraction e refined p row)
 row_is m abstraction e refined p guards good reads =
     Rows.labelled_are p.path p.env (machine_hyps m) good.env (Rows.hyps_are p.env m reads.axioms reads.invariants) e.own_guards_from e.guards reads.guards

@@ -5,14 +5,14 @@ use Rattle.model_core.specs.declared.checked.CheckedEvent.{CheckedEvent}
 use Rattle.model_core.specs.declared.checked.CheckedMachine.{CheckedMachine}
 use Rattle.po_rules.specs.Parts.{EventParts}
 use Rattle.po_rules.specs.Sequents.{AreGoodParts, AreSequents}
-use Rattle.po_rules.specs.Tables.{Row, row_of_event, obligations_of}
+use Rattle.po_rules.specs.Tables.{EventRow, row_of_event, obligations_of}
 use Rattle.sequent_laws.specs.Sound.{IsReadIn, IsWellTypedComponent, IsGoodComponent, IsGoodMachine, IsWellTypedMachine}
 
 -- each row of an event with good parts
 abbrev pub EventRowsAreSequents : Type 0
 EventRowsAreSequents =
     (m : CheckedMachine) (abstraction : Option CheckedMachine) (e : CheckedEvent) (refined : List CheckedEvent)
-    (p : EventParts) (row : Row) →
+    (p : EventParts) (row : EventRow) →
     AreGoodParts p → IsReadIn p.env m e refined → AreSequents (row_of_event m abstraction e refined p row)
 
 -- the table of a component, where the parts of its events are good
