@@ -91,7 +91,8 @@ impl Model for NameTable {
 
     ghost view = { λ a. a.entries.items };
 
-    ghost invariant = { λ a. HasDistinctNames a.entries.items × OnTrue a.has_places (AreAtPlaces a.entries.items a.places.entries) };
+    ghost invariant = { λ a. HasDistinctNames a.entries.items
+        × OnTrue a.has_places (AreAtPlaces a.entries.items a.places.entries) };
 }
 
 impl Model for Env {

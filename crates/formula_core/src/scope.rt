@@ -36,7 +36,8 @@ impl<'a> Model for Scope<'a> {
     ghost view = { λ s. reverse s.types.now ++ types_below (option_copied s.outer) };
 
     ghost invariant = { λ s. (0 < length s.types.now)
-        × IfSome s.further (λ f. (0 < s.skipped) × (f.now ≡ drop s.skipped (reverse s.types.now ++ types_below (option_copied s.outer)))) };
+        × IfSome s.further (λ f. (0 < s.skipped)
+        × (f.now ≡ drop s.skipped (reverse s.types.now ++ types_below (option_copied s.outer)))) };
 
     ghost size = { length };
 

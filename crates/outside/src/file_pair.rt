@@ -38,7 +38,8 @@ impl<'a, R: Files<File = File>> Model for FilePair<'a, R> {
 
     ghost Value = { FilesOfDisk };
 
-    ghost view = { λ d. record { opened = d.is_open; left = is_some d.left; right = is_some d.right; faults = d.faults } };
+    ghost view = { λ d.
+        record { opened = d.is_open; left = is_some d.left; right = is_some d.right; faults = d.faults } };
 }
 
 // Makes the names of the files outlast a stop of the machine.

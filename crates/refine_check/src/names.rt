@@ -29,7 +29,8 @@ impl<'a> Model for Names<'a> {
 
     ghost view = { λ a. texts a.list.items };
 
-    ghost invariant = { λ a. (name : List ℕ) → index_in a.places name ≡ first_index (bytes_eq name) (texts a.list.items) };
+    ghost invariant = { λ a. (name : List ℕ) →
+        index_in a.places name ≡ first_index (bytes_eq name) (texts a.list.items) };
 }
 
 impl<'a> Names<'a> {

@@ -57,9 +57,18 @@ impl<V: Kept> Model for Chair<V> {
 
     ghost Value = { ChairState V.Entry V.Base };
 
-    ghost view = { λ c. record { table = c.seat.table_id; number = c.number; acts = c.seat.me.0.acts; made = c.made; joined = c.seat.me.0.joined; seen = c.seat.me.0.seen; base = c.seat.me.0.base } };
+    ghost view = { λ c. record {
+      table = c.seat.table_id;
+      number = c.number;
+      acts = c.seat.me.0.acts;
+      made = c.made;
+      joined = c.seat.me.0.joined;
+      seen = c.seat.me.0.seen;
+      base = c.seat.me.0.base;
+    } };
 
-    ghost invariant = { λ c. (c.seat.me.0.number ≡ c.number) × (c.seat.me.0.made ≡ c.made) × (c.seat.me.1 ≡ []) × (c.seat.me.0.seated ≡ true) × (c.seat.me.0.acting ≡ false) };
+    ghost invariant = { λ c. (c.seat.me.0.number ≡ c.number) × (c.seat.me.0.made ≡ c.made) × (c.seat.me.1 ≡ [])
+        × (c.seat.me.0.seated ≡ true) × (c.seat.me.0.acting ≡ false) };
 }
 
 // Whether the turn can be taken, by the turn word. Its last even value counts as taken.
