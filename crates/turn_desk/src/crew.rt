@@ -1,6 +1,6 @@
 //! Several chairs at once.
 ghost use Rattle.std.specs.Prelude.{◌≡◌, ◌+◌, ◌<◌, ◌≤◌, ◌^◌, [], All, length, vec_capacity};
-ghost use Rattle.turn_desk.specs.Log.{AllJoined, HasSeen};
+ghost use Rattle.turn_desk.specs.Log.{AllJoined, HasSeen, NoneFrom};
 
 use crate::desk::{Chair, Desk};
 use crate::kept::Kept;
@@ -16,6 +16,7 @@ impl<V: Kept> Chair<V> {
         ensures maker { self.new ≡ record self.old { made = self.old.made + count } }
         ensures count { length chairs.new.items ≡ count }
         ensures made { AreNew self.old self.old.made chairs.new.items }
+        ensures unused { All (λ chair. NoneFrom V.chair_of chair.number chair.seen) chairs.new.items }
     {
         for _ in 0..count {
             chairs.push_reserved(self.split(desk));
