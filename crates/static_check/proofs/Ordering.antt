@@ -224,6 +224,24 @@ among_left_out (c ∷ components) sorted name =
     split true = refl
     split false = refl
 
+all_passing : {X : Type 0} (P : X → Type 0) (test : X → Bool) (xs : List X) → AllByRecursion P xs → AllByRecursion P (filter test xs)
+all_passing P test [] all = tt
+all_passing P test (x ∷ xs) all = kept (test x) (all_passing P test xs all.1)
+  where
+    kept : (b : Bool) → AllByRecursion P (filter test xs) → AllByRecursion P (cond b (x ∷ filter test xs) (filter test xs))
+    kept true rest = (all.0, rest)
+    kept false rest = rest
+
+-- of distinct names those that pass a test are distinct
+distinct_passing : (test : List ℕ → Bool) (names : List (List ℕ)) → IsDistinct bytes_eq names → IsDistinct bytes_eq (filter test names)
+unfolding IsDistinct
+distinct_passing test [] distinct = tt
+distinct_passing test (name ∷ names) distinct = kept (test name) (distinct_passing test names distinct.1)
+  where
+    kept : (b : Bool) → IsDistinct bytes_eq (filter test names) → IsDistinct bytes_eq (cond b (name ∷ filter test names) (filter test names))
+    kept true rest = (all_passing (λ n. bytes_eq name n ≡ false) test names distinct.0, rest)
+    kept false rest = rest
+
 true_false : (a : Bool) → a ≡ true → a ≡ false → ⊥
 true_false a e f = cc
 
@@ -240,6 +258,8 @@ whole_order components order part left done = record {
     λ h. ap (λ names. is_among names name) left ∙ among_left_out components order.sorted name
         ∙ and_of (has_component components name) _ h.0 (not_false _ (unsorted name h.1 (is_among order.sorted name) refl)),
   );
+  cyclic_once = λ distinct. subst (IsDistinct bytes_eq) (sym left)
+      (distinct_passing (λ n. not (is_among order.sorted n)) (map own_name components) distinct);
 }
   where
     unsorted : (name : List ℕ) → ¬ IsSettled components name → (a : Bool) → is_among order.sorted name ≡ a → is_among order.sorted name ≡ false

@@ -1,5 +1,5 @@
 -- Settled components: each reference is absent, or is settled in an earlier round.
-use Rattle.std.specs.Prelude.{◌≡◌, ◌↔◌, ◌⊎◌, ℕ, zero, suc, Bool, true, false, List, [], ◌∷◌, ◌++◌, bytes_eq, ⊤}
+use Rattle.std.specs.Prelude.{◌≡◌, ◌↔◌, ◌⊎◌, ℕ, zero, suc, Bool, true, false, List, [], ◌∷◌, ◌++◌, map, bytes_eq, ⊤}
 use Rattle.std.specs.List.{AllByRecursion, Contains, IsDistinct, list_any}
 use Rattle.formula_core.specs.declared.raw.Ref.{Ref}
 use Rattle.model_core.specs.declared.component.RawComponent.{RawComponent}
@@ -46,3 +46,4 @@ pub record IsComponentOrder (components : List RawComponent) (order : Order) : T
   pub once : IsDistinct bytes_eq order.sorted
   pub sorted : (name : List ℕ) → (is_among order.sorted name ≡ true) ↔ IsSettled components name
   pub cyclic : (name : List ℕ) → (is_among order.cyclic name ≡ true) ↔ ((has_component components name ≡ true) × ¬ IsSettled components name)
+  pub cyclic_once : IsDistinct bytes_eq (map own_name components) → IsDistinct bytes_eq order.cyclic
