@@ -6,12 +6,22 @@ ghost use Rattle.core_steps.specs.StateEntries.{build_of, state_entries};
 
 use crate::changes::add_changes;
 use core_steps::{Durable, Entry, PoMap, Project, StoredProof};
-use formula_core::OutOfMemory;
+use formula_core::{OutOfMemory, PoName};
 use std::alloc::Global;
 
 /// The entries that lead from nothing to what lasts: those of a checkpoint, and of the digest.
 pub fn state_entries(alloc: Global, durable: &Durable) -> Result<Vec<Entry>, OutOfMemory>
     ensures entries { IfOk result (λ listed. listed.items ≡ state_entries durable.now) }
+{
+    let mut listed = text_entries(alloc, durable)?;
+    add_proofs(alloc, &durable.proofs, &mut listed)?;
+    Ok(listed)
+}
+
+/// Those before the proofs.
+pub(crate) fn text_entries(alloc: Global, durable: &Durable) -> Result<Vec<Entry>, OutOfMemory>
+    ensures { IfOk result (λ listed. listed.items
+        ++ map (λ e. Entry.SetProof e.0 e.1) (finite.entries durable.now.proofs) ≡ state_entries durable.now) }
 {
     let mut listed = Vec::new(alloc);
     add_built(alloc, &durable.built, &mut listed)?;
@@ -19,7 +29,6 @@ pub fn state_entries(alloc: Global, durable: &Durable) -> Result<Vec<Entry>, Out
         listed.push(Entry::Build)?;
     }
     add_changes(alloc, &durable.built, &durable.texts, &mut listed)?;
-    add_proofs(alloc, &durable.proofs, &mut listed)?;
     Ok(listed)
 }
 
@@ -42,7 +51,18 @@ fn add_proofs(
         ≡ listed.old.items ++ map (λ e. Entry.SetProof e.0 e.1) (finite.entries proofs.now)) }
 {
     for (name, stored) in proofs.entries() {
-        listed.push(Entry::SetProof(name.copy(alloc)?, stored.proof().copy(alloc)?))?;
+        listed.push(proof_entry(alloc, name, stored)?)?;
     }
     Ok(())
+}
+
+/// The entry of a proof.
+pub(crate) fn proof_entry(
+    alloc: Global,
+    name: &PoName,
+    stored: &StoredProof,
+) -> Result<Entry, OutOfMemory>
+    ensures { IfOk result (λ entry. entry ≡ Entry.SetProof name.now stored.now) }
+{
+    Ok(Entry::SetProof(name.copy(alloc)?, stored.proof().copy(alloc)?))
 }
