@@ -21,7 +21,7 @@ use proof_entries::Origin;
 use sequent_core::Ticket;
 use std::alloc::Global;
 use std::sync::Arc;
-use table_lookup::{origin_of, status_with};
+use table_lookup::status_and_origin;
 use typed_tables::typed_tables;
 
 impl Core {
@@ -107,10 +107,8 @@ fn shown_status(
     requires { IsSequent numbered.now.sequent }
     ensures { IfOk result (λ shown. Shows proofs.now numbered.now shown) }
 {
-    let status = status_with(proofs, numbered);
-    let obligation = numbered.obligation();
-    let origin = origin_of(proofs, &obligation.name);
-    let name = obligation.name.copy(alloc)?;
+    let (status, origin) = status_and_origin(proofs, numbered);
+    let name = numbered.obligation().name.copy(alloc)?;
     Ok((name, status, origin))
 }
 

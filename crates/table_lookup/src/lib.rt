@@ -4,6 +4,5 @@
 mod lookup;
 
 pub use lookup::{
-    facts_to_store, first_open, is_free, origin_of, present_status, status_of, status_with,
-    ticket_at,
+    facts_to_store, first_open, is_free, present_status, status_and_origin, status_of, ticket_at,
 };

@@ -65,8 +65,8 @@ pub fn status_of(proofs: &PoMap<StoredProof>, name: &PoName, sequent: &Sequent) 
     }
 }
 
-/// The same for an obligation whose hypotheses are numbered: they are looked for by their numbers.
-pub fn status_with(proofs: &PoMap<StoredProof>, numbered: &Numbered) -> Status
+// The same for an obligation whose hypotheses are numbered: they are looked for by their numbers.
+fn status_with(proofs: &PoMap<StoredProof>, numbered: &Numbered) -> Status
     requires sequent { IsSequent numbered.now.sequent }
     ensures status { IsStatus (get proofs.now numbered.now.name) numbered.now.sequent result }
 {
@@ -77,13 +77,22 @@ pub fn status_with(proofs: &PoMap<StoredProof>, numbered: &Numbered) -> Status
     }
 }
 
-/// Who made the proof that is stored under the name.
-pub fn origin_of(proofs: &PoMap<StoredProof>, name: &PoName) -> Option<Origin>
-    ensures origin { result ≡ origin_of (get proofs.now name.now) }
+/// The status of the proof that is stored for the obligation, and who made it, by one search.
+pub fn status_and_origin(
+    proofs: &PoMap<StoredProof>,
+    numbered: &Numbered,
+) -> (Status, Option<Origin>)
+    requires sequent { IsSequent numbered.now.sequent }
+    ensures status { IsStatus (get proofs.now numbered.now.name) numbered.now.sequent result.0 }
+    ensures origin { result.1 ≡ origin_of (get proofs.now numbered.now.name) }
 {
-    match proofs.get(name) {
-        None => None,
-        Some(stored) => stored.origin(),
+    let obligation = numbered.obligation();
+    match proofs.get(&obligation.name) {
+        None => (Status::Unattempted, None),
+        Some(stored) => (
+            stored.status_with(&obligation.sequent, numbered.prints()),
+            stored.origin(),
+        ),
     }
 }
 
