@@ -10,6 +10,7 @@ pub mod NameMaps
 pub mod OneWay
 pub mod Projects
 mod Rebuilt
+mod Removed
 mod Restoring
 mod Sorted
 pub mod SortedMaps

@@ -3,6 +3,7 @@ pub mod Editing
 pub mod Faults
 pub mod Laws
 pub mod Outcomes
+pub mod PrivateNames
 pub mod Proving
 pub mod Run
 pub mod State

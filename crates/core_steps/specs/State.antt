@@ -3,16 +3,15 @@ use Rattle.std.specs.Prelude.{ℕ, List, [], ◌∷◌, Option, Some, None}
 use Rattle.std.specs.FinMap.{FinMap, insert, remove, empty}
 use Rattle.sequent_core.specs.declared.Sequent.{Sequent}
 use Rattle.sequent_core.specs.declared.Ticket.{Ticket}
-use Rattle.proof_entries.specs.declared.Proof.{Proof}
 use Rattle.proof_entries.specs.declared.Entry.{Entry}
 use Rattle.proof_entries.specs.declared.Entry.TheVariants.{Put, Drop, Build, SetProof, Purge}
 use Rattle.core_steps.specs.Durable.{text_cmp}
 use Rattle.core_steps.specs.declared.durable.Durable.{Durable}
 
--- the proofs without those of these names
-abbrev pub without_all : FinMap text_cmp Proof → List (List ℕ) → FinMap text_cmp Proof
-without_all proofs [] = proofs
-without_all proofs (name ∷ names) = without_all (remove proofs name) names
+-- a map without what it has at these names
+abbrev pub without_all : {X : Type 0} → FinMap text_cmp X → List (List ℕ) → FinMap text_cmp X
+without_all m [] = m
+without_all m (name ∷ names) = without_all (remove m name) names
 
 -- what an entry makes of a durable
 abbrev pub entered : Durable → Entry → Durable

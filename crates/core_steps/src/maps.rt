@@ -2,6 +2,8 @@
 ghost use Rattle.std.specs.Prelude.{◌≡◌, ◌<◌, IfOk, OnOk, OnErr, false};
 ghost use Rattle.std.specs.Option.{option_copied};
 ghost use Rattle.std.specs.FinMap as map;
+ghost use Rattle.core_steps.specs.PrivateNames.{AreAscending, is_none_of};
+ghost use Rattle.core_steps.specs.State.{without_all};
 
 use crate::entries::{drop_from, place_of, put, put_in};
 use crate::room::Room;
@@ -91,6 +93,19 @@ impl<V: Drop> PoMap<V> {
         drop_from(&mut self.entries, name);
     }
 
+    /// Removes the values at these names, in one pass where the names are in byte order. It takes no memory.
+    pub fn remove_all(&mut self, names: &[PoName])
+        ensures { self.new ≡ without_all self.old names.now }
+    {
+        if names.is_sorted() {
+            self.entries.retain(|entry| is_none_of(names, &entry.0));
+            return;
+        }
+        for name in names {
+            self.remove(name);
+        }
+    }
+
     /// Room for a value at the name, where there is none.
     pub fn room_for(&self, alloc: Global, name: &PoName) -> Result<Room<(PoName, V)>, OutOfMemory>
         ensures { IfOk result (λ room. map.contains_key self.now name.now ≡ false → map.len self.now < room) }
@@ -100,4 +115,11 @@ impl<V: Drop> PoMap<V> {
         }
         Room::above(alloc, self.len())
     }
+}
+
+// Whether the name is none of these.
+fn is_none_of(names: &[PoName], name: &PoName) -> bool
+    ensures { AreAscending names.now → result ≡ is_none_of names.now name.now }
+{
+    names.binary_search(name).is_err()
 }

@@ -4,7 +4,7 @@ ghost use Rattle.std.specs.FinMap as map;
 ghost use Rattle.std.specs.Option.{option_copied, option_map};
 ghost use Rattle.proof_entries.specs.declared.Entry.{Entry};
 ghost use Rattle.core_steps.specs.Durable.{ProjectMap};
-ghost use Rattle.core_steps.specs.State.{State, without_all};
+ghost use Rattle.core_steps.specs.State.{State};
 ghost use Rattle.prepared_events.specs.Entered.{built_after, proofs_after, texts_after};
 ghost use Rattle.prepared_events.specs.Kept.{HasFacts};
 ghost use Rattle.prepared_events.specs.Prepared.{FitsBuilt, FitsEntry, FitsMove, moved};
@@ -26,15 +26,6 @@ use core_steps::{Facts, PoMap, Project, Room, StoredProof, Texts, push_in};
 use formula_core::{Name, PoName, Text};
 use proof_entries::Entry;
 use sequent_core::{Sequent, Ticket};
-
-// The proofs without those of these names.
-fn remove_all(proofs: &mut PoMap<StoredProof>, names: &[PoName])
-    ensures { proofs.new ≡ without_all proofs.old names.now }
-{
-    for name in names {
-        proofs.remove(name);
-    }
-}
 
 fn is_build(entry: Option<&Entry>) -> bool
     ensures { IsTrue result ↔ (option_copied entry.entry ≡ Some Entry.Build) }
@@ -112,7 +103,7 @@ fn remove(entry: Option<Entry>, texts: &mut Texts, proofs: &mut PoMap<StoredProo
 {
     match entry {
         Some(Entry::Drop(name)) => texts.remove(&name),
-        Some(Entry::Purge(names)) => remove_all(proofs, names.items()),
+        Some(Entry::Purge(names)) => proofs.remove_all(names.items()),
         _ => {}
     }
 }

@@ -1,10 +1,10 @@
 // What entries make of a project.
 ghost use Rattle.std.specs.Prelude.{◌≡◌, OnOk};
-ghost use Rattle.core_steps.specs.State.{entered, without_all};
+ghost use Rattle.core_steps.specs.State.{entered};
 ghost use Rattle.project_store.specs.Records.{after_all};
 
-use core_steps::{Durable, PoMap, Project, StoredProof};
-use formula_core::{OutOfMemory, PoName};
+use core_steps::{Durable, Project, StoredProof};
+use formula_core::OutOfMemory;
 use proof_entries::Entry;
 use std::alloc::Global;
 
@@ -40,16 +40,8 @@ fn enter(alloc: Global, durable: &mut Durable, entry: Entry) -> Result<(), OutOf
             durable.proofs.put(name, stored)
         }
         Entry::Purge(names) => {
-            remove_all(&mut durable.proofs, names.items());
+            durable.proofs.remove_all(names.items());
             Ok(())
         }
-    }
-}
-
-fn remove_all(proofs: &mut PoMap<StoredProof>, names: &[PoName])
-    ensures { proofs.new ≡ without_all proofs.old names.now }
-{
-    for name in names {
-        proofs.remove(name);
     }
 }
