@@ -74,7 +74,7 @@ fn comment_in(bytes: &[u8]) -> Gap
 }
 
 /// The blank or the comment at the front of a text.
-pub fn gap_in(bytes: &[u8]) -> Gap
+pub(crate) fn gap_in(bytes: &[u8]) -> Gap
     ensures { result ≡ gap_in bytes.now }
 {
     let blank = blank_length(bytes);

@@ -8,7 +8,7 @@ mod piece;
 mod positions;
 
 pub use cutting::{Pieces, cut};
-pub use gap::{Gap, gap_in};
+pub use gap::Gap;
 pub use laws::pieces_one_way;
-pub use piece::{CutFault, Piece, label_length, piece_at};
+pub use piece::{CutFault, Piece};
 pub use positions::{Position, position_of};

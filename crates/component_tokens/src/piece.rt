@@ -42,7 +42,7 @@ fn label_run(bytes: &[u8]) -> usize
 }
 
 /// How many characters a label has that begins a text with its `@`, 0 where none does.
-pub fn label_length(bytes: &[u8]) -> usize
+pub(crate) fn label_length(bytes: &[u8]) -> usize
     ensures value { result ≡ label_length bytes.now }
     ensures short { result < 65 }
 {
@@ -64,7 +64,7 @@ fn label_token(at: u32, length: usize) -> Token
 }
 
 /// What stands at a byte of a text. It takes no memory.
-pub fn piece_at(text: &str, at: u32) -> Piece
+pub(crate) fn piece_at(text: &str, at: u32) -> Piece
     requires fits { length text.now < 2 ^ 32 }
     requires within { at < length text.now }
     ensures { IsPieceAt text.now at result }

@@ -21,7 +21,7 @@ pub fn names_of(alloc: Global, refs: &[Ref]) -> Result<Vec<Name>, OutOfMemory>
     Ok(names)
 }
 
-pub fn copy_names(alloc: Global, names: &[&Name]) -> Result<Vec<Name>, OutOfMemory>
+pub(crate) fn copy_names(alloc: Global, names: &[&Name]) -> Result<Vec<Name>, OutOfMemory>
     ensures { IfOk result (λ copies. copies.items ≡ map (λ n. n.now) names.now) }
 {
     let mut copies = Vec::new(alloc);
@@ -102,7 +102,7 @@ fn carrier_set(alloc: Global, set: &Ref) -> Result<(Name, Ty), OutOfMemory>
 }
 
 /// Adds carrier sets with their types.
-pub fn add_carrier_sets(
+pub(crate) fn add_carrier_sets(
     alloc: Global,
     entries: &mut Vec<(Name, Ty)>,
     sets: &[Ref],

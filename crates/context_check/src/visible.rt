@@ -273,7 +273,7 @@ fn add_contexts<'a>(
 }
 
 /// Adds what a context brings.
-pub fn add_context<'a>(
+pub(crate) fn add_context<'a>(
     alloc: Global,
     view: &mut View<'a>,
     context: &'a CheckedContext,

@@ -44,7 +44,7 @@ impl<T: Drop> Room<T> {
     }
 
     /// The vector of that capacity.
-    pub fn into_items(self) -> Vec<T>
+    pub(crate) fn into_items(self) -> Vec<T>
         ensures items { result.items ≡ [] }
         ensures capacity { vec_capacity result ≡ self }
     {

@@ -13,6 +13,4 @@ mod table;
 
 pub use instances::instance;
 pub use laws::right_side;
-pub use read::main_of;
-pub use rewriting::{rewritten, rw_goal, rw_hyp};
-pub use table::{is_instance, is_rule, used_if_sound};
+pub use table::{is_rule, used_if_sound};

@@ -11,7 +11,7 @@ use std::alloc::Global;
 
 /// The main formulas from which a rule is made: its goal, its hypotheses, the names that it adds, and the formula that
 /// was chosen for it, which stands in what the last antecedent adds.
-pub fn main_of(alloc: Global, rule: &Rule) -> Result<Main, OutOfMemory>
+pub(crate) fn main_of(alloc: Global, rule: &Rule) -> Result<Main, OutOfMemory>
     ensures main { IfOk result (λ m. m ≡ main_of rule.now.kind (body_of rule.now)) }
 {
     let goal = copy_found(alloc, rule.needed_goal.as_ref())?;

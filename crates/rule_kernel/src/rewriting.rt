@@ -11,7 +11,7 @@ use std::alloc::Global;
 
 /// The formula with the right side of a law at a place, if it has that place and a left side of the law stands there.
 #[tactic(auto, using(rules_arith::proofs::Rewriting::rewritten_by_parts))]
-pub fn rewritten(
+pub(crate) fn rewritten(
     alloc: Global,
     law: Law,
     place: &[u32],
@@ -29,7 +29,7 @@ pub fn rewritten(
 }
 
 /// A rewritten goal: the goal with the right side of the law with this number at this place is proved.
-pub fn rw_goal(
+pub(crate) fn rw_goal(
     alloc: Global,
     number: u8,
     place: &[u32],
@@ -48,7 +48,7 @@ pub fn rw_goal(
 }
 
 /// A rewritten hypothesis: the hypothesis with the right side of the law with this number at this place is there.
-pub fn rw_hyp(
+pub(crate) fn rw_hyp(
     alloc: Global,
     number: u8,
     place: &[u32],

@@ -44,7 +44,7 @@ pub fn used_if_sound(alloc: Global, rule: &Rule) -> Result<Option<List<(Name, Ty
 
 /// Whether a rule is the instance of its kind for its main formulas. An instance that would leave a larger formula than
 /// the rule does isn't built.
-pub fn is_instance(alloc: Global, rule: &Rule) -> Result<bool, OutOfMemory>
+pub(crate) fn is_instance(alloc: Global, rule: &Rule) -> Result<bool, OutOfMemory>
     ensures instance { IfOk result (λ is. IsTrue is ↔ IsInstance rule.now.kind (body_of rule.now)) }
 {
     let main = main_of(alloc, rule)?;

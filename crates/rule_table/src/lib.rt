@@ -17,6 +17,6 @@ pub use makers::{
 };
 pub use rule::{Antecedent, Body, Main, Rule};
 pub use shapes::{
-    binary, bound_of, negation, one, one_bound, operand, operands, predicate, quantified,
-    quantified_one, top, two, two_bound, two_operands,
+    binary, negation, one, one_bound, operand, operands, predicate, quantified, quantified_one,
+    top, two, two_bound, two_operands,
 };

@@ -51,7 +51,7 @@ pub fn two_operands(wanted: Op, f: &Formula) -> Option<(&Formula, &Formula)>
 }
 
 /// The types of the identifiers and the parts of a binder.
-pub fn bound_of(wanted: Binder, f: &Formula) -> Option<(&[Ty], &[Formula])>
+pub(crate) fn bound_of(wanted: Binder, f: &Formula) -> Option<(&[Ty], &[Formula])>
     ensures parts { option_map (λ p. (p.0.now, p.1.now)) result ≡ parts_of_binder wanted f.now }
 {
     match f {

@@ -4,7 +4,7 @@ ghost use Rattle.rule_table.specs.Linear.{plus, minus, times, checked};
 
 /// The sum.
 #[tactic(auto, using(crate::proofs::Widths::laws))]
-pub fn sum_of(m: i128, n: i128) -> Result<i128, (i128, i128)>
+pub(crate) fn sum_of(m: i128, n: i128) -> Result<i128, (i128, i128)>
     ensures value { result ≡ checked plus m n }
 {
     match m.checked_add(n) {
@@ -15,7 +15,7 @@ pub fn sum_of(m: i128, n: i128) -> Result<i128, (i128, i128)>
 
 /// The difference.
 #[tactic(auto, using(crate::proofs::Widths::laws))]
-pub fn difference_of(m: i128, n: i128) -> Result<i128, (i128, i128)>
+pub(crate) fn difference_of(m: i128, n: i128) -> Result<i128, (i128, i128)>
     ensures value { result ≡ checked minus m n }
 {
     match m.checked_sub(n) {
@@ -26,7 +26,7 @@ pub fn difference_of(m: i128, n: i128) -> Result<i128, (i128, i128)>
 
 /// The product.
 #[tactic(auto, using(crate::proofs::Widths::laws))]
-pub fn product_of(m: i128, n: i128) -> Result<i128, (i128, i128)>
+pub(crate) fn product_of(m: i128, n: i128) -> Result<i128, (i128, i128)>
     ensures value { result ≡ checked times m n }
 {
     match m.checked_mul(n) {

@@ -9,7 +9,6 @@ mod places;
 mod step;
 mod values;
 
-pub use checked::{difference_of, product_of, sum_of};
 pub use laws::{
     equal_integers, less_is_at_most, member_of_interval, member_of_naturals,
     member_of_positive_naturals, member_of_predecessor, member_of_successor, negated_at_most,
@@ -17,4 +16,4 @@ pub use laws::{
 };
 pub use places::{at_place, with_at};
 pub use step::{linear_step_of, linear_width};
-pub use values::{computed, too_wide, width_at};
+pub use values::{computed, width_at};

@@ -27,7 +27,7 @@ pub fn computed(alloc: Global, f: &Formula) -> Result<Option<Formula>, OutOfMemo
 }
 
 /// The two numerals of an operator, where its value is too wide.
-pub fn too_wide(f: &Formula) -> Option<(i128, i128)>
+pub(crate) fn too_wide(f: &Formula) -> Option<(i128, i128)>
     ensures operands { result ≡ too_wide f.now }
 {
     let Some((op, m, n)) = numerals(f) else {

@@ -19,7 +19,6 @@ pub use arrows::{
 };
 pub use equality::{bool_cases, bool_diff, eq_goal, eq_hyp, eq_refl};
 pub use functions::{card_nat, fun_eq, fun_in, over_other};
-pub use over::replaced_over;
 pub use relations::{
     equal_pairs, member_of_composition, member_of_converse, member_of_direct_product,
     member_of_domain, member_of_domain_restriction, member_of_domain_subtraction,

@@ -13,7 +13,7 @@ use rule_table::{operand, two_operands};
 use std::alloc::Global;
 
 /// The formula with `f(z)` in the place of each outermost `(f <+ {x ↦ y})(z)`.
-pub fn replaced_over(
+pub(crate) fn replaced_over(
     alloc: Global,
     z: &Formula,
     x: &Formula,

@@ -7,7 +7,7 @@ use Rattle.store_log.specs.declared.Logged.{Logged}
 use Rattle.store_log.specs.declared.StoreBase.{StoreBase}
 use Rattle.store_log.specs.declared.StoreFault.{StoreFault}
 use Rattle.store_log.specs.Storing.{Handles}
-use Rattle.session_run.specs.Acting.{ActsOn}
+use Rattle.session_run.specs.PrivateActing.{ActsOn}
 
 pub acted : (f : Logged → ℕ) → ((e : Logged) → f e ≡ e.chair) → (k : ℕ) → k ≡ 0 → (seen found left sees : List Logged) (b base : StoreBase) → b ≡ base → (event : Event) (answer : Result Reply StoreFault) →
     HasSeen f k seen found → Handles b k event found answer left → sees ≡ left → ActsOn base event seen answer sees

@@ -21,7 +21,7 @@ use Rattle.session_words.specs.declared.LineFault.{LineFault}
 use Rattle.store_log.specs.declared.Logged.{Logged}
 use Rattle.store_log.specs.declared.StoreBase.{StoreBase}
 use Rattle.store_log.specs.declared.StoreFault.{StoreFault}
-use Rattle.session_run.specs.Acting.{ActsOn}
+use Rattle.session_run.specs.PrivateActing.{ActsOn}
 use Rattle.session_run.specs.Dialogue.{Next, asks, owes, tells, Answering, one_begins, one_answered, auto_begins, auto_takes, auto_refused, auto_finishes, wait_begins, wait_takes, wait_finishes, wait_finds_nothing, wait_is_busy, wait_is_idle, refused, refusal_text}
 use Rattle.session_run.specs.Talking.{IsNext, AnswersUpTo, StoppedIn, ComesOfLine}
 use Rattle.session_run.specs.Private.{GoesOn, StoppedWithin}

@@ -21,7 +21,7 @@ use Rattle.core_steps.proofs.Alls.{all_last}
 use Rattle.core_steps.proofs.NameMaps.{names_differ}
 use Rattle.store_log.specs.declared.Logged.{Logged}
 use Rattle.store_log.specs.declared.StoreBase.{StoreBase}
-use Rattle.session_run.specs.Acting.{ActsOn, TookNamed}
+use Rattle.session_run.specs.PrivateActing.{ActsOn, TookNamed}
 
 abbrev IsTyped : Obligation → Type 0
 IsTyped o = IsSequent o.sequent

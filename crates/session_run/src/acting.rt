@@ -10,7 +10,7 @@ ghost use Rattle.turn_desk.specs.Chairs.{IsOf, IsSameChair};
 ghost use Rattle.prover_pool.specs.Shift.{fair};
 ghost use Rattle.store_log.specs.declared.StoreFault.{StoreFault as Fault};
 ghost use Rattle.sequent_core.specs.declared.Ticket.{Ticket as Given};
-ghost use Rattle.session_run.specs.Acting.{ActsOn, TookNamed};
+ghost use Rattle.session_run.specs.PrivateActing.{ActsOn, TookNamed};
 
 use core_steps::{Event, Question, Reply};
 use formula_core::PoName;
@@ -23,7 +23,7 @@ use turn_desk::{Chair, Desk};
 use typed_tables::typed_tables;
 
 /// Does an event as the next act of chair 0.
-pub fn act_on<R: Wait, V: EventStore>(
+pub(crate) fn act_on<R: Wait, V: EventStore>(
     rt: &R,
     desk: &Desk<V>,
     chair: &mut Chair<V>,
@@ -37,7 +37,7 @@ pub fn act_on<R: Wait, V: EventStore>(
 }
 
 /// Asks the prover on a ticket that chair 0 took, and hands in what it answers.
-pub fn finish_ticket<R: Wait, V: EventStore, P: Prover, G: Gate>(
+pub(crate) fn finish_ticket<R: Wait, V: EventStore, P: Prover, G: Gate>(
     tools: &Tools<'_, R, P, G>,
     desk: &Desk<V>,
     chair: &mut Chair<V>,
@@ -59,7 +59,7 @@ pub fn finish_ticket<R: Wait, V: EventStore, P: Prover, G: Gate>(
 }
 
 /// Takes the first open obligation.
-pub fn take_next<R: Wait, V: EventStore>(
+pub(crate) fn take_next<R: Wait, V: EventStore>(
     rt: &R,
     desk: &Desk<V>,
     chair: &mut Chair<V>,
@@ -93,7 +93,7 @@ fn ticket_of(reply: Reply) -> Result<Ticket, Reply>
 }
 
 /// Takes the obligation of this name: its ticket, or the reply that gives none.
-pub fn take_named<R: Wait, V: EventStore>(
+pub(crate) fn take_named<R: Wait, V: EventStore>(
     rt: &R,
     desk: &Desk<V>,
     chair: &mut Chair<V>,
@@ -113,7 +113,7 @@ pub fn take_named<R: Wait, V: EventStore>(
 }
 
 /// Whether there is nothing to take, and no ticket is out.
-pub fn ask_idle<R: Wait, V: EventStore>(
+pub(crate) fn ask_idle<R: Wait, V: EventStore>(
     rt: &R,
     desk: &Desk<V>,
     chair: &mut Chair<V>,

@@ -5,6 +5,5 @@ mod acting;
 mod answering;
 mod laws;
 
-pub use acting::{act_on, ask_idle, finish_ticket, take_named, take_next};
 pub use answering::{Stop, answer};
 pub use laws::{complete_when_idle, one_history};

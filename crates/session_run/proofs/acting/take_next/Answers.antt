@@ -1,7 +1,7 @@
 use Rattle.std.proofs.Common.{subst}
 use Rattle.std.specs.Prelude.{None, Ok}
 use Rattle.core_steps.specs.declared.Event.TheVariants.{Take}
-use Rattle.session_run.specs.Acting.{ActsOn}
+use Rattle.session_run.specs.PrivateActing.{ActsOn}
 use Rattle.session_run.proofs.Tickets.{take_typed}
 use Rattle.session_run.proofs.acting.take_next.Goals as goal
 

@@ -4,7 +4,7 @@ use Rattle.core_steps.specs.declared.Event.TheVariants.{Take}
 use Rattle.prover_pool.specs.Shift.{fair}
 use Rattle.reply_text.specs.Replies.{reply_text}
 use Rattle.session_words.specs.declared.Line.TheVariants.{Auto}
-use Rattle.session_run.specs.Acting.{TookNamed}
+use Rattle.session_run.specs.PrivateActing.{TookNamed}
 use Rattle.session_run.proofs.Runs.{CoreLaws}
 use Rattle.session_run.proofs.Talks.{told_by, auto_took, auto_none, auto_stops, shown_well}
 use Rattle.session_run.proofs.answering.auto.Goals as goal
