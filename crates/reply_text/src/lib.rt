@@ -12,4 +12,4 @@ mod statuses;
 pub use faults::{add_faults, add_warnings};
 pub use laws::shows_well_formulas;
 pub use replies::reply_text;
-pub use statuses::add_statuses;
+pub use statuses::{add_status, add_statuses};

@@ -12,7 +12,6 @@ ghost use Rattle.rodin_cli.specs.Completeness.{IsComplete};
 ghost use Rattle.rodin_cli.specs.Script.{IsFullScript, IsWholeScript, IsFront};
 ghost use Rattle.rodin_cli.specs.PrivateSession.{Extends, IsUnchanged};
 ghost use Rattle.session_streams.specs.Streams.{reading, writing, WritesNothing};
-ghost use Rattle.session_ends.specs.Written.{WritesOrFails};
 ghost use Rattle.check_input.specs.Lines.{input_line};
 ghost use Rattle.rodin_cli.specs.Check.{HasNoHistory, EndsWithLine, ComesOf, RunsCheck, ReadsToEnd, IsUnfailedCheckStatus, check_status};
 ghost use Rattle.rodin_cli.specs.Private.{PrintsAnswer};
@@ -29,7 +28,7 @@ use core_steps::{
 use formula_core::{List, Name, OutOfMemory, PoName, Steps, Text};
 use outside::{Sink, Source};
 use sequent_core::Prover;
-use session_ends::exit;
+use session_ends::{exit, write_last};
 use session_streams::write_text;
 use std::alloc::Global;
 use std::marker::Brand;
@@ -122,17 +121,6 @@ pub fn no_part(alloc: Global, status: u8) -> Part
         status,
         history: Vec::new(alloc),
         last: Durable::empty(alloc),
-    }
-}
-
-/// Writes the last line, as far as the sink takes it.
-pub fn write_last<O: Sink>(output: &mut O, line: &[u8])
-    ensures { WritesOrFails
-        (writing (O.written output.old) (O.written output.new) (O.faults output.old) (O.faults output.new)) line.now }
-{
-    match write_text(output, line) {
-        Ok(()) => {}
-        Err(_) => {}
     }
 }
 

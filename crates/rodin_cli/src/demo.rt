@@ -13,7 +13,7 @@ ghost use Rattle.session_streams.specs.Streams.{writing, Writes};
 ghost use Rattle.rodin_cli.specs.Demo.{is_discharged, discharged_in, edited_in, line_after, Counts, Demonstrates, IsUnfailedDemoStatus};
 ghost use Rattle.rodin_cli.specs.Private.{HasFewModels, LineStops, RoundShows, RoundStops, ReachesBoth, ReachesStop, ReportsStop, stop_status};
 
-use crate::check::{no_part, part_from, write_last};
+use crate::check::{no_part, part_from};
 use crate::outcome::Part;
 use crate::round::work;
 use crate::session::{Session, perform, start};
@@ -22,7 +22,7 @@ use demo_models::{edited_machine, models};
 use formula_core::{List, Name, OutOfMemory, PoName, Steps, Text};
 use outside::Sink;
 use sequent_core::Prover;
-use session_ends::exit;
+use session_ends::{exit, write_last};
 use session_streams::write_text;
 use std::alloc::Global;
 use std::marker::Brand;

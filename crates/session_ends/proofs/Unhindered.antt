@@ -27,7 +27,7 @@ use Rattle.session_ends.specs.Ends.{HasReached}
 use Rattle.session_ends.specs.Sessions.{IsRefused, IsSession, Sessions, EndsBy, read_to_its_end, inside_an_edit, at_read_fault, at_write_fault, with_full_input, at_store_fault, without_memory}
 use Rattle.session_ends.specs.Statuses.{fault_status, opening_status, opening_line}
 use Rattle.session_ends.specs.Written.{WritesOrFails}
-use Rattle.session_ends.specs.Limits.{MayComeNext, LacksRoom, IsUnhindered, IsUnfailedSessionStatus, session_whole, session_inside_an_edit, session_without_memory}
+use Rattle.session_ends.specs.Limits.{MayComeNext, LacksRoomForEntry, IsUnhindered, IsUnfailedSessionStatus, session_whole, session_inside_an_edit, session_without_memory}
 
 none_is_none : (input : List ℕ) → None ≡ Some input → ⊥
 none_is_none input same = cc
@@ -102,7 +102,7 @@ module _ {D : Type 0} (told : Type 0) (bytes_of : D → Sides) (images : D → S
           × IsAtRest (bytes_of p.store.journal.disk) (images p.store.journal.disk) p.store.journal.side p.store.journal.gate p.store.journal.generation p.store.journal.rest_open
       at_rest = p.rests tells no_disk_fault
 
-      room : LacksRoom bytes_of images new p.store.core k.act.1
+      room : LacksRoomForEntry bytes_of images new p.store.core k.act.1
       room = record {
         side = p.store.journal.side;
         gate = p.store.journal.gate;

@@ -33,7 +33,7 @@ module _ (fair : Sequent → Attempt → Type 0) (base : Durable) (source : Sour
 
 module _ {D : Type 0} (bytes_of : D → Sides) (images : D → Sides → Type 0) where
   -- the entry that the event adds has no room on the disk
-  pub record LacksRoom (disk : D) (s : State) (event : Event) : Type 0 where
+  pub record LacksRoomForEntry (disk : D) (s : State) (event : Event) : Type 0 where
     pub side : Side
     pub gate : ℕ
     pub generation : ℕ
@@ -62,7 +62,7 @@ module _ {D : Type 0} (bytes_of : D → Sides) (images : D → Sides → Type 0)
     pub writes : SinkFailed sink → ⊥
     pub keeps : Rose (faults old) (faults new) → ⊥
     pub light : (s : State) (event : Event) → MayComeNext fair base source history s event → IsTooHeavy history event → ⊥
-    pub roomy : (s : State) (event : Event) → MayComeNext fair base source history s event → LacksRoom new s event → ⊥
+    pub roomy : (s : State) (event : Event) → MayComeNext fair base source history s event → LacksRoomForEntry new s event → ⊥
 
 -- The exit statuses of a session that nothing hinders.
 pub data IsUnfailedSessionStatus (status : ℕ) : Type 0 where

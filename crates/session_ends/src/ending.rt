@@ -33,8 +33,8 @@ pub struct Ended<D> {
     pub last: Durable,
 }
 
-// Writes the last line, if there is one, as far as the sink takes it.
-fn write_last<O: Sink>(output: &mut O, line: &[u8])
+/// Writes the last line, if there is one, as far as the sink takes it.
+pub fn write_last<O: Sink>(output: &mut O, line: &[u8])
     ensures written { WritesOrFails
         (writing (O.written output.old) (O.written output.new) (O.faults output.old) (O.faults output.new)) line.now }
     ensures later { O.faults output.old ≤ O.faults output.new }

@@ -5,4 +5,4 @@ mod ending;
 pub mod exit;
 mod statuses;
 
-pub use ending::{Ended, end_played, end_unplayed, open_store, refuse};
+pub use ending::{Ended, end_played, end_unplayed, open_store, refuse, write_last};

@@ -215,7 +215,7 @@ fn edited_word(line: &[u8]) -> Option<&[u8]>
 }
 
 /// The first word, where there is one and nothing but blanks follows it.
-fn only_word(line: &[u8]) -> Option<&[u8]>
+pub fn only_word(line: &[u8]) -> Option<&[u8]>
     ensures { option_map (λ word. word.now) result ≡ only_word line.now }
 {
     if line.is_empty() || !after_blanks(behind_word(line)).is_empty() {

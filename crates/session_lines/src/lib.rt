@@ -7,5 +7,5 @@ mod lines;
 mod words;
 
 pub use command::Command;
-pub use input::Input;
+pub use input::{Input, only_word};
 pub use words::{after_blanks, behind_word, first_word};

@@ -20,9 +20,9 @@ use formula_core::{List, NameFault, OutOfMemory, PoName};
 use formula_parse::read_name;
 use rule_words::rule_named;
 use sequent_core::{Hint, Path};
-use session_lines::{after_blanks, first_word};
+use session_lines::{after_blanks, first_word, only_word};
 use std::alloc::Global;
-use step_items::{Item, behind_first, hint_of, only_word, path_of, written_items};
+use step_items::{Item, behind_first, hint_of, path_of, written_items};
 
 // The number of the rule `review`, which takes a goal for proved.
 const REVIEW: u8 = 23;

@@ -4,13 +4,13 @@ ghost use Rattle.std.specs.Option.{option_map};
 ghost use Rattle.step_items.specs.Items.{multiplied, hyp_item, name_item, law_item, lettered, item_in, written_items};
 ghost use Rattle.step_items.specs.Private.{is_marked, before_mark};
 
-use crate::bytes::{behind_first, only_word};
+use crate::bytes::behind_first;
 use crate::item::Item;
 use crate::numbers::{multiplier_of, number_of, small_number_of};
 use crate::paths::path_of;
 use formula_core::{List, OutOfMemory};
 use formula_parse::read_name;
-use session_lines::{after_blanks, first_word};
+use session_lines::{after_blanks, first_word, only_word};
 use std::alloc::Global;
 
 /// A hypothesis, and its multiplier where a word follows.

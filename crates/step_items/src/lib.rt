@@ -10,7 +10,7 @@ mod numbers;
 mod paths;
 mod terms;
 
-pub use bytes::{behind_first, only_word};
+pub use bytes::behind_first;
 pub use hints::hint_of;
 pub use item::Item;
 pub use items::written_items;

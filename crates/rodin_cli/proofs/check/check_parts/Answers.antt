@@ -41,7 +41,7 @@ returns-in-Ok-None g c bytes made =
       history = c.part_from-in-Ok-None.ensures.history;
       last = c.part_from-in-Ok-None.ensures.last;
     })
-    bytes _ c.args.parts.items c.part_from-in-Ok-None.ensures.status made full.1 c.write_last.ensures)
+    bytes _ c.args.parts.items c.part_from-in-Ok-None.ensures.status made full.1 c.write_last.ensures.written)
 
 pub returns : goal.returns
 returns g c bytes made =
