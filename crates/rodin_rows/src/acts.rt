@@ -152,6 +152,21 @@ fn play(
     act_all(alloc, store, &mut tickets, &mut commands, text, out)
 }
 
+// The chair and the event that met a fault of the disk.
+fn add_failed(out: &mut String, failed: Option<&(u32, Event)>) -> Result<(), AllocError> {
+    let Some((chair, event)) = failed else {
+        return Ok(());
+    };
+    out.push_str("failed: chair ")?;
+    add_number(out, u64::from(*chair))?;
+    if let Event::Edit(name, text) = event {
+        add_two(out, ", edit ", name.as_text())?;
+        out.push(' ')?;
+        add_number(out, text.as_text().len() as u64)?;
+    }
+    out.push('\n')
+}
+
 // What the disk counts, and the components that last, each with the length of its text.
 fn add_last(out: &mut String, faults: u64, durable: &Durable) -> Result<(), AllocError> {
     add_count(out, faults, " faults, last")?;
@@ -173,6 +188,7 @@ fn acts_on(
 ) -> Result<(), AllocError> {
     let mut store = store;
     let done = play(alloc, &mut store, text, told);
+    let failed = add_failed(told, store.failed());
     let (disk, acts, durable) = store.into_parts();
     let faults = disk.faults();
     drop(disk);
@@ -181,7 +197,7 @@ fn acts_on(
         _ => add_last(told, faults, &durable),
     };
     drop(durable);
-    if done.is_err() || kept.is_err() {
+    if done.is_err() || failed.is_err() || kept.is_err() {
         return Err(AllocError);
     }
     add_replies(alloc, &acts, by_core)
