@@ -189,6 +189,7 @@ fn acts_on(
     let mut store = store;
     let done = play(alloc, &mut store, text, told);
     let failed = add_failed(told, store.failed());
+    let done_acts = store.history().len();
     let (disk, acts, durable) = store.into_parts();
     let faults = disk.faults();
     drop(disk);
@@ -199,6 +200,9 @@ fn acts_on(
     drop(durable);
     if done.is_err() || failed.is_err() || kept.is_err() {
         return Err(AllocError);
+    }
+    if acts.len() != done_acts {
+        told.push_str("another history is given back\n")?;
     }
     add_replies(alloc, &acts, by_core)
 }
