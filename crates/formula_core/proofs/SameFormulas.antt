@@ -27,19 +27,19 @@ use Rattle.formula_core.proofs.Types.{same_type_exact}
 use Rattle.formula_core.proofs.Weakening.{first_true, second_true, both_true}
 use Rattle.formula_core.proofs.WholeSets.{same_type_refl}
 
-operator_at : (o : Op) → slice_get OPERATORS (number_of o) ≡ Some o
+pub operator_at : (o : Op) → slice_get OPERATORS (number_of o) ≡ Some o
 operator_at op.Top = refl
 operator_at _ = refl
 
-binder_at : (b : Binder) → slice_get BINDERS (binder_number_of b) ≡ Some b
+pub binder_at : (b : Binder) → slice_get BINDERS (binder_number_of b) ≡ Some b
 binder_at binder.ForAll = refl
 binder_at _ = refl
 
-operator_exact : (a b : Op) → (number_of a == number_of b) ≡ true → a ≡ b
+pub operator_exact : (a b : Op) → (number_of a == number_of b) ≡ true → a ≡ b
 operator_exact a b h =
     let e : Some a ≡ Some b = sym (operator_at a) ∙ ap (slice_get OPERATORS) (eqb-true (number_of a) (number_of b) h) ∙ operator_at b in cc
 
-binder_exact : (a b : Binder) → (binder_number_of a == binder_number_of b) ≡ true → a ≡ b
+pub binder_exact : (a b : Binder) → (binder_number_of a == binder_number_of b) ≡ true → a ≡ b
 binder_exact a b h =
     let e : Some a ≡ Some b = sym (binder_at a) ∙ ap (slice_get BINDERS) (eqb-true (binder_number_of a) (binder_number_of b) h) ∙ binder_at b in cc
 
