@@ -25,7 +25,7 @@ use Rattle.rodin_cli.specs.Check.{LeadsToPart, IsAnswered, IsTooFull, RanOut, En
 use Rattle.rodin_cli.specs.Check.{ComesOf, an_answer, a_full_table, a_bad_input, want_of_memory, RunsCheck, answers_input, refuses_long_input, meets_read_fault, runs_out_reading}
 use Rattle.rodin_cli.specs.Check.{ReadsToEnd, input_clean, input_faulty, answer_cut, IsUnfailedCheckStatus, check_clean, check_faulty, check_too_large, check_without_memory}
 use Rattle.rodin_cli.specs.Private.{PrintsAnswer, prints_whole, prints_front, prints_nothing}
-use Rattle.rodin_cli.specs.Completeness.{IsComplete}
+use Rattle.session_run.specs.Completeness.{LeavesNothingSure}
 use Rattle.rodin_cli.proofs.Sessions.{front_of_whole}
 use Rattle.rodin_cli.proofs.Folding.{run_folds}
 use Rattle.rodin_cli.proofs.Clean.{told_of, clean_of, proved_of}
@@ -65,7 +65,7 @@ module _ (answers : Sequent → Attempt → Type 0) (sure : Sequent → Type 0) 
       record { parts = parts; made = made; exchanges = exchanges; full = full; leads = leads; status_is = status; text = text }
 
   module _ (parts : List Component) (told : List FaultLine) (warned : List (List ℕ × List ℕ)) (shown : List (List ℕ × Status × Option Origin)) (whole : IsWholeScript answers sure parts told warned shown exchanges)
-      (complete : IsComplete sure new.core.durable exchanges) where
+      (complete : LeavesNothingSure sure new.core.durable exchanges) where
     pub answered : (bytes : List ℕ) (sink : Writing) → IsInput bytes (Ok parts) →
         ((part.status ≡ check_status told) × Writes sink (printed_lines told warned shown)) ⊎ ((part.status ≡ 4) × WritesCut sink (printed_lines told warned shown)) → IsAnswered answers sure bytes sink part
     answered bytes sink made text =
@@ -85,7 +85,7 @@ module _ (answers : Sequent → Attempt → Type 0) (sure : Sequent → Type 0) 
           warnings = subst (λ d. TellsWarnings d warned) (sym did.last) tells.1;
           clean = subst (λ d. IsRebuilt d shown) (sym did.last) clean;
           proved = subst (λ d. IsProved d shown) (sym did.last) (proved_of new.core.durable shown clean);
-          complete = subst (λ d. IsComplete sure d exchanges) (sym did.last) complete;
+          complete = subst (λ d. LeavesNothingSure sure d exchanges) (sym did.last) complete;
           text = text;
         }
 
@@ -103,7 +103,7 @@ ran_out_at_once answers sure bytes sink part status nothing kept =
 
 -- an answer that is written, cut, or not begun for want of memory
 pub comes_of_answer : (answers : Sequent → Attempt → Type 0) (sure : Sequent → Type 0) (old new : Session) (exchanges : List Exchange) (part : Part) → Did old new exchanges part →
-    (parts : List Component) (told : List FaultLine) (warned : List (List ℕ × List ℕ)) (shown : List (List ℕ × Status × Option Origin)) → IsWholeScript answers sure parts told warned shown exchanges → IsComplete sure new.core.durable exchanges →
+    (parts : List Component) (told : List FaultLine) (warned : List (List ℕ × List ℕ)) (shown : List (List ℕ × Status × Option Origin)) → IsWholeScript answers sure parts told warned shown exchanges → LeavesNothingSure sure new.core.durable exchanges →
     (bytes : List ℕ) (sink : Writing) (status : ℕ) → part.status ≡ status → IsInput bytes (Ok parts) → PrintsAnswer told warned shown sink status →
     ComesOf answers sure bytes sink part
 comes_of_answer answers sure old new exchanges part did parts told warned shown whole complete bytes sink status same made (prints_whole is written) =

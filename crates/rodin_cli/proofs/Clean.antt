@@ -23,7 +23,7 @@ use Rattle.core_steps.specs.Step.{Comes}
 use Rattle.core_steps.specs.Run.{Exchange, Runs}
 use Rattle.check_input.specs.Inputs.{Component}
 use Rattle.rodin_cli.specs.Script.{IsWholeScript}
-use Rattle.rodin_cli.specs.Check.{TellsFaults, TellsWarnings, IsProved, IsProvedWhereDischarged}
+use Rattle.rodin_cli.specs.Check.{TellsFaults, TellsWarnings, IsProved}
 use Rattle.rodin_cli.proofs.Sessions.{Run-split, comes}
 
 same_shown : (shown shown' : List (List ℕ × Status × Option Origin)) → Statuses shown ≡ Statuses shown' → shown' ≡ shown
@@ -70,7 +70,12 @@ derived : (stored : Option Proof) (s : Sequent) (status : Status) → IsStatus s
 derived None s status is e = let no : Unattempted ≡ Discharged = sym is ∙ e in cc
 derived (Some proof) s status is e = (proof, refl, subst (λ q. IsStatus (Some proof) s q) e is)
 
-proved_each : (d : Durable) (table : List Obligation) (shown : List (List ℕ × Status × Option Origin)) → AllZip (Shows d.proofs) table shown → AllZip (IsProvedWhereDischarged d) table shown
+-- a mark that is shown of an obligation has its proof
+abbrev HasProof : Durable → Obligation → List ℕ × Status × Option Origin → Type 0
+HasProof d o mark =
+    (mark.0 ≡ o.name) × (mark.1 ≡ Discharged → (proof : Proof) × (get d.proofs o.name ≡ Some proof) × Derives proof.tree o.sequent)
+
+proved_each : (d : Durable) (table : List Obligation) (shown : List (List ℕ × Status × Option Origin)) → AllZip (Shows d.proofs) table shown → AllZip (HasProof d) table shown
 proved_each d [] [] all = tt
 proved_each d [] (x ∷ shown) all = absurd all
 proved_each d (o ∷ table) [] all = absurd all

@@ -32,7 +32,7 @@ use Rattle.core_steps.specs.Run.{Exchange, Runs, IsLegal}
 use Rattle.core_steps.proofs.Alls.{all_both, all_so_both}
 use Rattle.core_steps.proofs.NameMaps.{get_same, get_other}
 use Rattle.rodin_cli.specs.Script.{IsTurn, AreTurns}
-use Rattle.rodin_cli.specs.Completeness.{LacksMemory, HasNoMemory}
+use Rattle.session_run.specs.Completeness.{RanOutOver}
 use Rattle.rodin_cli.proofs.OneTable.{HasDistinctPoNames, one_table, distinct_table, apart_before, present_one}
 use Rattle.rodin_cli.proofs.Sessions.{outcome, comes}
 
@@ -57,24 +57,40 @@ single_cut x y (b ∷ c ∷ before) behind e = cc
 
 -- WHAT THE EXCHANGES HAVE
 
-pub has_before : (o : Obligation) (xs ys : List Exchange) → HasNoMemory o ys → HasNoMemory o (xs ++ ys)
-has_before o [] ys has = has
-has_before o (x ∷ xs) ys has = inr (has_before o xs ys has)
+pub has_before : (o : Obligation) (xs ys : List Exchange) → RanOutOver o ys → RanOutOver o (xs ++ ys)
+has_before o xs ys out = record {
+  before = xs ++ out.before;
+  taking = out.taking;
+  between = out.between;
+  finishing = out.finishing;
+  behind = out.behind;
+  in_order = ap (λ zs. xs ++ zs) out.in_order ∙ sym (append_assoc xs out.before (out.taking ∷ (out.between ++ out.finishing ∷ out.behind)));
+  ticket = out.ticket;
+  takes = out.takes;
+  is_for = out.is_for;
+  finishes = out.finishes;
+}
 
-lacks_behind : (o : Obligation) (x : Exchange) (xs ys : List Exchange) → LacksMemory o x xs → LacksMemory o x (xs ++ ys)
-lacks_behind o x [] ys lacks = absurd lacks
-lacks_behind o x (y ∷ xs) ys lacks = lacks
-
-pub has_behind : (o : Obligation) (xs ys : List Exchange) → HasNoMemory o xs → HasNoMemory o (xs ++ ys)
-has_behind o [] ys has = absurd has
-has_behind o (x ∷ xs) ys (inl lacks) = inl (lacks_behind o x xs ys lacks)
-has_behind o (x ∷ xs) ys (inr has) = inr (has_behind o xs ys has)
+pub has_behind : (o : Obligation) (xs ys : List Exchange) → RanOutOver o xs → RanOutOver o (xs ++ ys)
+has_behind o xs ys out = record {
+  before = out.before;
+  taking = out.taking;
+  between = out.between;
+  finishing = out.finishing;
+  behind = out.behind ++ ys;
+  in_order = ap (λ zs. zs ++ ys) out.in_order ∙ append_assoc out.before (out.taking ∷ (out.between ++ out.finishing ∷ out.behind)) ys
+      ∙ ap (λ zs. out.before ++ out.taking ∷ zs) (append_assoc out.between (out.finishing ∷ out.behind) ys);
+  ticket = out.ticket;
+  takes = out.takes;
+  is_for = out.is_for;
+  finishes = out.finishes;
+}
 
 -- WHAT BECOMES OF AN OBLIGATION
 
 -- it isn't sure, or memory ran out over it
 abbrev pub HasReason : (Sequent → Type 0) → List Exchange → Obligation → Type 0
-HasReason sure xs o = (sure o.sequent → ⊥) ⊎ HasNoMemory o xs
+HasReason sure xs o = (sure o.sequent → ⊥) ⊎ RanOutOver o xs
 
 -- each sequent tried last under a name isn't sure, or memory ran out over it
 abbrev pub HaveReasons : (Sequent → Type 0) → FinMap text_cmp Sequent → List Exchange → Type 0
@@ -162,7 +178,7 @@ module _ (sure : Sequent → Type 0) (s : State) (number : ℕ) (o : Obligation)
 
   -- the finish of the one ticket that was out, with an attempt that is good where the sequent is sure
   pub finish_closes : (sequent : Option Sequent) (attempt : Attempt) (x : StepOutcome) → sequent ≡ Some o.sequent → IsUnsettledBy s.durable.proofs o →
-      (sure o.sequent → IsGood attempt o.sequent) → (attempt ≡ AttemptNoMemory → HasNoMemory o xs) →
+      (sure o.sequent → IsGood attempt o.sequent) → (attempt ≡ AttemptNoMemory → RanOutOver o xs) →
       EndsTicket s (ticket_for number o) sequent attempt x → Closes sure s x.new o xs x.reply
   finish_closes sequent NoProof x is unsettled fair memory e =
       closes_as x _ e.2 (tried_closes (Noted o.name e.0) (λ n k. let no : Noted o.name e.0 ≡ NoTicket n = k in cc) (inl fair))
@@ -232,7 +248,7 @@ module _ (answers : Sequent → Attempt → Type 0) (sure : Sequent → Type 0) 
   -- the finish of the ticket that was taken
   finish_step : (table b behind : List Obligation) (o : Obligation) (s : State) (ys : List Exchange) (attempt : Attempt) (x : StepOutcome) →
       IsTable s.durable.built table → HasDistinctPoNames table → table ≡ b ++ o ∷ behind → IsUnsettledBy s.durable.proofs o →
-      (sure o.sequent → IsGood attempt o.sequent) → (attempt ≡ AttemptNoMemory → HasNoMemory o ys) →
+      (sure o.sequent → IsGood attempt o.sequent) → (attempt ≡ AttemptNoMemory → RanOutOver o ys) →
       Comes (record s { out = ticket_for s.next o ∷ []; next = s.next + 1 }) (Finish s.next attempt) x →
       Closes sure (record s { out = []; next = s.next + 1 }) x.new o ys x.reply
   finish_step table b behind o s ys attempt x is distinct cut unsettled fair memory (table', is', inl none) = absurd (none.0.0 refl)
@@ -259,7 +275,18 @@ module _ (answers : Sequent → Attempt → Type 0) (sure : Sequent → Type 0) 
       let closes = finish_step table b behind o s (xs ++ x ∷ y ∷ []) attempt (outcome y n) is distinct place open_.unsettled
       (subst (λ k. sure k.sequent → IsGood attempt k.sequent) ticket_is fair.1)
       (λ lacks. has_before o xs (x ∷ y ∷ [])
-      (inl (ticket, given, (ap (λ k. k.name) ticket_is, ap (λ k. k.sequent) ticket_is), finishes ∙ ap (λ a. Finish ticket.number a) lacks)))
+      (record {
+        before = [];
+        taking = x;
+        between = [];
+        finishing = y;
+        behind = [];
+        in_order = refl;
+        ticket = ticket;
+        takes = given;
+        is_for = (ap (λ k. k.name) ticket_is, ap (λ k. k.sequent) ticket_is);
+        finishes = finishes ∙ ap (λ a. Finish ticket.number a) lacks;
+      }))
       (subst (λ u. Comes u (Finish s.next attempt) (outcome y n)) mid f) in
       let less = not_longer (IsOpen s) before ahead b behind o (sym cut ∙ place) closed open_ in
       subst (λ u. Turned sure table before s u xs (x ∷ y ∷ [])) (sym last)

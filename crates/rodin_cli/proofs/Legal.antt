@@ -31,7 +31,7 @@ use Rattle.rodin_cli.specs.declared.round.Numbers.{Numbers}
 use Rattle.rodin_cli.specs.declared.session.Session.{Session}
 use Rattle.rodin_cli.specs.PrivateSession.{Extends, IsUnchanged}
 use Rattle.rodin_cli.specs.Script.{AreEdits, AreFirstEdits, AreTurns, AreFirstAsks, IsEndFront, IsBuiltReply, IsFullScript, IsRound, IsRoundFront, IsWholeScript, IsFront}
-use Rattle.rodin_cli.specs.Completeness.{IsComplete}
+use Rattle.session_run.specs.Completeness.{LeavesNothingSure}
 use Rattle.rodin_cli.proofs.OneTable.{one_table, distinct_table}
 use Rattle.rodin_cli.proofs.Edits.{then_unchanged}
 use Rattle.rodin_cli.proofs.Sessions.{outcome, comes, Run-split, both, asked_round, front_of_round, front_without_asks}
@@ -178,7 +178,7 @@ record Begun (sure : Sequent → Type 0) (s t : State) (xs front : List Exchange
 pub record Led (sure : Sequent → Type 0) (s t : State) (xs exchanges : List Exchange) : Type 0 where
   pub rest : AtRest sure t (xs ++ exchanges)
   pub legal : IsLegal exchanges
-  pub complete : IsComplete sure t.durable (xs ++ exchanges)
+  pub complete : LeavesNothingSure sure t.durable (xs ++ exchanges)
   pub next : t.next ≤ s.next + 8388608
 
 module _ (answers : Sequent → Attempt → Type 0) (sure : Sequent → Type 0) where
@@ -237,8 +237,8 @@ module _ (answers : Sequent → Attempt → Type 0) (sure : Sequent → Type 0) 
             (subst (AtRest sure m) more (record { out = begins.rest.out; reasons = more_reasons sure m.tried (xs ++ front) end begins.rest.reasons }));
         legal = subst IsLegal (sym w.in_order)
             (all_both IsLegalExchange front end begins.legal (take_step m k w.nothing w.nothing_is.0 cut.2.1, questioned.1));
-        complete = subst (λ u. IsComplete sure u.durable (xs ++ exchanges)) (sym same)
-            (subst (IsComplete sure m.durable) more (
+        complete = subst (λ u. LeavesNothingSure sure u.durable (xs ++ exchanges)) (sym same)
+            (subst (LeavesNothingSure sure m.durable) more (
               begins.table,
               begins.is,
               all_so (λ o. IsOpen m o → ⊥) (λ o. IsUnsettledBy m.durable.proofs o → HasReason sure ((xs ++ front) ++ end) o)
@@ -284,7 +284,7 @@ module _ (answers : Sequent → Attempt → Type 0) (sure : Sequent → Type 0) 
     -- nothing is left, and the questions are answered
     pub whole_of_asking : DecidesSequents → (told : List FaultLine) (warned : List (List ℕ × List ℕ)) (shown : List (List ℕ × Status × Option Origin)) (x y : Exchange) →
         x.event ≡ Ask AskFaults → x.reply ≡ Faults told warned → y.event ≡ Ask AskStatuses → y.reply ≡ Statuses shown → Extends c (x ∷ y ∷ []) d →
-        (exchanges : List Exchange) × IsWholeScript answers sure parts told warned shown exchanges × IsLegal exchanges × IsComplete sure d.core.durable exchanges × Extends a exchanges d
+        (exchanges : List Exchange) × IsWholeScript answers sure parts told warned shown exchanges × IsLegal exchanges × LeavesNothingSure sure d.core.durable exchanges × Extends a exchanges d
     whole_of_asking decides told warned shown x y asks tells asks_more shows q =
         let exchanges = worked ++ x ∷ y ∷ [] in
         let w = asked_round answers sure parts numbers (x ∷ y ∷ []) worked round in

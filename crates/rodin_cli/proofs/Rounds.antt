@@ -25,7 +25,7 @@ use Rattle.rodin_cli.specs.declared.demo.Stop.TheVariants.{Full, Cut, OutOfMemor
 use Rattle.rodin_cli.specs.declared.outcome.Part.{Part}
 use Rattle.rodin_cli.specs.declared.round.Numbers.{Numbers}
 use Rattle.rodin_cli.specs.declared.session.Session.{Session}
-use Rattle.rodin_cli.specs.Completeness.{IsComplete}
+use Rattle.session_run.specs.Completeness.{LeavesNothingSure}
 use Rattle.rodin_cli.specs.Demo.{is_discharged, discharged_in, edited_in, line_after, lasting, Counts, ComesAfter}
 use Rattle.rodin_cli.specs.Demo.{Demonstrates, shows_both, shows_cut, shows_full, shows_front, IsUnfailedDemoStatus, demo_whole, demo_too_large, demo_without_memory}
 use Rattle.rodin_cli.specs.Check.{HasNoHistory, LeadsToPart}
@@ -200,7 +200,7 @@ module _ (answers : Sequent → Attempt → Type 0) (sure : Sequent → Type 0) 
       lasts = run_folds enters (opened no_texts) b.core done (subst (λ s. Runs s done b.core) empty p.0)
 
       begins : ComesAfter answers sure seed n (Edit n) done (line_after (Models seed n) counted)
-      begins = inr (counted, refl, w, subst (λ d. IsComplete sure d done) lasts first.complete, refl)
+      begins = inr (counted, refl, w, subst (λ d. LeavesNothingSure sure d done) lasts first.complete, refl)
 
       second_reaches : (exchanges : List Exchange) → IsLegal exchanges → Extends b exchanges c →
           Reaches answers sure seed n a c (Edit n) done (line_after (Models seed n) counted) exchanges
@@ -289,7 +289,7 @@ module _ (answers : Sequent → Attempt → Type 0) (sure : Sequent → Type 0) 
           begins = f.reaches.begins;
           counts = f.counts;
           leads = leads_so (Edit n) done text exchanges f.reaches;
-          complete = subst (λ d. IsComplete sure d (done ++ exchanges)) (sym last) f.complete;
+          complete = subst (λ d. LeavesNothingSure sure d (done ++ exchanges)) (sym last) f.complete;
           status_is = status;
           written = written;
         })
@@ -323,7 +323,7 @@ module _ (answers : Sequent → Attempt → Type 0) (sure : Sequent → Type 0) 
             begins = f.reaches.begins;
             counts = f.counts;
             leads = leads_so round done text exchanges f.reaches;
-            complete = subst (λ d. IsComplete sure d (done ++ exchanges)) (sym last) f.complete;
+            complete = subst (λ d. LeavesNothingSure sure d (done ++ exchanges)) (sym last) f.complete;
             status_is = status;
             written = untouched (λ sink. WritesCut sink (text ++ line_after round counted)) kept written;
           })

@@ -28,7 +28,7 @@ use Rattle.check_input.specs.Inputs.{Component, IsInput}
 use Rattle.check_input.specs.Lines.{input_line}
 use Rattle.check_input.specs.declared.input.InputFault.{InputFault}
 use Rattle.rodin_cli.specs.Script.{IsWholeScript, IsFront, IsFullScript}
-use Rattle.rodin_cli.specs.Completeness.{IsComplete}
+use Rattle.session_run.specs.Completeness.{LeavesNothingSure}
 
 -- The exchanges are a legal run from the empty project. They are the history, and what lasts is the fold of their
 -- entries.
@@ -39,15 +39,13 @@ pub record LeadsToPart (part : Part) (exchanges : List Exchange) : Type 0 where
   pub history : part.history.items ≡ history_of 0 exchanges
   pub last : part.last ≡ after no_texts (map (λ x. x.entry) exchanges)
 
--- where the obligation is shown discharged, a proof is stored under its name that derives its sequent
-abbrev pub IsProvedWhereDischarged : Durable → Obligation → List ℕ × Status × Option Origin → Type 0
-IsProvedWhereDischarged d o shown =
-    (shown.0 ≡ o.name) × (shown.1 ≡ Discharged → (proof : Proof) × (get d.proofs o.name ≡ Some proof) × Derives proof.tree o.sequent)
-
 -- The status guarantee, its second sentence: every obligation shown discharged has a stored proof that derives its
 -- present sequent.
 abbrev pub IsProved : Durable → List (List ℕ × Status × Option Origin) → Type 0
-IsProved d shown = (table : List Obligation) × IsTable d.built table × AllZip (IsProvedWhereDischarged d) table shown
+IsProved d shown =
+    (table : List Obligation) × IsTable d.built table
+    × AllZip (λ o mark. (mark.0 ≡ o.name)
+    × (mark.1 ≡ Discharged → (proof : Proof) × (get d.proofs o.name ≡ Some proof) × Derives proof.tree o.sequent)) table shown
 
 -- the faults that are told are those of the texts of the last build
 abbrev pub TellsFaults : Durable → List FaultLine → Type 0
@@ -86,7 +84,7 @@ pub record IsAnswered (answers : Sequent → Attempt → Type 0) (sure : Sequent
   pub warnings : TellsWarnings part.last warned
   pub clean : IsRebuilt part.last shown
   pub proved : IsProved part.last shown
-  pub complete : IsComplete sure part.last exchanges
+  pub complete : LeavesNothingSure sure part.last exchanges
   pub text : ((part.status ≡ check_status told) × Writes sink (printed_lines told warned shown)) ⊎ ((part.status ≡ 4) × WritesCut sink (printed_lines told warned shown))
 
 -- nothing was done

@@ -20,7 +20,7 @@ use Rattle.rodin_cli.specs.declared.demo.Round.{Round}
 use Rattle.rodin_cli.specs.declared.demo.Round.TheVariants.{Models, Edit}
 use Rattle.rodin_cli.specs.declared.round.Numbers.{Numbers}
 use Rattle.rodin_cli.specs.Check.{LeadsToPart}
-use Rattle.rodin_cli.specs.Completeness.{IsComplete}
+use Rattle.session_run.specs.Completeness.{LeavesNothingSure}
 use Rattle.rodin_cli.specs.Script.{IsRound, IsRoundFront, IsFullScript}
 use Rattle.session_streams.specs.Streams.{Writing, Writes, WritesCut}
 use Rattle.session_ends.specs.Written.{WritesOrFails}
@@ -69,7 +69,7 @@ abbrev pub ComesAfter : (Sequent → Attempt → Type 0) → (Sequent → Type 0
 ComesAfter answers sure seed n round done text =
     ((round ≡ Models seed n) × (done ≡ []) × (text ≡ []))
     ⊎ ((counted : Counted) × (round ≡ Edit n) × Counts answers sure (Models seed n) counted done
-    × IsComplete sure (lasting done) done × (text ≡ line_after (Models seed n) counted))
+    × LeavesNothingSure sure (lasting done) done × (text ≡ line_after (Models seed n) counted))
 
 -- both rounds are whole, and both lines are written
 pub record ShowsBoth (answers : Sequent → Attempt → Type 0) (sure : Sequent → Type 0) (seed n : ℕ) (sink : Writing) (part : Part) : Type 0 where
@@ -80,7 +80,7 @@ pub record ShowsBoth (answers : Sequent → Attempt → Type 0) (sure : Sequent 
   pub begins : ComesAfter answers sure seed n (Edit n) done text
   pub counts : Counts answers sure (Edit n) counted exchanges
   pub leads : LeadsToPart part (done ++ exchanges)
-  pub complete : IsComplete sure part.last (done ++ exchanges)
+  pub complete : LeavesNothingSure sure part.last (done ++ exchanges)
   pub status_is : part.status ≡ 0
   pub written : Writes sink (text ++ line_after (Edit n) counted)
 
@@ -94,7 +94,7 @@ pub record ShowsCut (answers : Sequent → Attempt → Type 0) (sure : Sequent �
   pub begins : ComesAfter answers sure seed n round done text
   pub counts : Counts answers sure round counted exchanges
   pub leads : LeadsToPart part (done ++ exchanges)
-  pub complete : IsComplete sure part.last (done ++ exchanges)
+  pub complete : LeavesNothingSure sure part.last (done ++ exchanges)
   pub status_is : part.status ≡ 4
   pub written : WritesCut sink (text ++ line_after round counted)
 

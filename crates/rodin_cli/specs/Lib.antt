@@ -1,5 +1,4 @@
 pub mod Check
-pub mod Completeness
 pub mod Demo
 pub mod Hyp
 pub mod Private

@@ -14,7 +14,7 @@ use Rattle.rodin_cli.specs.declared.demo.Round.TheVariants.{Models, Edit}
 use Rattle.rodin_cli.specs.declared.demo.Stop.{Stop}
 use Rattle.rodin_cli.specs.declared.demo.Stop.TheVariants.{Full, Cut, OutOfMemory}
 use Rattle.rodin_cli.specs.Check.{check_status}
-use Rattle.rodin_cli.specs.Completeness.{IsComplete}
+use Rattle.session_run.specs.Completeness.{LeavesNothingSure}
 use Rattle.rodin_cli.specs.Demo.{edited_in, line_after, Counts, ComesAfter}
 use Rattle.rodin_cli.specs.Script.{IsFullScript, IsRoundFront}
 use Rattle.rodin_cli.specs.PrivateSession.{Extends}
@@ -74,7 +74,7 @@ pub record Reaches (answers : Sequent → Attempt → Type 0) (sure : Sequent �
 pub record FinishesRun (answers : Sequent → Attempt → Type 0) (sure : Sequent → Type 0) (seed n : ℕ) (old new : Session) (round : Round) (done : List Exchange) (text : List ℕ) (exchanges : List Exchange) (counted : Counted) : Type 0 where
   pub reaches : Reaches answers sure seed n old new round done text exchanges
   pub counts : Counts answers sure round counted exchanges
-  pub complete : IsComplete sure new.core.durable (done ++ exchanges)
+  pub complete : LeavesNothingSure sure new.core.durable (done ++ exchanges)
 
 -- the second round is whole, and both lines are written
 abbrev pub ReachesBoth : (Sequent → Attempt → Type 0) → (Sequent → Type 0) → ℕ → ℕ → Session → Session → Writing → Type 0

@@ -8,7 +8,7 @@ ghost use Rattle.core_steps.specs.declared.Reply.{Reply};
 ghost use Rattle.core_steps.specs.Run.{Exchange, IsLegal};
 ghost use Rattle.core_steps.specs.State.{opened, no_texts};
 ghost use Rattle.check_input.specs.Inputs.{IsInput};
-ghost use Rattle.rodin_cli.specs.Completeness.{IsComplete};
+ghost use Rattle.session_run.specs.Completeness.{LeavesNothingSure};
 ghost use Rattle.rodin_cli.specs.Script.{IsFullScript, IsWholeScript, IsFront};
 ghost use Rattle.rodin_cli.specs.PrivateSession.{Extends, IsUnchanged};
 ghost use Rattle.session_streams.specs.Streams.{reading, writing, WritesNothing};
@@ -80,7 +80,7 @@ fn play<L: Ledger, P: Prover>(
         (λ shown. (exchanges : List Exchange)
         × IsWholeScript
         (P.answers prover.now) (P.sure prover.now) parts.items shown.faults shown.warnings shown.statuses exchanges
-        × IsLegal exchanges × IsComplete (P.sure prover.now) session.new.core.durable exchanges
+        × IsLegal exchanges × LeavesNothingSure (P.sure prover.now) session.new.core.durable exchanges
         × Extends session.old exchanges session.new)) }
     ensures front { OnErr result ((exchanges : List Exchange)
         × IsFront (P.answers prover.now) (P.sure prover.now) parts.items exchanges × IsLegal exchanges
