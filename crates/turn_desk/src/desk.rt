@@ -16,6 +16,16 @@ use std::sync::atomic::{AtomicU64, Ordering};
 /// How often a waiting thread finds the turn taken, at most, before it sleeps.
 const LOOKS: u32 = 100;
 
+/// The turn word as one finds it who has to wait: odd, as it is while a chair has the turn.
+const TAKEN: u64 = 1;
+
+/// Chair 0 doesn't wait for the turn; it waits, awake; it may sleep until the turn is given back.
+const ABSENT: u64 = 0;
+
+const WAITING: u64 = 1;
+
+const SLEEPING: u64 = 2;
+
 type Place<V> = Seat<Option<V>, View<<V as Kept>::Entry, <V as Kept>::Base>>;
 
 /// One value, on which chairs act in turns.
@@ -24,8 +34,11 @@ type Place<V> = Seat<Option<V>, View<<V as Kept>::Entry, <V as Kept>::Base>>;
 /// value has their entries in it.
 pub struct Desk<V: Kept> {
     table: Table<Option<V>, View<V::Entry, V::Base>, Snapshot<V>, Turns, Global>,
-    // 1 where a thread may sleep until a turn is given back, and else 0. Threads sleep on this word, not on the turn.
+    // 1 where a thread of another chair than 0 may sleep until a turn is given back, and else 0. Threads sleep on this
+    // word, not on the turn.
     asleep: AtomicU64,
+    // What chair 0 does: it goes before others that wait, and sleeps on this word.
+    first: AtomicU64,
 }
 
 impl<V: Kept> Model for Desk<V> {
@@ -105,8 +118,12 @@ impl<V: Kept> Desk<V> {
                     number: 0,
                     made: 1,
                 };
-                let asleep = AtomicU64::new(0);
-                Ok((Desk { table, asleep }, chair))
+                let desk = Desk {
+                    table,
+                    asleep: AtomicU64::new(0),
+                    first: AtomicU64::new(ABSENT),
+                };
+                Ok((desk, chair))
             }
             Err(Refused { mut slots }) => {
                 let value = slots.pop().unwrap().unwrap();
@@ -116,8 +133,17 @@ impl<V: Kept> Desk<V> {
         }
     }
 
+    // The turn word as a chair finds it: where chair 0 waits, another chair finds the turn taken.
+    fn turn_word(&self, is_first: bool) -> u64 {
+        if is_first || self.first.load(Ordering::SeqCst) == ABSENT {
+            self.table.shared.peek(0)
+        } else {
+            TAKEN
+        }
+    }
+
     // Waits for the turn, and takes the value.
-    fn take_turn<R: Wait>(&self, rt: &R, seat: &mut Place<V>) -> V
+    fn take_turn<R: Wait>(&self, rt: &R, is_first: bool, seat: &mut Place<V>) -> V
         requires seat { seat.old.table_id ≡ self.now.table }
         requires rests { (seat.old.me.0.seated ≡ true) × (seat.old.me.1 ≡ []) }
         ensures seat { IsSameSeat seat.old seat.new
@@ -128,21 +154,24 @@ impl<V: Kept> Desk<V> {
         let shared = &self.table.shared;
         let mut looks = 0;
         let mut has_slept = false;
+        if is_first {
+            self.first.store(WAITING, Ordering::SeqCst);
+        }
         for _ in rt.forever() {
-            let found = shared.peek(0);
+            let found = self.turn_word(is_first);
             if is_free(found) {
                 if has_slept {
-                    // Others may sleep still, and the wake-up came to this thread alone.
-                    self.asleep.store(1, Ordering::SeqCst);
+                    self.note_sleepers(is_first);
                 }
                 if shared.compare_exchange::<Take>(seat, 0, found, found + 1) == found {
+                    self.note_turn(is_first);
                     return shared.exchange(seat, 0, None).unwrap();
                 }
-            } else if looks < LOOKS && self.asleep.load(Ordering::SeqCst) == 0 {
+            } else if looks < LOOKS && (is_first || self.asleep.load(Ordering::SeqCst) == 0) {
                 looks += 1;
                 spin_loop();
             } else {
-                self.sleep(rt);
+                self.sleep(rt, is_first);
                 has_slept = true;
                 looks = 0;
             }
@@ -150,17 +179,51 @@ impl<V: Kept> Desk<V> {
         unreachable!()
     }
 
-    // Says that a thread sleeps, looks once more, and sleeps until a turn is given back.
-    fn sleep<R: Wait>(&self, rt: &R) {
-        self.asleep.store(1, Ordering::SeqCst);
-        if !is_free(self.table.shared.peek(0)) {
-            self.asleep.park(rt, 1);
+    // Others may sleep still, and the wake-up came to this thread alone. Chair 0 is woken by itself.
+    fn note_sleepers(&self, is_first: bool) {
+        if !is_first {
+            self.asleep.store(1, Ordering::SeqCst);
         }
     }
 
-    // Wakes a thread, if one may sleep. The turn has been given back before.
+    // Chair 0 has the turn and waits no more.
+    fn note_turn(&self, is_first: bool) {
+        if is_first {
+            self.first.store(ABSENT, Ordering::SeqCst);
+        }
+    }
+
+    // Says that a thread sleeps, looks once more, and sleeps until a turn is given back.
+    fn sleep<R: Wait>(&self, rt: &R, is_first: bool) {
+        if is_first {
+            self.first.store(SLEEPING, Ordering::SeqCst);
+            if !is_free(self.turn_word(is_first)) {
+                self.first.park(rt, SLEEPING as u32);
+            }
+            self.first.store(WAITING, Ordering::SeqCst);
+        } else {
+            self.asleep.store(1, Ordering::SeqCst);
+            if !is_free(self.turn_word(is_first)) {
+                self.asleep.park(rt, 1);
+            }
+        }
+    }
+
+    // Wakes a thread, if one may sleep: chair 0 where it waits, and else another. The turn has been given back before.
+    // Where chair 0 waits the others are woken when it gives the turn back.
     fn wake_sleeper(&self) {
-        if self.asleep.load(Ordering::SeqCst) == 1 && self.asleep.swap(0, Ordering::SeqCst) == 1 {
+        let first = self.first.load(Ordering::SeqCst);
+        if first == SLEEPING {
+            let found = self
+                .first
+                .compare_exchange(SLEEPING, WAITING, Ordering::SeqCst, Ordering::SeqCst);
+            if found.is_ok() {
+                self.first.wake_one();
+            }
+        } else if first == ABSENT
+            && self.asleep.load(Ordering::SeqCst) == 1
+            && self.asleep.swap(0, Ordering::SeqCst) == 1
+        {
             self.asleep.wake_one();
         }
     }
@@ -185,7 +248,7 @@ impl<V: Kept> Desk<V> {
     /// Waits for the turn, and does the action on the value as the chair's next act.
     ///
     /// Waiting finds the turn taken a hundred times at most and then sleeps, or at once where another chair sleeps. A
-    /// wake-up begins it anew. Nothing says when the turn comes, or which of several waiting chairs has it first. A
+    /// wake-up begins it anew. Where chair 0 waits it goes before the others. No clause says so, or when the turn comes. A
     /// desk has 2^63 - 1 turns; after them the call waits for ever. The action must not act on the desk.
     pub fn act<R: Wait, A: Act<V>>(&self, rt: &R, chair: &mut Chair<V>, action: A) -> A::Answer
         requires { IsOf self.now chair.old }
@@ -195,7 +258,7 @@ impl<V: Kept> Desk<V> {
         ensures joined { JoinedStay V.chair_of chair.old.joined chair.new.seen }
     {
         let number = chair.number;
-        let mut value = self.take_turn(rt, &mut chair.seat);
+        let mut value = self.take_turn(rt, number == 0, &mut chair.seat);
         let answer = action.act(number, &mut value);
         self.give_turn(&mut chair.seat, value);
         answer
@@ -211,7 +274,11 @@ impl<V: Kept> Desk<V> {
         ensures joined { JoinedStay V.chair_of chair.joined (V.log result) }
         ensures unmade { NoneFrom V.chair_of chair.made (V.log result) }
     {
-        let Desk { table, asleep: _ } = self;
+        let Desk {
+            table,
+            asleep: _,
+            first: _,
+        } = self;
         let Chair {
             seat,
             number: _,
