@@ -41,7 +41,7 @@ pub fn run<
     ensures session { (workers : ℕ) → IsSessionWords words.now workers →
         Sessions D.told D.bytes_of D.images D.faults
         (fair (P.answers tools.now.prover.now) (P.sure tools.now.prover.now)) (P.sure tools.now.prover.now)
-        workers disk result.disk
+        workers disk result.disk (input.new ≡ input.old)
         (reading (I.left input.old) (I.left input.new) (I.faults input.old) (I.faults input.new))
         (writing (O.written output.old) (O.written output.new) (O.faults output.old) (O.faults output.new))
         result.status result.history.items result.last }

@@ -59,14 +59,15 @@ module _ {D : Type 0} (told : Type 0) (bytes_of : D → Sides) (images : D → S
     pub disk_fault : fault ≡ DiskFault → Rose (faults old) (faults new)
     pub stands : told → (c : Sides) → images new c → StandsAsSome (images old) c
 
-  -- A refused opening: nothing was read or done, and the last line alone is written. Memory may run out over it.
+  -- A refused opening: the source is as it was (`untouched`), nothing was done, and the last line alone is written. Memory
+  -- may run out over it.
   pub record IsRefused
-      (old new : D) (source : SourceState) (sink : Writing) (status : ℕ) (history : List (ℕ × Event)) (last : Durable) :
+      (old new : D) (untouched : Type 0) (sink : Writing) (status : ℕ) (history : List (ℕ × Event)) (last : Durable) :
       Type 0 where
     pub fault : OpenFault
     pub refuses : Refuses old new fault
     pub nothing : (history ≡ []) × (last ≡ no_texts)
-    pub unread : (source.left_then ≡ source.left) × (source.faults_then ≡ source.faults)
+    pub unread : untouched
     pub ends :
         ((status ≡ opening_status fault) × WritesOrFails sink (opening_line fault))
         ⊎ ((status ≡ 9) × WritesNothing sink)
@@ -91,6 +92,6 @@ module _ {D : Type 0} (told : Type 0) (bytes_of : D → Sides) (images : D → S
       pub cause : IfSome store.kept (λ k. HasCauseOf faults store k.fault k.act.1)
       pub ends : EndsBy fair workers status store.kept source sink xs store.core
 
-    abbrev pub Sessions : D → D → SourceState → Writing → ℕ → List (ℕ × Event) → Durable → Type 0
-    Sessions old new source sink status history last =
-        IsRefused old new source sink status history last ⊎ IsSession old new source sink status history last
+    abbrev pub Sessions : D → D → Type 0 → SourceState → Writing → ℕ → List (ℕ × Event) → Durable → Type 0
+    Sessions old new untouched source sink status history last =
+        IsRefused old new untouched sink status history last ⊎ IsSession old new source sink status history last

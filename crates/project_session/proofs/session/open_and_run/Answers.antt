@@ -10,6 +10,6 @@ returns-in-Err g c = inl (record {
   fault = c.in-Err.fault;
   refuses = subst (λ d. Refuses g.D.Disk.told g.D.Disk.bytes_of g.D.Disk.images g.D.Disk.faults c.args.disk d c.in-Err.fault) (sym c.refuse.ensures.disk) c.in-Err.ensures.refuses;
   nothing = c.refuse.ensures.nothing;
-  unread = (refl, refl);
+  unread = refl;
   ends = c.refuse.ensures.ends;
 })

@@ -61,7 +61,7 @@ returns-in-Some-Session-clause-checked g c check = absurd (check_or_session c.ar
 pub returns-in-Some-Session-clause-session : goal.returns-in-Some-Session-clause-session
 returns-in-Some-Session-clause-session g c workers is =
     rw c.of_session.ensures
-    (same_session c.in-Some-Session.workers workers (one_session c.args.words.now c.in-Some-Session.workers workers (rw c.in-Some-Session.field-0-is at c.in-Some-Session.ensures) is) _ _ _ _ _ _ _ c.run_session.ensures.session)
+    (same_session c.in-Some-Session.workers workers (one_session c.args.words.now c.in-Some-Session.workers workers (rw c.in-Some-Session.field-0-is at c.in-Some-Session.ensures) is) _ _ _ _ _ _ _ _ c.run_session.ensures.session)
 
 pub returns-in-Some-Session-clause-demonstrated : goal.returns-in-Some-Session-clause-demonstrated
 returns-in-Some-Session-clause-demonstrated g c seed n demo = absurd (session_or_demo c.args.words.now c.in-Some-Session.workers seed n (rw c.in-Some-Session.field-0-is at c.in-Some-Session.ensures) demo)
