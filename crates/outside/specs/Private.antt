@@ -1,5 +1,8 @@
 -- What only private contracts cite.
-use Rattle.std.specs.Prelude.{ℕ, ◌+◌, ◌≤◌, List, [], ◌∷◌, length, Bool, true, nat_le, ◌&&◌, ⊤}
+use Rattle.std.specs.Prelude.{ℕ, ℤ, ◌+◌, ◌≤◌, List, [], ◌∷◌, length, Bool, true, nat_le, ◌&&◌, ⊤, Option, None, Some, IfSome}
+use Rattle.std.specs.Fd.{file_raw_fd}
+use Rattle.std.specs.declared.fs.File.{File}
+use Rattle.outside.specs.Files.{IsNoStream}
 use Rattle.outside.specs.Disk.{Sides}
 use Rattle.outside.specs.declared.entry.Entry.{Entry}
 use Rattle.outside.specs.declared.entry.Entry.TheVariants.{Wrote}
@@ -26,3 +29,12 @@ abbrev pub IsStill : Call → Type 0
 IsStill (wrote side at bytes) = ⊥
 IsStill (was_cut side len) = ⊥
 IsStill call = ⊤
+
+-- the descriptor of a file that is there
+abbrev pub descriptor_of : Option File → Option ℤ
+descriptor_of None = None
+descriptor_of (Some file) = Some (file_raw_fd file)
+
+-- this file, if it is there, has the descriptor of no standard stream
+abbrev pub HasNoStream : Option File → Type 0
+HasNoStream file = IfSome (descriptor_of file) IsNoStream

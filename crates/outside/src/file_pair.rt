@@ -1,8 +1,10 @@
 // Two files of the working directory as a disk.
-ghost use Rattle.std.specs.Prelude.{◌≡◌, ◌+◌, ◌<◌, ◌≤◌, ◌^◌, [], length, take, IfOk, IsOk, IsErr, OnOk, Ok, is_some, true, false};
+ghost use Rattle.std.specs.Prelude.{◌≡◌, ◌↔◌, ◌+◌, ◌<◌, ◌≤◌, ◌^◌, [], length, take, IfOk, IsOk, IsErr, OnOk, Ok, is_some, true, false, None};
+ghost use Rattle.std.specs.Fd.{file_raw_fd};
 ghost use Rattle.std.specs.Io.{ReadsAtMost};
 ghost use Rattle.outside.specs.Cause.{CountsFault, HasCause};
-ghost use Rattle.outside.specs.Files.{is_there, IsAbsent, SameFiles, KeepsFiles};
+ghost use Rattle.outside.specs.Files.{is_there, IsAbsent, SameFiles, KeepsFiles, IsNoStream, LeavesStreams};
+ghost use Rattle.outside.specs.Private.{descriptor_of, HasNoStream};
 ghost use Rattle.outside.specs.Disk.{overwritten, Torn, TornCut, OnSide, ReadsSide, Leaves, SameImages, Syncs, Elapses, ReadsAt};
 
 use crate::faults::Faults;
@@ -10,6 +12,7 @@ use crate::{Disk, Failed, Side};
 use std::fs::{File, OpenOptions};
 use std::io::{self, Read, Seek, SeekFrom, Write};
 use std::marker::Model;
+use std::os::fd::{AsRawFd, IntoRawFd};
 use std::rt::Files;
 
 /// The files `rodin.left` and `rodin.right` of the working directory as a disk, which tells no content. Each error of a
@@ -20,7 +23,9 @@ use std::rt::Files;
 /// next one tries again.
 ///
 /// A file is locked until the disk is dropped, and a write makes only a file that no one else has made meanwhile. So a
-/// second disk in the same directory fails, and writes nothing. What is opened is synced before it is read, with the
+/// second disk in the same directory fails, and writes nothing. Before a file is opened, each standard stream that is
+/// closed is given the directory, which can be neither read nor written as a file, so the stream still fails. A file
+/// with the descriptor of a standard stream is a fault. What is opened is synced before it is read, with the
 /// directory, and a file that is made counts once the directory is synced. What a failed sync of an earlier program
 /// left in the system's cache stays there: std has no call that drops it.
 #[derive(Drop)]
@@ -33,13 +38,46 @@ pub struct FilePair<'a, R: Files<File = File>> {
 }
 
 impl<'a, R: Files<File = File>> Model for FilePair<'a, R> {
-    ghost use Rattle.std.specs.Prelude.{is_some};
     ghost use Rattle.outside.specs.Files.{FilesOfDisk};
+    ghost use Rattle.outside.specs.Private.{descriptor_of, HasNoStream};
 
     ghost Value = { FilesOfDisk };
 
-    ghost view = { λ d.
-        record { opened = d.is_open; left = is_some d.left; right = is_some d.right; faults = d.faults } };
+    ghost view = { λ d. record {
+      opened = d.is_open;
+      left = descriptor_of d.left;
+      right = descriptor_of d.right;
+      faults = d.faults;
+    } };
+
+    ghost invariant = { λ d. HasNoStream d.left × HasNoStream d.right };
+}
+
+/// The greatest descriptor of a standard stream.
+const LAST_STREAM: i32 = 2;
+
+// Gives the directory to each standard stream that is closed, for good: what is opened next would take its descriptor.
+fn fill_streams<R: Files<File = File>>(rt: &R) -> io::Result<()> {
+    for _ in 0..=LAST_STREAM {
+        let folder = File::open(rt, ".")?;
+        if folder.as_raw_fd() > LAST_STREAM {
+            return Ok(());
+        }
+        folder.into_raw_fd();
+    }
+    Ok(())
+}
+
+// Refuses a file with the descriptor of a standard stream, which would be read or written as that stream.
+fn no_stream(file: File) -> io::Result<File>
+    ensures refused { IsOk result ↔ IsNoStream (file_raw_fd file) }
+    ensures same { IfOk result (λ it. it ≡ file) }
+{
+    if file.as_raw_fd() > LAST_STREAM {
+        Ok(file)
+    } else {
+        Err(io::ErrorKind::Other.into())
+    }
 }
 
 // Makes the names of the files outlast a stop of the machine.
@@ -48,9 +86,12 @@ fn sync_folder<R: Files<File = File>>(rt: &R) -> io::Result<()> {
 }
 
 // Opens a file that is there, locks it and syncs what another program may have left of it.
-fn open<R: Files<File = File>>(rt: &R, path: &str) -> io::Result<Option<File>> {
+fn open<R: Files<File = File>>(rt: &R, path: &str) -> io::Result<Option<File>>
+    ensures { IfOk result HasNoStream }
+{
     match OpenOptions::new().read(true).write(true).open(rt, path) {
         Ok(file) => {
+            let file = no_stream(file)?;
             file.try_lock()?;
             file.sync_all()?;
             Ok(Some(file))
@@ -60,7 +101,10 @@ fn open<R: Files<File = File>>(rt: &R, path: &str) -> io::Result<Option<File>> {
     }
 }
 
-fn open_both<R: Files<File = File>>(rt: &R) -> io::Result<(Option<File>, Option<File>)> {
+fn open_both<R: Files<File = File>>(rt: &R) -> io::Result<(Option<File>, Option<File>)>
+    ensures { IfOk result (λ files. HasNoStream files.0 × HasNoStream files.1) }
+{
+    fill_streams(rt)?;
     let left = open(rt, path_of(Side::Left))?;
     let right = open(rt, path_of(Side::Right))?;
     sync_folder(rt)?;
@@ -68,8 +112,10 @@ fn open_both<R: Files<File = File>>(rt: &R) -> io::Result<(Option<File>, Option<
 }
 
 // Makes a file that isn't there, and locks it.
-fn make<R: Files<File = File>>(rt: &R, path: &str) -> io::Result<File> {
-    let file = File::create_new(rt, path)?;
+fn make<R: Files<File = File>>(rt: &R, path: &str) -> io::Result<File>
+    ensures { IfOk result (λ file. IsNoStream (file_raw_fd file)) }
+{
+    let file = no_stream(File::create_new(rt, path)?)?;
     file.try_lock()?;
     sync_folder(rt)?;
     Ok(file)
@@ -120,7 +166,8 @@ fn counted<T>(faults: &mut Faults, answer: io::Result<T>) -> Result<T, Failed>
 impl<'a, R: Files<File = File>> FilePair<'a, R> {
     /// The two files, none of which is opened yet.
     pub fn new(rt: &'a R) -> FilePair<'a, R>
-        ensures { (result.opened ≡ false) × (result.faults ≡ 0) }
+        ensures fresh { (result.opened ≡ false) × (result.faults ≡ 0) }
+        ensures streams { LeavesStreams result }
     {
         FilePair {
             rt,
@@ -138,6 +185,7 @@ impl<'a, R: Files<File = File>> FilePair<'a, R> {
         ensures opens { OnOk result (self.new.opened ≡ true) }
         ensures fails { IsErr result → self.new.opened ≡ false }
         ensures same { self.old.opened ≡ true → self.new ≡ self.old }
+        ensures streams { LeavesStreams self.new }
     {
         if self.is_open {
             return Ok(());
@@ -151,7 +199,7 @@ impl<'a, R: Files<File = File>> FilePair<'a, R> {
 }
 
 fn length_of(file: &Option<File>) -> io::Result<u64>
-    ensures { is_some file.now ≡ false → result ≡ Ok 0 }
+    ensures { descriptor_of file.now ≡ None → result ≡ Ok 0 }
 {
     match file {
         None => Ok(0),
@@ -159,14 +207,27 @@ fn length_of(file: &Option<File>) -> io::Result<u64>
     }
 }
 
-fn read_side(file: &mut Option<File>, at: u64, into: &mut [u8]) -> io::Result<usize>
+fn read_side(file: &Option<File>, at: u64, into: &mut [u8]) -> io::Result<usize>
     ensures bound { IfOk result (λ n. n ≤ length into.new) }
-    ensures absent { is_some file.old ≡ false → result ≡ Ok 0 }
-    ensures same { is_some file.new ≡ is_some file.old }
+    ensures absent { descriptor_of file.now ≡ None → result ≡ Ok 0 }
 {
     match file {
         None => Ok(0),
-        Some(file) => read_all(file, at, into),
+        Some(file) => {
+            let mut reader = file;
+            read_all(&mut reader, at, into)
+        }
+    }
+}
+
+// Writes into a file, if it is there.
+fn write_there(file: &Option<File>, at: u64, bytes: &[u8]) -> io::Result<()> {
+    match file {
+        None => Ok(()),
+        Some(file) => {
+            let mut writer = file;
+            write_all(&mut writer, at, bytes)
+        }
     }
 }
 
@@ -177,20 +238,18 @@ fn write_side<R: Files<File = File>>(
     at: u64,
     bytes: &[u8],
 ) -> io::Result<()>
-    ensures made { OnOk result (is_some file.new ≡ true) }
-    ensures kept { is_some file.old ≡ true → is_some file.new ≡ true }
+    ensures made { OnOk result (is_some (descriptor_of file.new) ≡ true) }
+    ensures kept { is_some (descriptor_of file.old) ≡ true → descriptor_of file.new ≡ descriptor_of file.old }
+    ensures streams { HasNoStream file.old → HasNoStream file.new }
 {
     if file.is_none() {
         *file = Some(make(rt, path)?);
     }
-    match file {
-        None => Ok(()),
-        Some(file) => write_all(file, at, bytes),
-    }
+    write_there(file, at, bytes)
 }
 
 fn cut_side(file: &Option<File>, len: u64) -> io::Result<()>
-    ensures { is_some file.now ≡ false → IsOk result }
+    ensures { descriptor_of file.now ≡ None → IsOk result }
 {
     match file {
         None => Ok(()),
@@ -199,7 +258,7 @@ fn cut_side(file: &Option<File>, len: u64) -> io::Result<()>
 }
 
 fn sync_side(file: &Option<File>) -> io::Result<()>
-    ensures { is_some file.now ≡ false → IsOk result }
+    ensures { descriptor_of file.now ≡ None → IsOk result }
 {
     match file {
         None => Ok(()),
@@ -240,6 +299,7 @@ impl<'a, R: Files<File = File>> Disk for FilePair<'a, R> {
         ensures absent { IsAbsent self.new side → result ≡ Ok 0 }
         ensures files { SameFiles self.old self.new }
         ensures opens { OnOk result (self.new.opened ≡ true) }
+        ensures streams { LeavesStreams self.new }
     {
         self.open()?;
         let answer = match side {
@@ -261,11 +321,12 @@ impl<'a, R: Files<File = File>> Disk for FilePair<'a, R> {
         ensures absent { IsAbsent self.new side → result ≡ Ok 0 }
         ensures files { SameFiles self.old self.new }
         ensures opens { OnOk result (self.new.opened ≡ true) }
+        ensures streams { LeavesStreams self.new }
     {
         self.open()?;
         match side {
-            Side::Left => counted(&mut self.faults, read_side(&mut self.left, at, into)),
-            Side::Right => counted(&mut self.faults, read_side(&mut self.right, at, into)),
+            Side::Left => counted(&mut self.faults, read_side(&self.left, at, into)),
+            Side::Right => counted(&mut self.faults, read_side(&self.right, at, into)),
         }
     }
 
@@ -281,6 +342,7 @@ impl<'a, R: Files<File = File>> Disk for FilePair<'a, R> {
         ensures made { OnOk result (is_there self.new side ≡ true) }
         ensures files { KeepsFiles self.old self.new }
         ensures opens { OnOk result (self.new.opened ≡ true) }
+        ensures streams { LeavesStreams self.new }
     {
         self.open()?;
         let answer = match side {
@@ -301,6 +363,7 @@ impl<'a, R: Files<File = File>> Disk for FilePair<'a, R> {
         ensures absent { IsAbsent self.new side → IsOk result }
         ensures files { SameFiles self.old self.new }
         ensures opens { OnOk result (self.new.opened ≡ true) }
+        ensures streams { LeavesStreams self.new }
     {
         self.open()?;
         let answer = match side {
@@ -320,6 +383,7 @@ impl<'a, R: Files<File = File>> Disk for FilePair<'a, R> {
         ensures absent { IsAbsent self.new side → IsOk result }
         ensures files { SameFiles self.old self.new }
         ensures opens { OnOk result (self.new.opened ≡ true) }
+        ensures streams { LeavesStreams self.new }
     {
         self.open()?;
         let answer = match side {
