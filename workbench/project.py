@@ -1,0 +1,299 @@
+"""A folder's components in a session: texts sent, faults, statuses, and what changed, for all doors.
+
+The files are the texts; the session keeps its own copies, and the statuses are those of the texts of the last build. At the start every
+text is sent, so that what is shown is what is built; later only what changed. All talk goes over the engine.
+
+What a reply says is taken in the thread of the engine, in the order of the session, whoever asked: so no status shown is older than the
+session's last word. Between a `build` and the `status` behind it `fresh` is false.
+"""
+from __future__ import annotations
+
+import hashlib
+import threading
+import time
+from typing import Any, Callable, Optional
+
+from . import journal, replies, texts
+from .commands import Refused, edit, word
+from .engine import EDIT, LOOK, SWEEP, USER, Ended, Engine, Reply
+
+Listener = Callable[[str, Any], None]
+Entry = dict[str, Any]
+"""Of the log: `n`, `at`, `sent`, `reply`, `seconds`, `quiet`."""
+
+LOG = 2000
+"""Entries that are kept."""
+
+ORIGINS = {'step': 'user', 'review': 'user', 'prune': 'user', 'auto': 'prover', 'show': ''}
+"""Commands whose answer says the status of one obligation, and who made its proof then."""
+
+
+class Project:
+    """`listener(event, data)` hears, in the engine's thread but for `idle`, `tried`, `trouble` and `ended`:
+
+    | event | data |
+    |---|---|
+    | `built` | the reply's line |
+    | `faults` | the faults by component |
+    | `statuses` | (changed: name to status, gone: names, the order of all names where it changed, else None) |
+    | `tried` | an obligation of which the prover found no proof |
+    | `idle` | counts by status: nothing is left to try |
+    | `log` | an entry of the log |
+    | `trouble` | words: the folder can't be read, or the session lost a command; it is tried again |
+    | `ended` | the last line of the session, which isn't begun again |
+    """
+
+    def __init__(self, path: str, workers: int = 2, program: Optional[str] = None, listener: Optional[Listener] = None) -> None:
+        self.listeners: list[Listener] = [listener] if listener else []
+        self.folder, self.workers = texts.Folder(path), workers
+        self.sent: dict[str, str] = {}
+        self.turned: dict[str, tuple[str, str]] = {}
+        self.told: dict[str, replies.Fault] = {}
+        self.extra: dict[str, replies.Fault] = {}
+        self.warnings: list[tuple[str, str]] = []
+        self.statuses: dict[str, replies.Status] = {}
+        self.built, self.fresh, self.builds, self.version, self.count = '', True, 0, 0, 0
+        self.tried: dict[str, str] = {}
+        self.known: dict[str, str] = {}
+        self.held: set[str] = set()
+        # `sent`: what the session took; `turned`: what it refused, with its words. `held`: what a user has in hand, which is not tried unasked.
+        # `tried`: what the prover found no proof of, with a hash of the sequent, since the last build; `known`: the same before it.
+        self.files, self.lock, self.stop = threading.RLock(), threading.RLock(), threading.Event()
+        self.resting, self.noticed = False, threading.Event()
+        self.logged: list[Entry] = []
+        self.journal = journal.Journal(path)
+        self.engine = Engine(path, workers, program, self._log)
+
+    def tell(self, event: str, data: Any) -> None:
+        """Calls the listeners."""
+        for listener in list(self.listeners):
+            listener(event, data)
+
+    # What the session says, in its order.
+
+    def _log(self, sent: str, reply: Reply, seconds: float, rank: int) -> None:
+        quiet = sent == 'status' or rank in (LOOK, SWEEP)
+        self.count += 1
+        entry: Entry = {'n': self.count, 'at': time.strftime('%H:%M:%S'), 'sent': sent, 'reply': reply[-1:] if sent == 'status' else reply,
+                        'seconds': round(seconds, 3), 'quiet': quiet}
+        self.logged.append(entry)
+        del self.logged[:-LOG]
+        self._hear(sent, reply)
+        self.tell('log', entry)
+
+    def _hear(self, sent: str, reply: Reply) -> None:
+        if not reply or replies.refusal(reply):
+            return
+        what = word(sent)
+        if what == 'status':
+            self._take(replies.statuses(reply))
+            self.fresh = True
+        elif what == 'build':
+            self.built, self.fresh, self.builds = reply[-1], False, self.builds + 1
+            self.known, self.tried, self.resting = {**self.known, **self.tried}, {}, False
+            self.tell('built', self.built)
+        elif what == 'faults':
+            self.told, self.warnings = replies.faults(reply)
+            self.tell('faults', self.faults)
+        elif what in ORIGINS and self.fresh:
+            told = replies.attempted(reply) if what == 'auto' else None
+            found = replies.status(f'{told[1]} {told[2]}' if told else reply[0])
+            if found:
+                self._one(found[0], found[1][0], ORIGINS[what] if told is None or told[0] == 'stored' else '')
+
+    def _one(self, name: str, status: str, origin: str) -> None:
+        """A status that was said of one obligation; without an origin the one that is known stands."""
+        before = self.statuses.get(name)
+        if before is None or not origin and before[0] == status:
+            return
+        value = (status, '' if status == 'unattempted' else origin or before[1])
+        if before != value:
+            self.statuses = {**self.statuses, name: value}
+            self.version += 1
+            self.tell('statuses', ({name: value}, [], None))
+
+    def _take(self, found: dict[str, replies.Status]) -> None:
+        before = self.statuses
+        changed = {name: value for name, value in found.items() if before.get(name) != value}
+        gone = [name for name in before if name not in found]
+        self.statuses = found
+        if changed or gone:
+            self.version += 1
+            self.tell('statuses', (changed, gone, list(found) if list(found) != list(before) else None))
+
+    # Texts.
+
+    @property
+    def faults(self) -> dict[str, replies.Fault]:
+        """The session's faults by component, and what couldn't be given to it."""
+        return {**self.told, **self.extra}
+
+    def sync(self) -> bool:
+        """Reads the folder and sends what differs from what was sent; builds where something did. True if it built.
+
+        A text that the session refuses is taken out of it, so that no obligation of an older text is shown.
+        """
+        with self.lock:
+            with self.files:
+                self.folder.look()
+                now = {name: part.text for name, (_, part) in self.folder.components().items()}
+                extra = self._unsent()
+            new = {name: text for name, text in now.items() if self.sent.get(name) != text and self.turned.get(name, ('', ''))[0] != text}
+            gone = sorted((self.sent.keys() | self.turned.keys()) - now.keys())
+            if new or gone or not self.built:
+                self._send(new, gone)
+            elif extra == self._unsaid():
+                return False
+            extra.update({name: replies.Fault(name, 0, 1, 1, why) for name, (_, why) in self.turned.items()})
+            if extra != self.extra:
+                self.extra = extra
+                self.tell('faults', self.faults)
+            return bool(new or gone)
+
+    def _unsaid(self) -> dict[str, replies.Fault]:
+        return {name: fault for name, fault in self.extra.items() if name not in self.turned}
+
+    def _unsent(self) -> dict[str, replies.Fault]:
+        """Faults of the folder: files that can't be read, and second texts of a name."""
+        told = [(file[:-len(texts.SUFFIX)], f'{file}: {why}') for file, why in self.folder.bad.items()]
+        told += [(part.name, f'a second text of this name stands in {file}') for file, part in self.folder.twice()]
+        return {name: replies.Fault(name, 0, 1, 1, words) for name, words in told}
+
+    def _send(self, new: dict[str, str], gone: list[str]) -> None:
+        """Edits, deletions and a build, as one request."""
+        commands = [edit(name, text) for name, text in new.items()] + [f'delete {name}' for name in gone]
+        said = self.engine.send(commands + ['build', 'faults', 'status'], EDIT).result()
+        words = {name: replies.refusal(reply) for name, reply in zip(new, said)}
+        for name in gone:
+            self.sent.pop(name, None)
+            self.turned.pop(name, None)
+        for name, refused in words.items():
+            self.turned.pop(name, None)
+            if refused is None:
+                self.sent[name] = new[name]
+            else:
+                self.sent.pop(name, None)
+                self.turned[name] = (new[name], refused)
+        if any(words.values()):
+            out = [f'delete {name}' for name, refused in words.items() if refused]
+            said = self.engine.send(out + ['build', 'faults', 'status'], EDIT).result()
+        build = said[-3]
+        if replies.refusal(build):
+            self.built = build[0]
+            self.tell('built', self.built)
+        self.noticed.set()
+
+    def save(self, name: str, text: str) -> None:
+        """Writes a component's file and syncs. Saves that come while one is built are built together."""
+        if '\x00' in text or any('\ud800' <= sign <= '\udfff' for sign in text):
+            raise Refused('the text has a character that no file can keep')
+        with self.files:
+            self.folder.look()
+            self.folder.put(name, text)
+        self.sync()
+
+    def drop(self, name: str) -> None:
+        """Takes a component out of its file and syncs."""
+        with self.files:
+            self.folder.look()
+            self.folder.drop(name)
+        self.sync()
+
+    # Statuses.
+
+    def refresh(self, rank: int = LOOK) -> bool:
+        """Asks for the statuses; true if something changed meanwhile."""
+        before = self.version
+        self.engine.ask('status', rank)
+        return self.version != before
+
+    def left(self) -> list[str]:
+        """What is still to be tried unasked: unattempted or broken, not tried with its present sequent, and in no user's hand."""
+        return [n for n, (s, _) in self.statuses.items() if s in ('unattempted', 'broken') and n not in self.tried and n not in self.held]
+
+    def open_ones(self, reviewed: bool = False) -> list[str]:
+        """Names that aren't discharged (nor, unless asked, reviewed)."""
+        return [n for n, (s, _) in self.statuses.items() if s != 'discharged' and (reviewed or s != 'reviewed')]
+
+    def ask(self, command: str, rank: int = USER) -> Reply:
+        """A command of the user; the statuses are asked for behind it."""
+        return self.engine.send([command, 'status'], rank).result()[0]
+
+    # What keeps the views fresh, beside the user.
+
+    def mind(self, folder: bool = True, sweep: bool = True, every: float = 0.3) -> None:
+        """Until `stop`: looks at the folder, at the statuses while workers change them, and has `auto` try what stays open.
+
+        `auto` tries one obligation a request, so whatever the user does waits for one attempt at most. What it noted is remembered with
+        the sequent, and not tried again while that stays. Where all is tried it says `idle`, and asks seldom.
+        """
+        state = _Minding()
+        while not self.stop.is_set():
+            try:
+                if self._look(state, folder, sweep):
+                    continue
+            except Ended as fault:
+                if not self.stop.is_set():
+                    self.tell('ended', str(fault))
+                return
+            except (Refused, OSError) as fault:
+                if str(fault) != state.trouble:
+                    self.tell('trouble', str(fault))
+                state.trouble = str(fault)
+            self.noticed.wait(every)
+            self.noticed.clear()
+
+    def _look(self, state: '_Minding', folder: bool, sweep: bool) -> bool:
+        """One look; true where the next one shouldn't wait."""
+        if folder and self.sync():
+            state.quiet = 0
+        state.trouble = ''
+        changed = self.refresh() if not self.resting or state.quiet % 10 == 0 else False
+        state.quiet = 0 if changed else state.quiet + 1
+        left = self.left() if sweep else []
+        if left:
+            self.resting = False
+        if left and (state.quiet >= 4 or self.workers == 0):
+            state.turn = state.turn + 1 if self.workers else 0
+            if self._attempt(left[-1 - state.turn % len(left)] if self.workers else left[0]):
+                return True
+        if not left and not self.resting:
+            self.resting = True
+            self.tell('idle', replies.summary(self.statuses))
+        return False
+
+    def _attempt(self, name: str) -> bool:
+        """Has the prover try one obligation; false where a worker has it in hand."""
+        shown = self.engine.ask(f'show {name}', SWEEP)
+        if replies.refusal(shown):
+            self.refresh()
+            return True
+        sequent, builds = hashlib.sha256('\n'.join(shown[1:]).encode()).hexdigest(), self.builds
+        if self.known.get(name) == sequent:
+            self._note(name, sequent, builds)
+            return True
+        found = replies.attempted(self.engine.ask(f'auto {name}', SWEEP))
+        if found and found[0] in ('noted', 'no memory', 'refused'):
+            self._note(name, sequent, builds)
+        self.refresh()
+        return found is not None
+
+    def _note(self, name: str, sequent: str, builds: int) -> None:
+        """Notes what was tried, unless something was built meanwhile."""
+        tried = self.tried
+        if self.builds == builds:
+            tried[name] = sequent
+            self.tell('tried', name)
+
+    def close(self) -> None:
+        """Ends the looks and the session."""
+        self.stop.set()
+        self.noticed.set()
+        self.engine.close()
+
+
+class _Minding:
+    """How long nothing changed, whose turn it is, and what was wrong last."""
+
+    def __init__(self) -> None:
+        self.quiet, self.turn, self.trouble = 0, 0, ''

@@ -1,0 +1,103 @@
+"""Stored proofs as `step` lines, and lines replayed. Text that replays is what a user keeps under version control."""
+from __future__ import annotations
+
+from typing import TYPE_CHECKING, Collection, Iterable, Iterator, Optional, Sequence
+
+from . import core_text, replies
+from .engine import Engine
+from .journal import Rule, Tree
+
+if TYPE_CHECKING:
+    from .project import Project
+
+
+def path_text(path: Iterable[int]) -> str:
+    """A path or a place as the session reads it."""
+    return '.'.join(map(str, path)) or '-'
+
+
+def numbers_of(path: Optional[str]) -> list[int]:
+    """The numbers of a path."""
+    return [] if path in (None, '-', '') else [int(n) for n in str(path).split('.')]
+
+
+def items(rule: Rule, printed: Sequence[str]) -> list[str]:
+    """The items of a rule of the journal, for hypotheses printed so. A hypothesis that isn't there is told as `?<..>`."""
+    found = []
+    for n, h in enumerate(rule.hypotheses):
+        text = core_text.text_of(h)
+        number = str(printed.index(text) + 1) if text in printed else f'?<{text}>'
+        found.append(f'h {number}' + (f' {rule.multipliers[n]}' if rule.kind == 'linear' else ''))
+    if rule.kind in ('allR', 'exL'):
+        found += [f'n {name}' for name, _ in rule.antecedents[0].new]
+    found += [f'e {core_text.text_of(t)}' for t in rule.terms]
+    if rule.kind in _TERMS:
+        letter, behind, parts = _TERMS[rule.kind]
+        term = rule.antecedents[-behind].added[0]
+        for part in parts:
+            term = term.parts[part]
+        found.append(f'{letter} {core_text.text_of(term)}')
+    if rule.kind in ('rwGoal', 'rwHyp'):
+        found.append(f'w {rule.law} {path_text(rule.place)}')
+    return found
+
+
+_TERMS: dict[str, tuple[str, int, tuple[int, ...]]] = {
+    'cut': ('p', 1, ()), 'cases': ('p', 2, ()), 'boolCases': ('e', 2, (0,)), 'cardNat': ('e', 1, (1, 0)), 'funIn': ('e', 1, (0, 1))}
+"""Where a rule's own term stands: its letter, which antecedent from the end adds a formula with it, and its place there."""
+
+
+def steps(name: str, tree: Optional[Tree], printed: Sequence[str], path: tuple[int, ...] = ()) -> Iterator[str]:
+    """The lines that make a tree anew; `printed` are the hypotheses at its root as `show` prints them."""
+    if tree is None:
+        return
+    rule = tree.rule
+    if rule.kind == 'review':
+        yield f'review {name} {path_text(path)}'
+        return
+    yield f'step {name} {path_text(path)} {rule.kind} {" ;; ".join(items(rule, printed))}'.rstrip()
+    for n, (antecedent, child) in enumerate(zip(rule.antecedents, tree.children)):
+        yield from steps(name, child, [*printed, *map(core_text.text_of, antecedent.added)], (*path, n))
+
+
+def export(project: 'Project', names: Optional[Collection[str]] = None, by_hand: bool = True) -> list[str]:
+    """The lines of all stored proofs that apply (or of `names`), those of the prover only where `by_hand` is false."""
+    _, trees = project.journal.read()
+    lines = []
+    for name, (status, origin) in list(project.statuses.items()):
+        left_out = name not in names if names is not None else by_hand and origin == 'prover'
+        if trees.get(name) is None or status == 'broken' or left_out:
+            continue
+        shown = project.engine.ask(f'show {name}')
+        if not replies.refusal(shown):
+            lines += [f'// {name} {status} ({origin})', *steps(name, trees[name], replies.sequent(shown).hypotheses)]
+    return lines
+
+
+def at(tree: Optional[Tree], path: Sequence[int]) -> tuple[Optional[Tree], list[str], dict[str, core_text.Type]]:
+    """What stands at a path of a tree of the journal, and the hypotheses added and names made on the way."""
+    added: list[str] = []
+    names: dict[str, core_text.Type] = {}
+    for n in path:
+        if tree is None or n >= len(tree.children):
+            return None, added, names
+        antecedent = tree.rule.antecedents[n]
+        names.update(antecedent.new)
+        added += map(core_text.text_of, antecedent.added)
+        tree = tree.children[n]
+    return tree, added, names
+
+
+def replay(engine: Engine, lines: Iterable[str]) -> Iterator[tuple[str, str]]:
+    """Sends `step` and `review` lines; yields the refused ones with the answer. What is discharged already is left alone."""
+    done = {name for name, (status, _) in replies.statuses(engine.ask('status')).items() if status == 'discharged'}
+    for line in lines:
+        words = line.split()
+        if not words or words[0].startswith('//') or len(words) > 1 and words[1] in done:
+            continue
+        if words[0] not in ('step', 'review') or len(words) < 3:
+            yield line, 'not a line of a proof'
+            continue
+        refused = replies.refusal(engine.ask(line.rstrip('\r\n')))
+        if refused:
+            yield line, refused

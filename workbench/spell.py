@@ -1,0 +1,22 @@
+"""Signs and their ASCII spellings (docs/LANGUAGE.md), for typing and for what the four private signs look like."""
+from __future__ import annotations
+
+import re
+
+SIGNS = {
+    'true': '⊤', 'false': '⊥', 'not': '¬', '&': '∧', 'or': '∨', '=>': '⇒', '<=>': '⇔', '!': '∀', '#': '∃', '.': '·', '|': '∣',
+    '/=': '≠', ':': '∈', '/:': '∉', '<=': '≤', '>=': '≥', '|->': '↦', '<->': '↔', '+->': '⇸', '-->': '→', '>+>': '⤔', '>->': '↣',
+    '+->>': '⤀', '->>': '↠', '-->>': '↠', '>->>': '⤖', '\\/': '∪', '/\\': '∩', '\\': '∖', '**': '×', '<|': '◁', '<<|': '⩤',
+    '|>': '▷', '|>>': '⩥', 'circ': '∘', '||': '∥', '><': '⊗', ':=': '≔', '::': ':∈', ':|': ':∣', '{}': '∅', '..': '‥', '-': '−',
+    '*': '∗', '/': '÷', '~': '∼', 'oftype': '⦂', '%': 'λ', 'UNION': '⋃', 'INTER': '⋂', 'INT': 'ℤ', 'NAT': 'ℕ', 'NAT1': 'ℕ1',
+    'POW': 'ℙ', 'POW1': 'ℙ1', '<:': '⊆', '<<:': '⊂', '/<:': '⊈', '/<<:': '⊄'}
+KEPT = ('<<->', '<->>', '<<->>', '<+', ':∈', ':∣')
+"""What stays: signs whose Unicode is of a private area, and two that begin with an ASCII sign. They are matched, so that no part of them is replaced."""
+
+_LONGEST = sorted([k for k in list(SIGNS) + list(KEPT) if not k[0].isalpha()], key=len, reverse=True)
+_TOKEN = re.compile(r'//[^\n]*|/\*.*?(?:\*/|$)|@[A-Za-z0-9_\-.\']*|[A-Za-z_][A-Za-z0-9_]*\'?|' + '|'.join(map(re.escape, _LONGEST)) + '|.', re.S)
+
+
+def unicode_of(text: str) -> str:
+    """The text with ASCII signs replaced, but within comments and labels. The lexer of the program reads both the same."""
+    return _TOKEN.sub(lambda m: SIGNS.get(m[0], m[0]), text)
