@@ -70,6 +70,11 @@ class _Request(NamedTuple):
     future: 'Future[list[Reply]]'
 
 
+def named(program: str) -> str:
+    """A program from whatever folder it is started; a name without a slash is looked for on the path."""
+    return os.path.abspath(program) if os.sep in program else program
+
+
 def _resolve(future: 'Future[list[Reply]]', fault: Exception) -> None:
     if not future.done():
         future.set_exception(fault)
@@ -82,7 +87,7 @@ class Engine:
     """
 
     def __init__(self, folder: str, workers: int = 2, program: Optional[str] = None, log: Optional[Log] = None) -> None:
-        self.words: list[str] = [program or os.environ.get('RODIN') or 'rodin', 'session', str(workers)]
+        self.words = [named(program or os.environ.get('RODIN') or 'rodin'), 'session', str(workers)]
         self.folder, self.workers = folder, workers
         self.log: Log = log or (lambda sent, reply, seconds, rank: None)
         self.ended: Optional[str] = None
@@ -262,6 +267,7 @@ class Engine:
             line = self._lines.get()
             if line is None:
                 self.at_work = ''
+                self._end(self.process, AGAIN_FOR)
                 status = self.process.wait()
                 told = status in SAYS_WHY and reply
                 raise _Over(status, reply[-1] if told else f'the session ended with status {status}')

@@ -128,14 +128,14 @@ class Project:
         """The session's faults by component, and what couldn't be given to it."""
         return {**self.told, **self.extra}
 
-    def sync(self) -> bool:
+    def sync(self, patient: bool = True) -> bool:
         """Reads the folder and sends what differs from what was sent; builds where something did. True if it built.
 
         A text that the session refuses is taken out of it, so that no obligation of an older text is shown.
         """
         with self.lock:
             with self.files:
-                self.folder.look()
+                self.folder.look(patient)
                 now = {name: part.text for name, (_, part) in self.folder.components().items()}
                 extra = self._unsent()
             new = {name: text for name, text in now.items() if self.sent.get(name) != text and self.turned.get(name, ('', ''))[0] != text}

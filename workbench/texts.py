@@ -79,8 +79,11 @@ class Folder:
         """The names of the files, sorted."""
         return sorted(name for name in os.listdir(self.path) if name.endswith(SUFFIX) and not name.startswith('.'))
 
-    def look(self) -> bool:
-        """Reads what changed; true if something did. A folder that is gone raises `OSError`."""
+    def look(self, patient: bool = True) -> bool:
+        """Reads what changed; true if something did. Unless patient it takes a file that looks half written, too.
+
+        A folder that is gone raises `OSError`.
+        """
         now: dict[str, tuple[int, int, int]] = {}
         for name in self.files():
             try:
@@ -90,7 +93,7 @@ class Folder:
             now[name] = (stat.st_mtime_ns, stat.st_size, stat.st_ino)
         changed = False
         for name in [name for name in now if now[name] != self.seen.get(name)]:
-            if self._take(name, abs(time.time() - now[name][0] / 1e9) < YOUNG):
+            if self._take(name, patient and abs(time.time() - now[name][0] / 1e9) < YOUNG):
                 self.seen[name], changed = now[name], True
         for name in set(self.seen) - set(now):
             changed = True
