@@ -3,7 +3,7 @@ from __future__ import annotations
 
 from fractions import Fraction
 from math import lcm
-from typing import Mapping, Optional, Sequence
+from typing import Collection, Mapping, Optional, Sequence
 
 from .formulas import Formula
 
@@ -47,13 +47,70 @@ def at_most_zero(formula: Optional[Formula], text: str, denied: bool = False) ->
     return _sum(_sum(left, _scaled(right, Fraction(-1))), {'': Fraction(1 if strict else 0)}), formula.op == '='
 
 
+def steps(trees: Sequence[Optional[Formula]], hypotheses: Sequence[str], aim: Optional[Formula], goal: str,
+          only: Collection[int] = ()) -> Optional[list[str]]:
+    """Rules that close a sequent by one linear step, the last one: mostly it alone. Before it stand, where they are needed, `contra` with the
+    denied goal turned, and memberships in ℕ, ℕ1 and intervals unfolded. Of `only` where hypotheses are told. None where nothing is found."""
+    bare = aim is not None and aim.op == '⊥'
+    denied = None if bare else at_most_zero(aim, goal, denied=True)
+    if not bare and denied is None:
+        return None
+    plain: dict[int, tuple[Form, bool]] = {}
+    unfolded: dict[int, tuple[Form, bool]] = {}
+    for n, (tree, text) in enumerate(zip(trees, hypotheses), 1):
+        found = at_most_zero(tree, text) if not only or n in only else None
+        if found is not None:
+            plain[n] = found
+        for part, form_found in enumerate(_memberships(tree, text) if not only or n in only else ()):
+            unfolded[-(2 * n + part)] = (form_found, False)
+    for forms in (plain, {**plain, **unfolded}):
+        for turned in ((False,) if bare else (False, True)):
+            extra = {0: (denied[0], False)} if turned and denied else {}
+            factors = multipliers(None if bare or turned or not denied else denied[0], {**forms, **extra})
+            if factors is not None:
+                return _lines(factors, len(hypotheses), trees, turned, aim)
+    return None
+
+
+def _memberships(tree: Optional[Formula], text: str) -> list[Form]:
+    """What is at most 0 where a whole number is in ℕ, ℕ1 or an interval: one form, or two."""
+    if tree is None or tree.op != '∈' or tree.parts[1].op not in ('ℕ', 'ℕ1', '‥'):
+        return []
+    value = form(tree.parts[0], text)
+    low = _scaled(value, Fraction(-1))
+    if tree.parts[1].op != '‥':
+        return [_sum(low, {'': Fraction(tree.parts[1].op == 'ℕ1')})]
+    first, last = (form(part, text) for part in tree.parts[1].parts)
+    return [_sum(low, first), _sum(value, _scaled(last, Fraction(-1)))]
+
+
+def _lines(factors: Mapping[int, int], count: int, trees: Sequence[Optional[Formula]], turned: bool, aim: Optional[Formula]) -> list[str]:
+    """The rules for multipliers: 0 is the denied goal, what is below 0 a membership (twice its hypothesis, and 1 more for its second half)."""
+    lines, number = [], {n: n for n in factors if n > 0}
+    if turned and aim is not None:
+        lines += ['contra', f'rwHyp h {count + 1} ;; w {66 if aim.op == "<" else 67} -']
+        number[0], count = count + 2, count + 2
+    for n in sorted({-key // 2 for key in factors if key < 0}):
+        tree = trees[n - 1]
+        op = tree.parts[1].op if tree else ''
+        lines.append(f'rwHyp h {n} ;; w {LAWS[op]} -')
+        number[-2 * n] = count = count + 1
+        if op == '‥':
+            lines.append(f'andL h {count}')
+            number[-2 * n], number[-2 * n - 1], count = count + 1, count + 2, count + 2
+    return [*lines, ('linear ' + ' ;; '.join(f'h {n} {k}' for n, k in sorted((number[key], k) for key, k in factors.items()))).rstrip()]
+
+
+LAWS = {'ℕ': 61, 'ℕ1': 62, '‥': 63}
+"""The laws that unfold a membership."""
+
+
 def multipliers(goal: Optional[Form], forms: Mapping[int, tuple[Form, bool]]) -> Optional[dict[int, int]]:
     """From hypothesis number to a whole multiplier, or None. `goal` is the form of the negated goal or None where the goal is ⊥; `forms`
     maps numbers to (form, is_equation). With a goal its own multiplier is 1, as the rule has it."""
     numbers = sorted(forms)
     columns = [(n, 1) for n in numbers] + [(n, -1) for n in numbers if forms[n][1]]
-    terms = sorted({t for f, _ in forms.values() for t in f} | set(goal or {}) - {''})
-    terms = [t for t in terms if t != '']
+    terms = sorted(({t for f, _ in forms.values() for t in f} | set(goal or {})) - {''})
     rows = [[sign * forms[n][0].get(t, Fraction(0)) for n, sign in columns] for t in terms]
     want = [-(goal or {}).get(t, Fraction(0)) for t in terms]
     constants = [sign * forms[n][0].get('', Fraction(0)) for n, sign in columns]

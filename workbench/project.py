@@ -262,6 +262,14 @@ class Project:
             self.tell('idle', replies.summary(self.statuses))
         return False
 
+    def settle(self) -> None:
+        """Has all tried that is left, one after another, also what a worker has in hand."""
+        while self.left() and not self.stop.is_set():
+            found = [self._attempt(name) for name in self.left()]
+            if not any(found):
+                self.stop.wait(0.1)
+                self.refresh()
+
     def _attempt(self, name: str) -> bool:
         """Has the prover try one obligation; false where a worker has it in hand."""
         shown = self.engine.ask(f'show {name}', SWEEP)

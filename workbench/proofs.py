@@ -88,6 +88,25 @@ def at(tree: Optional[Tree], path: Sequence[int]) -> tuple[Optional[Tree], list[
     return tree, added, names
 
 
+def misfit(tree: Optional[Tree], sequent: replies.Sequent, path: tuple[int, ...] = ()) -> Optional[tuple[str, str, str]]:
+    """Where a stored tree first doesn't apply to a sequent, as far as the characters tell: path, rule and what it wants; None where it all fits."""
+    if tree is None:
+        return None
+    rule = tree.rule
+    if rule.goal is not None and core_text.text_of(rule.goal) != sequent.goal:
+        return path_text(path), rule.kind, f'the goal {core_text.text_of(rule.goal)}'
+    for hypothesis in map(core_text.text_of, rule.hypotheses):
+        if hypothesis not in sequent.hypotheses:
+            return path_text(path), rule.kind, f'the hypothesis {hypothesis}'
+    for n, (antecedent, child) in enumerate(zip(rule.antecedents, tree.children)):
+        goal = sequent.goal if antecedent.goal is None else core_text.text_of(antecedent.goal)
+        inner = replies.Sequent(sequent.status, [*sequent.hypotheses, *map(core_text.text_of, antecedent.added)], goal)
+        found = misfit(child, inner, (*path, n))
+        if found:
+            return found
+    return None
+
+
 def replay(engine: Engine, lines: Iterable[str]) -> Iterator[tuple[str, str]]:
     """Sends `step` and `review` lines; yields the refused ones with the answer. What is discharged already is left alone."""
     done = {name for name, (status, _) in replies.statuses(engine.ask('status')).items() if status == 'discharged'}

@@ -163,6 +163,13 @@ class Proof:
         found = proofs.steps(self.name, tree, replies.sequent(shown).hypotheses)
         return [line for line in found if below(line.split(' ')[2], path)]
 
+    def misfit(self) -> Optional[tuple[str, str, str]]:
+        """Where the stored tree first doesn't apply: path, rule and what it wants; None where it isn't seen so."""
+        whole = self.project.engine.ask(f'show {self.name}')
+        if replies.refusal(whole):
+            return None
+        return proofs.misfit(self.project.journal.read()[1].get(self.name), replies.sequent(whole))
+
     def inside(self, path: str) -> tuple[replies.Sequent, str]:
         """The sequent at a rule, and the rule's line."""
         tree = self.project.journal.read()[1].get(self.name)

@@ -3,15 +3,14 @@ from __future__ import annotations
 
 from typing import Collection, NamedTuple, Optional, Sequence
 
-from . import formulas, linear
+from . import formulas, linear, rule_words
 from .formulas import Formula
 
-KINDS = {
-    'hyp': 'h', 'top': '', 'bot': 'h', 'contr': 'h h', 'andR': '', 'andL': 'h', 'orR': '', 'orL': 'h', 'impR': '', 'impL': 'h', 'mp': 'h h', 'iffR': '',
-    'iffL': 'h', 'notR': '', 'notL': 'h', 'contra': '', 'allR': 'n*', 'allL': 'h e*', 'exR': 'e*', 'exL': 'h n*', 'cut': 'p', 'cases': 'p',
-    'eqRefl': '', 'eqGoal': 'h', 'eqHyp': 'h h', 'boolCases': 'e', 'boolDiff': 'h', 'rwGoal': 'w', 'rwHyp': 'h w', 'linear': 'hk*',
-    'cardNat': 'e', 'funIn': 'h e', 'funEq': 'h h', 'overOther': 'h'}
+KINDS = {kind: items for kind, (items, _) in rule_words.KINDS.items()}
 """Kinds that `step` makes, with the items that each takes; `*` for as many as are needed. `review` is a command of its own."""
+
+LAW_SAYS = rule_words.LAWS
+"""What each law does."""
 
 _ARROWS = ('⇸', '→', '⤔', '↣', '⤀', '↠', '⤖')
 _ARROW_LAWS = {'↔': 35, '<<->': 36, '<->>': 37, '<<->>': 38, '⇸': 39, '→': 40, '⤔': 41, '↣': 42, '⤀': 43, '↠': 44, '⤖': 45}
@@ -70,19 +69,6 @@ def laws(formula: Formula) -> list[int]:
     return found
 
 
-LAW_SAYS = {
-    1: '¬¬P becomes P', 2: '¬ into ∧', 3: '¬ into ∨', 4: '¬ into ⇒', 5: '¬ into ⇔', 6: '¬∀ becomes ∃¬', 7: '¬∃ becomes ∀¬', 8: 'bool(P)=TRUE becomes P',
-    9: 'bool(P)=FALSE becomes ¬P', 10: 'turn the equation', 11: 'pair in a product', 12: '∈∪ becomes ∨', 13: '∈∩ becomes ∧', 14: '∈∖', 15: 'in an enumeration',
-    16: '∈∅ becomes ⊥', 17: '⊆ becomes ∀', 18: '⊂ becomes ⊆ and ≠', 19: '= of sets becomes two ⊆', 20: '=∅ becomes ∀∉', 21: '∈ℙ becomes ⊆', 22: '∈ℙ1',
-    23: '∈dom becomes ∃', 24: '∈ran becomes ∃', 25: 'in a converse', 26: 'in ◁', 27: 'in ⩤', 28: 'in ▷', 29: 'in ⩥', 30: 'in <+', 31: 'in an image',
-    32: 'in ;', 33: 'in ⊗', 34: 'in ∥', 35: '↔ becomes ⊆ of ×', 36: 'total relation', 37: 'surjective relation', 38: 'total surjective relation',
-    39: 'partial function', 40: 'total function', 41: 'partial injection', 42: 'total injection', 43: 'partial surjection', 44: 'total surjection',
-    45: 'bijection', 46: 'in a comprehension', 47: 'in union', 48: 'in inter', 49: 'in ⋃', 50: 'in ⋂', 51: 'in id', 52: 'in prj1', 53: 'in prj2',
-    54: 'pairs are equal', 55: 'the whole set of a type', 56: 'finite(∅)', 57: 'finite enumeration', 58: 'finite union', 59: 'finite range',
-    60: '(f<+{E↦F})(E) becomes F', 61: '∈ℕ becomes 0≤', 62: '∈ℕ1 becomes 1≤', 63: '∈ a‥b', 64: 'in succ', 65: 'in pred', 66: '¬< becomes ≤',
-    67: '¬≤ becomes <', 68: '= of integers becomes two ≤', 69: '< becomes +1≤', 70: 'reckon'}
-
-
 def fresh(names: Collection[str], count: int) -> list[str]:
     """So many names that aren't among `names`."""
     found: list[str] = []
@@ -109,19 +95,14 @@ class View:
         score = {n: len(wanted & formulas.names(h)) for n, h in enumerate(self.hypotheses, 1)}
         return sorted((n for n in score if score[n]), key=lambda n: (-score[n], n)), [n for n in score if not score[n]]
 
+    def linear_steps(self, only: Collection[int] = ()) -> Optional[list[str]]:
+        """Rules of which the last one is a linear step that closes the sequent, from the hypotheses or those of `only`; None where none is found."""
+        return linear.steps(self.trees, self.hypotheses, self.aim, self.goal, only)
+
     def linear(self, only: Collection[int] = ()) -> Optional[str]:
-        """The words of a linear step that follows from the hypotheses, or from those of `only`; None where none is found."""
-        aim = self.aim
-        goal = None if aim is None or aim.op == '⊥' else linear.at_most_zero(aim, self.goal, denied=True)
-        if aim is None or aim.op != '⊥' and goal is None:
-            return None
-        forms: dict[int, tuple[linear.Form, bool]] = {}
-        for n, (tree, text) in enumerate(zip(self.trees, self.hypotheses), 1):
-            form = linear.at_most_zero(tree, text) if not only or n in only else None
-            if form is not None:
-                forms[n] = form
-        found = linear.multipliers(goal[0] if goal else None, forms)
-        return None if found is None else 'linear ' + ' ;; '.join(f'h {n} {k}' for n, k in sorted(found.items()))
+        """The words of one linear step that closes the sequent; None where none is found."""
+        found = self.linear_steps(only)
+        return found[0] if found and len(found) == 1 else None
 
     def of_goal(self) -> list[Hint]:
         """Proposals for the goal as a whole."""

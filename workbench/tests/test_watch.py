@@ -133,7 +133,7 @@ class Warnings(Room):
             self.assertEqual(found.name, part.name)
             labels = [f.label for block in [found, *found.events] for section in block.formulas.values() for f in section]
             marks = [token.text[1:] for token in scan.tokens(part.text) if token.text.startswith('@')]
-            self.assertEqual(len(labels), len(marks) - found.variant)
+            self.assertEqual(len(labels), len(marks) - len(re.findall(r'variant\s+@', part.text)))
             self.assertEqual([event.name for event in found.events], re.findall(r'\bevent (\w+)', part.text))
 
 
