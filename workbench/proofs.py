@@ -107,16 +107,31 @@ def misfit(tree: Optional[Tree], sequent: replies.Sequent, path: tuple[int, ...]
     return None
 
 
+BATCH = 40
+"""Lines that are sent as one request by `replay`."""
+
+
 def replay(engine: Engine, lines: Iterable[str]) -> Iterator[tuple[str, str]]:
     """Sends `step` and `review` lines; yields the refused ones with the answer. What is discharged already is left alone."""
     done = {name for name, (status, _) in replies.statuses(engine.ask('status')).items() if status == 'discharged'}
+    batch: list[str] = []
     for line in lines:
         words = line.split()
         if not words or words[0].startswith('//') or len(words) > 1 and words[1] in done:
             continue
         if words[0] not in ('step', 'review') or len(words) < 3:
+            yield from _sent(engine, batch)
+            batch = []
             yield line, 'not a line of a proof'
             continue
-        refused = replies.refusal(engine.ask(line.rstrip('\r\n')))
-        if refused:
-            yield line, refused
+        batch.append(line.rstrip('\r\n'))
+        if len(batch) >= BATCH:
+            yield from _sent(engine, batch)
+            batch = []
+    yield from _sent(engine, batch)
+
+
+def _sent(engine: Engine, batch: list[str]) -> list[tuple[str, str]]:
+    """The refused ones of some lines, with the answer."""
+    said = [(line, replies.refusal(reply)) for line, reply in zip(batch, engine.send(batch).result())]
+    return [(line, refused) for line, refused in said if refused]

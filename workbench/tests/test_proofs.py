@@ -116,8 +116,8 @@ class Replayed(Room):
                          {name: 'unattempted' if status == 'broken' else status for name, status in before.items()})
 
     def test_proofs_of_the_prover(self) -> None:
-        """Of four examples, with one worker beside."""
-        for name in ('counter', 'binary_search', 'access', 'file_transfer'):
+        """Of two examples, with one worker beside."""
+        for name in ('counter', 'file_transfer'):
             shutil.copy(os.path.join(EXAMPLES, f'{name}.eventb'), self.room)
         project = Project(self.room, 1, PROGRAM)
         project.sync()
@@ -127,7 +127,7 @@ class Replayed(Room):
         project.close()
         status, said, to = self.exported()
         self.assertEqual(status, 0, said)
-        self.assertGreater(sum(status == 'discharged' for status in before.values()), 100)
+        self.assertGreater(sum(status == 'discharged' for status in before.values()), 40)
         self.again(to, before)
 
     def test_the_proofs_of_the_documents(self) -> None:
