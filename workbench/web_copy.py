@@ -19,6 +19,10 @@ MOST_LEAVES = 4
 """As many antecedents as any rule has, and one more."""
 
 
+MOST_REPLAYED = 400
+"""Rules of a proof that is replayed whole: each writes the whole tree."""
+
+
 class NoCopy(Exception):
     """The copy can't show this; the text says why."""
 
@@ -120,6 +124,25 @@ class Copy:
             except (Ended, Refused) as fault:
                 self._drop()
                 raise NoCopy(str(fault)) from fault
+
+    def misfits(self, po: str, texts: Mapping[str, str], lines: Sequence[str]) -> dict[str, str]:
+        """The rules of a proof that don't apply to the present sequent any more, the upper ones alone, with the words of their refusal."""
+        if len(lines) > MOST_REPLAYED:
+            raise NoCopy(f'the proof has more than {MOST_REPLAYED} rules')
+        with self.lock:
+            try:
+                engine = self._build(needed(replies.component_of(po), texts))
+                self.po, self.chain = '', []
+                said = engine.send([f'prune {po} -', *map(one_line, lines)]).result()[1:]
+            except (Ended, Refused) as fault:
+                self._drop()
+                raise NoCopy(str(fault)) from fault
+        found: dict[str, str] = {}
+        for line, reply in zip(lines, said):
+            path, words = line.split(' ', 3)[2], replies.refusal(reply)
+            if words and not any(place in found for place in above(path)):
+                found[path] = words
+        return found
 
     @staticmethod
     def _sequent(reply: Sequence[str]) -> replies.Sequent:

@@ -29,6 +29,9 @@ Told = dict[str, Any]
 WAITING = 5000
 """Events that wait for a page; one that is that far behind is let go, and begins anew."""
 
+SILENT = 5.0
+"""Seconds without an answer behind which the pages are told."""
+
 KEPT_LOG, SENT, LINES = 300, 2000, 100
 """Entries of the log that a page begins with, and how much of a command and of a reply an entry has at first."""
 
@@ -102,7 +105,8 @@ class Desk:
         self._built, self._stop = threading.Event(), threading.Event()
         self.project = self._open()
         self.copy = Copy(self.project.engine.words[0])
-        threading.Thread(target=self._lint, daemon=True).start()
+        for watch in (self._lint, self._wake):
+            threading.Thread(target=watch, daemon=True).start()
 
     def _open(self) -> Project:
         """The project, with a session, and what looks after both."""
@@ -150,6 +154,11 @@ class Desk:
         else:
             self.tell(event, data)
 
+    @property
+    def name(self) -> str:
+        """The folder's own name."""
+        return os.path.basename(os.path.abspath(self.path))
+
     def texts(self) -> Told:
         """The components with their files and faults, and the warnings."""
         p = self.project
@@ -164,7 +173,7 @@ class Desk:
         """All that a page begins with."""
         p = self.project
         statuses = p.statuses
-        return {**self.texts(), 'folder': os.path.basename(os.path.abspath(self.path)), 'built': p.built, 'statuses': statuses, 'order': list(statuses),
+        return {**self.texts(), 'folder': self.name, 'built': p.built, 'statuses': statuses, 'order': list(statuses),
                 'tried': list(p.tried), 'workers': p.workers, 'sweep': self.sweep, 'signs': spell.SIGNS, 'kept': list(spell.KEPT), 'words': scan.STRUCTURE,
                 'rules': KIND_SAYS, 'ended': p.engine.ended, 'idle': p.resting or not self.sweep and not p.workers, 'log': [entry(e) for e in p.logged[-KEPT_LOG:]]}
 
@@ -180,6 +189,16 @@ class Desk:
             if notes != self.notes:
                 self.notes = notes
                 self.tell('texts', self.texts())
+
+    def _wake(self) -> None:
+        """Tells the pages of a session that doesn't answer: it may be stopped, or at work on something long."""
+        told = False
+        while not self._stop.wait(1.0):
+            engine = self.project.engine
+            silent = engine.silent()
+            if silent > SILENT or told:
+                told = silent > SILENT
+                self.tell('silent', {'seconds': round(silent) if told else 0, 'at': engine.at_work[:200]})
 
     @staticmethod
     def _note(warn: Warn, there: Mapping[str, tuple[str, Part]]) -> Optional[Told]:
@@ -257,11 +276,12 @@ class Desk:
         by_file: dict[str, list[Part]] = {}
         for file, part in found.values():
             by_file.setdefault(file, []).append(part)
+        lines = proofs.export(p, by_hand=False)
         with zipfile.ZipFile(made, 'w', zipfile.ZIP_DEFLATED) as archive:
             for file, found_parts in by_file.items():
                 archive.writestr(file, ''.join(part.text for part in sorted(found_parts, key=lambda part: part.line)))
-            archive.writestr('proofs.steps', '\n'.join([*proofs.export(p, by_hand=False), '']))
-        return {'name': f'{os.path.basename(os.path.abspath(self.path))}.zip', 'data': base64.b64encode(made.getvalue()).decode()}
+            archive.writestr('proofs.steps', '\n'.join([*lines, '']))
+        return {'name': f'{self.name}.zip', 'data': base64.b64encode(made.getvalue()).decode(), 'texts': len(found), 'proofs': len(lines)}
 
     # Proofs.
 
@@ -283,13 +303,14 @@ class Desk:
         with lock:
             proof.read()
             nodes = {node.path: node for node in proof.nodes}
-            wanted = given.get('path')
-            at = wanted if isinstance(wanted, str) and wanted in nodes else proof.leaf or '-'
+            wanted, status = given.get('path'), self.project.statuses.get(proof.name, ('gone', ''))
+            misfits = self._misfits(proof) if status[0] == 'broken' else {}
+            at = wanted if isinstance(wanted, str) and wanted in nodes else next(iter(misfits), proof.leaf or '-')
             node = nodes.get(at)
             if node is not None and node.rule is None:
                 proof.leaf = at
             out: Told = {
-                'po': proof.name, 'status': self.project.statuses.get(proof.name, ('gone', '')), 'nodes': [n._asdict() for n in proof.nodes], 'at': at,
+                'po': proof.name, 'status': status, 'misfits': misfits, 'nodes': [n._asdict() for n in proof.nodes], 'at': at,
                 'undo': bool(proof.done), 'redo': bool(proof.undone), 'open': False, 'note': None, 'line': None}
             if node is None:
                 return {**out, 'note': proof.refused}
@@ -297,10 +318,20 @@ class Desk:
             if whole is None:
                 return {**out, 'note': proof.refused}
             found, out['note'], out['open'], out['line'] = self._at(proof, node, whole)
+            if status[0] == 'broken':
+                told = '; '.join(f'{nodes[path].rule if path in nodes else path}: {words}' for path, words in misfits.items())
+                out['note'] = f'The stored proof does not apply to the present sequent{f" ({told})" if told else ""}. Prune what does not fit, or try the prover.'
             view = rules.View(found.hypotheses, found.goal)
             out['near'], out['far'] = view.near()
             return {**out, 'base': len(whole.hypotheses), 'goal': {'text': found.goal, 'spans': spans(found.goal)},
                     'hypotheses': [{'n': n, 'text': h, 'spans': spans(h)} for n, h in enumerate(found.hypotheses, 1)]}
+
+    def _misfits(self, proof: Proof) -> dict[str, str]:
+        """The rules of a broken proof that don't apply any more; none where that can't be told."""
+        try:
+            return self.copy.misfits(proof.name, self.project.sent, proof.lines())
+        except (NoCopy, ValueError, LookupError, OSError):
+            return {}
 
     def _at(self, proof: Proof, node: replies.Node, whole: replies.Sequent) -> tuple[replies.Sequent, Optional[str], bool, Optional[str]]:
         """The sequent at a node, a note about it, whether rules can be made there, and the rule's line where there is one."""
@@ -308,7 +339,7 @@ class Desk:
             found = whole if node.path == '-' else proof.sequent(node.path)
             if found is not None and (node.goal or node.path == '-'):
                 return found, None, True, None
-            return whole, 'The stored proof does not apply to this sequent, which is the obligation’s: prune what does not fit, or try the prover.', False, None
+            return whole, 'The sequent shown is the obligation’s.', False, None
         try:
             lines = proof.lines()
             line = next((line for line in lines if line.split(' ')[2] == node.path), None)
@@ -318,7 +349,10 @@ class Desk:
             return whole, f'At this rule: {fault}. The sequent shown is the obligation’s.', False, None
 
     def offers(self, given: Given) -> Told:
-        """Rules proposed by shape for hypothesis `n`, or the goal where it is 0, at a place; the chosen hypotheses in `chosen`."""
+        """Rules for hypothesis `n`, or the goal where it is 0, at a place, with the chosen hypotheses in `chosen`.
+
+        They are proposed by shape; those that need no term are tried in the copy, and come with what they would leave, or not at all.
+        """
         proof, _ = self.proof_of(given)
         view, n, place = proof.view(path_of(given)), int(given.get('n', 0)), proofs.numbers_of(path_of(given, 'place'))
         if view is None:
@@ -328,8 +362,12 @@ class Desk:
         whole = view.of_hypothesis(n, numbers_of(given, 'chosen')) if n else view.of_goal()
         readable = (view.trees[n - 1] if n else view.aim) is not None
         part = view.of_place(n, place) if readable else []
-        found = {hint.words + ' '.join(hint.asks): hint for hint in ([*part, *whole] if place else [*whole, *part])}
-        return {'offers': [{**hint._asdict(), 'asked': hint.asked()} for hint in found.values()]}
+        found = list({hint.words + ' '.join(hint.asks): hint for hint in ([*part, *whole] if place else [*whole, *part])}.values())
+        told = self.leaves({'po': proof.name, 'path': given['path'], 'words': [hint.words for hint in found if not hint.asks]})
+        left = iter(told['leaves'])
+        offers: list[Told] = [{**hint._asdict(), 'asked': hint.asked(), **({} if hint.asks else next(left, {}))} for hint in found]
+        fits = [offer for offer in offers if 'refused' not in offer]
+        return {'offers': fits, 'misfits': len(offers) - len(fits), 'why': told['why']}
 
     def leaves(self, given: Given) -> Told:
         """What each of some rules would leave at a leaf: tried in the copy."""

@@ -10,6 +10,7 @@ import * as find from './find.js'
 
 const texts = new Map() // name -> {area, saved, mark, file}: `saved` is what stands in the file as far as the page knows
 let current = null
+const BLOCKED = 9 // the kind of a fault that another component's fault makes
 let onOpen = () => {}, onDirty = () => {}, onSay = () => {}
 
 export const currentName = () => current
@@ -113,11 +114,29 @@ function showDirty () {
   onDirty(current)
 }
 
-// To the next fault: in the open text, or in the next component that has one.
+// Where an obligation comes from: its label behind the heading of its event, or the event, or the component.
+export async function openOrigin (po) {
+  const [component, ...parts] = po.split('/')
+  if (!state.components.some(c => c.name === component)) return
+  await openText(component)
+  const text = now().area.value, word = w => w.replace(/[.$]/g, '\\$&')
+  const find = (pattern, from) => { const found = new RegExp(pattern, 'g'); found.lastIndex = from; const m = found.exec(text); return m ? m.index : -1 }
+  const label = parts.length > 1 ? parts[parts.length - 2] : null
+  const event = parts.length > 2 ? find(`\\bevent\\s+${word(parts[0])}(?![\\w'])`, 0) : 0
+  const next = parts.length > 2 && event >= 0 ? find('\\bevent\\s', event + 6) : -1
+  let at = label ? find(`@${word(label)}(?![\\w.'-])`, Math.max(0, event)) : -1
+  if (next >= 0 && at > next || at < 0) at = event > 0 ? event : label ? find(`@${word(label)}(?![\\w.'-])`, 0) : 0
+  const { line, column } = sheet.place(text, Math.max(0, at))
+  goTo(line, column)
+}
+
+// To the next fault: in the open text, or in the next component that has one. What is only blocked by others comes last.
 export async function nextFault () {
-  const names = state.components.map(c => c.name).filter(n => state.faults.has(n))
-  if (!names.length) return speak('There is no fault.')
-  const fault = state.faults.get(current), text = now()
+  const faulted = state.components.map(c => c.name).filter(n => state.faults.has(n))
+  if (!faulted.length) return speak('There is no fault.')
+  const causes = faulted.filter(n => state.faults.get(n).kind !== BLOCKED)
+  const names = causes.length ? causes : faulted
+  const fault = names.includes(current) && state.faults.get(current), text = now()
   if (fault && text) {
     const { line, column } = sheet.place(text.area.value, text.area.selectionStart)
     if (line !== fault.line || column !== fault.column || document.activeElement !== text.area) return openText(current, fault.line, fault.column)

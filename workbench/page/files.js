@@ -31,16 +31,17 @@ async function bring () {
   if (out.notes.length) confirmed('What was changed on the way', out.notes.join('\n'), 'Good')
 }
 
-function download (name, text) {
-  const link = el('a', { href: URL.createObjectURL(new Blob([text], { type: 'text/plain;charset=utf-8' })), download: name })
+function download (name, data) {
+  const bytes = Uint8Array.from(atob(data), c => c.charCodeAt(0))
+  const link = el('a', { href: URL.createObjectURL(new Blob([bytes], { type: 'application/zip' })), download: name })
   link.click()
   setTimeout(() => URL.revokeObjectURL(link.href), 10000)
 }
 
 async function take () {
   const out = await post('export')
-  for (const [name, text] of Object.entries(out.files)) download(name, text)
-  say([`${Object.keys(out.files).length} files`])
+  download(out.name, out.data)
+  say([`${out.name}: ${out.texts} texts and ${out.proofs} lines of proofs`])
 }
 
 export function begin () {

@@ -9,7 +9,7 @@ export function formula (given, n) {
   const units = [...given.text]
   const build = ([start, end, place, , parts]) => {
     const made = el('span', { class: 'part' })
-    made.part = { n, place, text: units.slice(start, end).join('') }
+    made.meant = { n, place, text: units.slice(start, end).join('') }
     let at = start
     for (const part of parts) {
       if (part[0] > at) made.append(units.slice(at, part[0]).join(''))
@@ -43,7 +43,7 @@ export function step (row, key) {
     ArrowDown: () => beside[k + 1] || (outer ? at : undefined),
     ArrowUp: () => beside[k - 1] || (outer ? at : undefined)
   }[key]()
-  if (found) speak(`part ${found.part.text}`)
+  if (found) speak(`part ${found.meant.text}`)
   else if (found === null) speak('whole formula')
   return found
 }

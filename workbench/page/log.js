@@ -26,15 +26,19 @@ export function logged (entry) {
 }
 
 function fill (row, entry, whole) {
-  const cut = !whole && (entry.sent.length > 200 || entry.reply.length > FIRST)
+  const cut = !whole && (entry.cut || entry.sent.length > 200 || entry.reply.length > FIRST)
   const lines = whole ? entry.reply : entry.reply.slice(0, FIRST)
   row.replaceChildren(
     el('time', {}, `${entry.at} ${entry.seconds} s `),
     el('span', { class: 'sent' }, whole ? entry.sent : entry.sent.slice(0, 200)),
     ...lines.map(line => el('div', { class: line.startsWith('refused') || line.startsWith('fault') ? 'no' : '' }, line)))
   if (!cut) return
-  const more = el('button', { type: 'button', class: 'more' }, `… all ${entry.reply.length} lines`)
-  more.addEventListener('click', () => fill(row, entry, true))
+  const more = el('button', { type: 'button', class: 'more' }, `… all ${entry.cut || entry.reply.length} lines`)
+  more.addEventListener('click', async () => {
+    try {
+      fill(row, entry.cut ? await post('entry', { n: entry.n }) : entry, true)
+    } catch (fault) { say([fault.message], true) }
+  })
   row.append(more)
 }
 

@@ -1,7 +1,7 @@
 'use strict'
 // Ties the parts together: what the server tells goes to the state, and each part hears what concerns it.
 
-import { $, confirmed } from './dom.js'
+import { $ } from './dom.js'
 import { post, listen, banner } from './server.js'
 import * as state from './state.js'
 import * as editor from './editor.js'
@@ -12,6 +12,7 @@ import * as panes from './panes.js'
 import * as proof from './proof.js'
 import * as log from './log.js'
 import * as files from './files.js'
+import * as warnings from './warnings.js'
 
 const openText = (name, line, column) => editor.attempt(() => editor.openText(name, line, column))
 const openProof = name => editor.attempt(() => proof.openProof(name))
@@ -23,9 +24,10 @@ editor.begin({
   dirty: name => { if (name) obligations.repaint(name) },
   say: proof.say
 })
-proof.begin({ opened: po => { panes.bring('proof'); obligations.choose({ po }) } })
+proof.begin({ opened: po => { panes.bring('proof'); obligations.choose({ po }) }, origin: po => editor.attempt(() => editor.openOrigin(po)) })
 panes.begin({ save: () => editor.attempt(() => editor.save()), find: find.open, fault: () => editor.attempt(editor.nextFault), next: obligations.nextOpen })
 log.begin()
+warnings.begin(openText)
 files.begin()
 
 state.hear('activity', () => {
@@ -41,10 +43,7 @@ state.hear('whole', () => {
   offers.kinds()
   if (!editor.currentName()) begin()
 })
-state.hear('texts', () => {
-  const notes = state.state.warnings.map(([machine, words]) => `${machine}: ${words}`)
-  banner('warnings', notes.length ? `Warnings: ${notes.join('; ')}` : null)
-})
+state.hear('texts', () => banner('trouble', null))
 
 // At the start the first component with a fault is opened, or the first one; the view of the models stays in front of a narrow window.
 let begun = false
@@ -61,5 +60,7 @@ state.hear('statuses', () => requestAnimationFrame(() => performance.mark('statu
 
 listen({
   state: state.whole, texts: state.texts, built: state.built, statuses: state.statuses, tried: state.tried, idle: state.idle, ended: state.ended, log: log.logged,
+  silent: ({ seconds, at }) => banner('silent', seconds ? `The session has not answered for ${seconds} s (${at}). It goes on when it is let; what is typed is kept.` : null),
+  trouble: words => banner('trouble', `${words}. It is tried again.`),
   bye: () => banner('connection', 'rodin-web has ended. Start it again and open its new address.')
 })

@@ -237,7 +237,7 @@ export function begin (doors) {
   $('tree').addEventListener('click', event => {
     const made = event.target.closest('[role=treeitem]')
     if (!made) return
-    if (event.target.matches('.fold')) fold(made.component.name, !made.isFolded)
+    if (event.target.matches('.fold') && made.hasAttribute('aria-expanded')) fold(made.component.name, !made.isFolded)
     else press(made)
   })
   const anew = () => { allAnew = true; paintSoon() }

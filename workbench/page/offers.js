@@ -21,35 +21,28 @@ export function forGoal (look) {
   $('offers-for').textContent = look.line ? `The rule here: ${look.line}` : ''
 }
 
-export function forPart (n, place, text) {
+// `goesThere`: the keys go to the first rule that is offered.
+export async function forPart (n, place, text, goesThere) {
   aimed = { n, place, text }
   const look = doors.look()
-  if (look && look.open) ask(look)
+  if (!look || !look.open) return
+  await ask(look, goesThere)
 }
 
-async function ask (look) {
+// The rules are shown at once and whole, so that none moves under the pointer; those of an earlier sequent are gone before.
+async function ask (look, goesThere = false) {
   const mine = ++asked, { n, place, text } = aimed
   const subject = n ? `hypothesis ${n}` : 'the goal'
   const whole = place === '-' ? subject : `${text}  in ${subject}`
-  $('offers-for').textContent = `Rules for ${whole}`
-  const given = { po: look.po, path: look.at }
+  $('offers').replaceChildren()
+  $('offers-for').textContent = `Rules for ${whole} …`
   try {
-    const { offers } = await post('offers', { ...given, n, place, chosen: doors.chosen() })
+    const { offers, misfits, why } = await post('offers', { po: look.po, path: look.at, n, place, chosen: doors.chosen() })
     if (mine !== asked) return
-    const rows = offers.map(offer => row(offer, look))
-    $('offers').replaceChildren(...rows.map(r => r.item))
-    const ready = rows.filter(r => r.offer.asks.length === 0)
-    if (!ready.length) return
-    const { leaves, why } = await post('leaves', { ...given, words: ready.map(r => r.offer.words) })
-    if (mine !== asked) return
-    if (why) { $('offers-for').textContent += ` – what they would leave isn’t known: ${why}`; return }
-    const misfits = ready.filter((r, k) => leaves[k].refused !== undefined)
-    ready.forEach((r, k) => { if (leaves[k].refused === undefined) paintLeaves(r.box, leaves[k]) })
-    for (const { item } of misfits) {
-      if (item.contains(document.activeElement)) ($('offers').querySelector('.offer') || $('words')).focus()
-      item.remove()
-    }
-    if (misfits.length) $('offers-for').textContent += ` (${misfits.length} that ${misfits.length > 1 ? 'don’t' : 'doesn’t'} fit left out)`
+    $('offers').replaceChildren(...offers.map(offer => row(offer, look)))
+    const notes = [why && `what they would leave isn’t known: ${why}`, misfits && `${misfits} more by their shape, which don’t fit`].filter(Boolean)
+    $('offers-for').textContent = `Rules for ${whole}${notes.length ? ` (${notes.join('; ')})` : ''}`
+    if (goesThere) toOffers()
   } catch (fault) {
     if (mine === asked) $('offers-for').textContent = fault.message
   }
@@ -59,11 +52,12 @@ function row (offer, look) {
   const box = el('span', { class: 'leaves' })
   const button = el('button', { type: 'button', class: 'offer' }, el('code', {}, offer.asked), el('span', { class: 'says' }, offer.says), box)
   const item = el('li', {}, button)
+  if (offer.leaves) paintLeaves(box, offer)
   button.addEventListener('click', () => {
     if (offer.asks.length === 0) doors.act('step', { words: offer.words })
     else openItems(item, button, offer, look)
   })
-  return { item, box, offer }
+  return item
 }
 
 // Fields for the terms that a rule wants, with what it would leave as they are typed.
@@ -119,7 +113,7 @@ function later (f) {
   return () => { clearTimeout(clock); clock = setTimeout(f, 200) }
 }
 
-export function toOffers () {
+function toOffers () {
   const first = $('offers').querySelector('.offer')
   if (first) first.focus()
   else speak('no rule is offered')

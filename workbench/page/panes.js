@@ -56,7 +56,7 @@ export const KEYS = [
   ['F4', 'to the next fault'], ['F6, Shift+F6', 'to the next view, or the one before'], ['F8', 'to the next obligation to do'], ['/', 'filter the obligations by name'],
   ['↑ ↓ ← →', 'in a tree: along it, fold and unfold; among hypotheses: along them, and with → into a formula, part by part'],
   ['Enter', 'open what is marked; on a hypothesis, a part or the goal: the rules offered for it'], ['Space', 'choose a hypothesis, for rules of two and for linear'], ['x', 'hide a hypothesis'],
-  ['a, h', 'in the proof: the prover, on the whole obligation, or on this goal'], ['l, v', 'linear, review'], ['p, u, r', 'prune, undo, redo'], ['n', 'in the proof and the tree: the next obligation to do'],
+  ['a, h', 'in the proof: the prover, on the whole obligation, or on this goal'], ['l, v', 'linear, review'], ['p, u, r', 'prune, undo, redo'], ['n', 'in the proof and the tree: the next obligation to do'], ['t', 'in the proof: to the text that it comes from'],
   ['Escape', 'leave a field, a part, the rules offered'], ['?', 'these keys']
 ]
 

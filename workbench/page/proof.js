@@ -9,7 +9,7 @@ import * as sequent from './sequent.js'
 import * as offers from './offers.js'
 
 const proof = { po: null, look: null, asked: 0, acting: false }
-let opened = () => {}
+let opened = () => {}, origin = () => {}
 const RULE_ACTS = { auto: () => isOpen(proof.po) || statusOf(proof.po)[0] === 'gone', attempt: onLeaf, linear: onLeaf, review: onLeaf, prune: onRule, undo: () => proof.look.undo, redo: () => proof.look.redo }
 
 export const current = () => proof.po
@@ -19,6 +19,8 @@ function onRule () { return !proof.look.open && proof.look.nodes.length > 0 }
 
 export async function openProof (name) {
   proof.po = name
+  for (const id of ['proof-tools', 'proof-body', 'in-text']) $(id).hidden = false
+  $('proof-none').hidden = true
   sequent.forget()
   say([])
   opened(name)
@@ -72,14 +74,15 @@ function paintTree (found) {
     const up = above(node.path)
     const depth = up === null ? 0 : depths.get(up) + (children.get(up) > 1 ? 1 : 0)
     depths.set(node.path, depth)
-    const isAt = node.path === found.at
+    const isAt = node.path === found.at, misfit = found.misfits[node.path]
     const row = el('div', {
-      role: 'treeitem', 'aria-level': String(depth + 1), 'aria-selected': String(isAt), tabindex: isAt ? '0' : '-1', class: node.rule ? '' : 'open',
-      title: node.path + (node.goal ? ` ⊢ ${node.goal}` : ''), 'aria-label': node.rule ? `rule ${node.rule}` : `open goal ${node.goal}`
+      role: 'treeitem', 'aria-level': String(depth + 1), 'aria-selected': String(isAt), tabindex: isAt ? '0' : '-1',
+      class: misfit ? 'misfit' : node.rule ? '' : 'open',
+      title: node.path + (node.goal ? ` ⊢ ${node.goal}` : ''), 'aria-label': node.rule ? `rule ${node.rule}${misfit ? `, does not fit: ${misfit}` : ''}` : `open goal ${node.goal}`
     })
     for (let k = 0; k < depth; k++) row.append(el('span', { class: 'step' }))
     row.append(node.rule ? el('span', {}, node.rule) : el('span', {}, `○ ${node.goal}`))
-    const says = node.rule && state.rules[node.rule]
+    const says = misfit ? `✗ ${misfit}` : node.rule && state.rules[node.rule]
     if (says) row.append(el('span', { class: 'says' }, says))
     row.path = node.path
     return row
@@ -145,6 +148,7 @@ const KEYS = { a: 'auto', h: 'attempt', l: 'linear', v: 'review', p: 'prune', u:
 function keydown (event) {
   if (event.ctrlKey || event.altKey || event.metaKey || event.target.matches('input, textarea, select')) return
   if (event.key === 'n') { event.preventDefault(); nextOpen() }
+  if (event.key === 't' && proof.po) { event.preventDefault(); origin(proof.po) }
   if (!Object.hasOwn(KEYS, event.key)) return
   event.preventDefault()
   const button = document.querySelector(`[data-act=${KEYS[event.key]}]`)
@@ -154,6 +158,8 @@ function keydown (event) {
 
 export function begin (doors) {
   opened = doors.opened
+  origin = doors.origin
+  $('in-text').addEventListener('click', () => proof.po && origin(proof.po))
   sequent.begin({ look: shownLook, offer: offers.forPart })
   offers.begin({ look: shownLook, act, chosen: sequent.chosen })
   for (const button of document.querySelectorAll('[data-act]')) {

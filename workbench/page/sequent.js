@@ -82,9 +82,9 @@ function put (row) {
   paint(shown)
 }
 
-function offer (row) {
+function offer (row, goesThere = false) {
   const at = row.querySelector('.part.at')
-  doors.offer(row.n, at ? at.part.place : '-', at ? at.part.text : row.querySelector('.formula').textContent)
+  doors.offer(row.n, at ? at.meant.place : '-', at ? at.meant.text : row.querySelector('.formula').textContent, goesThere)
 }
 
 function keydown (event) {
@@ -106,8 +106,7 @@ function keydown (event) {
   const moves = { Home: () => go(all[0]), End: () => go(all[all.length - 1]), ' ': () => choose(row), x: () => row.n && put(row), Escape: () => mark(null) }
   if (event.key === 'Enter') {
     event.preventDefault()
-    offer(row)
-    doors.toOffers()
+    offer(row, true)
   } else if (Object.hasOwn(moves, event.key)) {
     event.preventDefault()
     moves[event.key]()

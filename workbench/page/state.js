@@ -5,7 +5,7 @@ export const STATUSES = ['unattempted', 'pending', 'broken', 'reviewed', 'discha
 export const MARKS = { unattempted: '○', pending: '◔', broken: '✗', reviewed: '◑', discharged: '✓' }
 
 export const state = {
-  folder: '', components: [], faults: new Map(), warnings: [], statuses: new Map(), order: [], tried: new Set(), workers: 0,
+  folder: '', components: [], faults: new Map(), warnings: [], notes: [], statuses: new Map(), order: [], tried: new Set(), workers: 0,
   built: '', activity: '', ended: null, signs: {}, kept: [], rules: {}, words: []
 }
 
@@ -48,6 +48,7 @@ export function texts (d) {
   state.components = d.components
   state.faults = new Map(Object.entries(d.faults))
   state.warnings = d.warnings
+  state.notes = d.notes
   tell('texts')
 }
 

@@ -104,7 +104,7 @@ class Browser:
 
     def ask(self, script: str) -> Any:
         """The value of an expression on the page; promises are awaited."""
-        out = self.call('Runtime.evaluate', expression=script, awaitPromise=True, returnByValue=True, userGesture=True)
+        out = self.call('Runtime.evaluate', expression=script, awaitPromise=True, returnByValue=True, userGesture=True, allowUnsafeEvalBlockedByCSP=False)
         if 'exceptionDetails' in out:
             raise RuntimeError(json.dumps(out['exceptionDetails'])[:500])
         return out['result'].get('value')
