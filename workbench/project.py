@@ -137,21 +137,15 @@ class Project:
             with self.files:
                 self.folder.look(patient)
                 now = {name: part.text for name, (_, part) in self.folder.components().items()}
-                extra = self._unsent()
+                unsent = self._unsent()
             new = {name: text for name, text in now.items() if self.sent.get(name) != text and self.turned.get(name, ('', ''))[0] != text}
             gone = sorted((self.sent.keys() | self.turned.keys()) - now.keys())
             if new or gone or not self.built:
-                self._send(new, gone)
-            elif extra == self._unsaid():
-                return False
-            extra.update({name: replies.Fault(name, 0, 1, 1, why) for name, (_, why) in self.turned.items()})
-            if extra != self.extra:
-                self.extra = extra
+                self._send(new, gone, unsent)
+            elif self._all_extra(unsent) != self.extra:
+                self.extra = self._all_extra(unsent)
                 self.tell('faults', self.faults)
             return bool(new or gone)
-
-    def _unsaid(self) -> dict[str, replies.Fault]:
-        return {name: fault for name, fault in self.extra.items() if name not in self.turned}
 
     def _unsent(self) -> dict[str, replies.Fault]:
         """Faults of the folder: files that can't be read, and second texts of a name."""
@@ -159,27 +153,25 @@ class Project:
         told += [(part.name, f'a second text of this name stands in {file}') for file, part in self.folder.twice()]
         return {name: replies.Fault(name, 0, 1, 1, words) for name, words in told}
 
-    def _send(self, new: dict[str, str], gone: list[str]) -> None:
+    def _all_extra(self, unsent: dict[str, replies.Fault]) -> dict[str, replies.Fault]:
+        """What couldn't be given to the session: faults of the folder, and texts that it refused."""
+        return {**unsent, **{name: replies.Fault(name, 0, 1, 1, why) for name, (_, why) in self.turned.items()}}
+
+    def _send(self, new: dict[str, str], gone: list[str], unsent: dict[str, replies.Fault]) -> None:
         """Edits, deletions and a build, as one request."""
+        kept = {name: turned for name, turned in self.turned.items() if name not in new and name not in gone}
+        self.extra = {name: fault for name, fault in self._all_extra(unsent).items() if name in unsent or name in kept}
         commands = [edit(name, text) for name, text in new.items()] + [f'delete {name}' for name in gone]
         said = self.engine.send(commands + ['build', 'faults', 'status'], EDIT).result()
         words = {name: replies.refusal(reply) for name, reply in zip(new, said)}
-        for name in gone:
-            self.sent.pop(name, None)
-            self.turned.pop(name, None)
-        for name, refused in words.items():
-            self.turned.pop(name, None)
-            if refused is None:
-                self.sent[name] = new[name]
-            else:
-                self.sent.pop(name, None)
-                self.turned[name] = (new[name], refused)
-        if any(words.values()):
-            out = [f'delete {name}' for name, refused in words.items() if refused]
-            said = self.engine.send(out + ['build', 'faults', 'status'], EDIT).result()
-        build = said[-3]
-        if replies.refusal(build):
-            self.built = build[0]
+        refused = {name: why for name, why in words.items() if why}
+        self.sent = {name: text for name, text in {**self.sent, **new}.items() if name not in refused and name not in gone}
+        self.turned = {**kept, **{name: (new[name], why) for name, why in refused.items()}}
+        if refused:
+            self.extra = self._all_extra(unsent)
+            said = self.engine.send([f'delete {name}' for name in refused] + ['build', 'faults', 'status'], EDIT).result()
+        if replies.refusal(said[-3]):
+            self.built = said[-3][0]
             self.tell('built', self.built)
         self.noticed.set()
 
