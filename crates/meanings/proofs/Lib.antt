@@ -1,0 +1,16 @@
+pub mod Bools
+pub mod Lists
+pub mod Casts
+pub mod Types
+pub mod Fitting
+pub mod Denotations
+pub mod Truths
+pub mod Quantifiers
+pub mod Binders
+pub mod Carrying
+pub mod Shifting
+pub mod Closed
+pub mod Valuations
+pub mod Equalities
+pub mod LeastNumbers
+pub mod FiniteSets
