@@ -1,0 +1,14 @@
+pub mod Short
+pub mod Values
+pub mod NumberRows
+pub mod SetRows
+pub mod InclusionRows
+pub mod RelationRows
+pub mod BinderRows
+pub mod FunctionRows
+pub mod UnfitRows
+pub mod FalseRows
+pub mod LeastRows
+pub mod GreatestRows
+pub mod FiniteRows
+pub mod LogicRows
