@@ -6,6 +6,7 @@ the copy shows the same sequent as the project is compared before anything is to
 """
 from __future__ import annotations
 
+import re
 import shutil
 import tempfile
 import threading
@@ -141,7 +142,8 @@ class Copy:
         for line, reply in zip(lines, said):
             path, words = line.split(' ', 3)[2], replies.refusal(reply)
             if words and not any(place in found for place in above(path)):
-                found[path] = words
+                lost = re.search(r'\?<(.*?)>(?= -?\d+(?: ;;|$)| ;;|$)', line)
+                found[path] = f'its hypothesis {lost[1]} is not there' if lost else words
         return found
 
     @staticmethod

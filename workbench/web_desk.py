@@ -14,10 +14,10 @@ import os
 import queue
 import threading
 import zipfile
-from typing import Any, Callable, Mapping, Optional, Sequence
+from typing import Any, Callable, Collection, Mapping, Optional, Sequence
 
 from . import bring, formulas, lint, proofs, replies, rules, scan, spell
-from .commands import Refused, raw
+from .commands import Refused, raw, word
 from .project import Project
 from .proving import Proof
 from .texts import HEADING, Part, Warn, parts
@@ -28,6 +28,9 @@ Told = dict[str, Any]
 
 WAITING = 5000
 """Events that wait for a page; one that is that far behind is let go, and begins anew."""
+
+LOOKS = ('show', 'tree', 'status', 'faults')
+"""Commands that the page sends of itself; a user who types one sees it in the log."""
 
 SILENT = 5.0
 """Seconds without an answer behind which the pages are told."""
@@ -85,11 +88,12 @@ def mark(text: str) -> str:
     return hashlib.blake2b(text.encode('utf-8', 'replace'), digest_size=9).hexdigest()
 
 
-def entry(logged: Told, whole: bool = False) -> Told:
-    """An entry of the log for the page; long ones are cut, and asked for whole by their number."""
+def entry(logged: Told, whole: bool = False, typed: Collection[str] = ()) -> Told:
+    """An entry of the log for the page; long ones are cut, and asked for whole by their number. The page's own looks are quiet."""
+    quiet = logged['quiet'] or word(logged['sent']) in LOOKS and logged['sent'] not in typed
     if whole or len(logged['sent']) <= SENT and len(logged['reply']) <= LINES:
-        return logged
-    return {**logged, 'sent': logged['sent'][:SENT], 'reply': logged['reply'][:LINES], 'cut': len(logged['reply'])}
+        return {**logged, 'quiet': quiet}
+    return {**logged, 'quiet': quiet, 'sent': logged['sent'][:SENT], 'reply': logged['reply'][:LINES], 'cut': len(logged['reply'])}
 
 
 class Desk:
@@ -102,6 +106,7 @@ class Desk:
         self.streams: list['queue.Queue[Optional[bytes]]'] = []
         self.proofs: dict[str, tuple[Proof, threading.RLock]] = {}
         self.lock, self.notes = threading.RLock(), list[Told]()
+        self.typed: set[str] = set()
         self._built, self._stop = threading.Event(), threading.Event()
         self.project = self._open()
         self.copy = Copy(self.project.engine.words[0])
@@ -150,7 +155,7 @@ class Desk:
         elif event == 'statuses':
             self.tell(event, {'changed': data[0], 'gone': data[1], 'order': data[2]})
         elif event == 'log':
-            self.tell(event, entry(data))
+            self.tell(event, entry(data, typed=self.typed))
         else:
             self.tell(event, data)
 
@@ -175,7 +180,7 @@ class Desk:
         statuses = p.statuses
         return {**self.texts(), 'folder': self.name, 'built': p.built, 'statuses': statuses, 'order': list(statuses),
                 'tried': list(p.tried), 'workers': p.workers, 'sweep': self.sweep, 'signs': spell.SIGNS, 'kept': list(spell.KEPT), 'words': scan.STRUCTURE,
-                'rules': KIND_SAYS, 'ended': p.engine.ended, 'idle': p.resting or not self.sweep and not p.workers, 'log': [entry(e) for e in p.logged[-KEPT_LOG:]]}
+                'rules': KIND_SAYS, 'ended': p.engine.ended, 'idle': p.resting or not self.sweep and not p.workers, 'log': [entry(e, typed=self.typed) for e in p.logged[-KEPT_LOG:]]}
 
     def _lint(self) -> None:
         """The workbench's own warnings, behind each build and beside all else."""
@@ -419,7 +424,9 @@ class Desk:
 
     def raw(self, given: Given) -> Told:
         """A line of the user's, as it is."""
-        return {'reply': self.project.ask(raw(text_of(given, 'line')))}
+        line = raw(text_of(given, 'line'))
+        self.typed.add(line)
+        return {'reply': self.project.ask(line)}
 
     def entry(self, given: Given) -> Told:
         """A whole entry of the log."""

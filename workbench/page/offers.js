@@ -107,6 +107,14 @@ function paintLeaves (box, found) {
   }))
 }
 
+// Signs stand in terms alone: the `-` of a place or of a number stays what it is.
+const IN_TERM = /(?:;;|^\s*\w+)\s+[ep]\s(?:(?!;;).)*$/
+
+function ownWords () {
+  const words = $('words').value.trim()
+  return IN_TERM.test(words) ? finished(words) : words
+}
+
 // Calls `f` once when nothing came for a moment.
 function later (f) {
   let clock = null
@@ -129,14 +137,17 @@ export function begin (given) {
     if (to) to.focus()
   })
   const show = later(() => {
-    const look = doors.look(), words = $('words').value.trim()
-    if (look && words) preview(look, finished(words), $('own-leaves'))
+    const look = doors.look(), words = ownWords()
+    if (look && look.open && words) preview(look, words, $('own-leaves'))
     else $('own-leaves').replaceChildren()
   })
-  $('words').addEventListener('input', event => { typed($('words'), event); show() })
+  $('words').addEventListener('input', event => {
+    if (IN_TERM.test($('words').value.slice(0, $('words').selectionStart))) typed($('words'), event)
+    show()
+  })
   $('own').addEventListener('submit', async event => {
     event.preventDefault()
-    const words = finished($('words').value.trim())
+    const words = ownWords()
     if (words && await doors.act('step', { words })) $('words').value = ''
   })
 }

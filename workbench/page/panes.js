@@ -48,7 +48,9 @@ const kept = { // a browser may forbid keeping anything
 function paintTheme () {
   if (theme === 'system') delete document.documentElement.dataset.theme
   else document.documentElement.dataset.theme = theme
-  $('theme').textContent = `Theme: ${theme}`
+  $('theme').textContent = { system: '◐', light: '○', dark: '●' }[theme]
+  $('theme').title = `Colours: ${theme === 'system' ? 'as the system has them' : theme}`
+  $('theme').setAttribute('aria-label', $('theme').title)
 }
 
 export const KEYS = [

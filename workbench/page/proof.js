@@ -8,7 +8,7 @@ import { nextOpen, openCount } from './obligations.js'
 import * as sequent from './sequent.js'
 import * as offers from './offers.js'
 
-const proof = { po: null, look: null, asked: 0, acting: false }
+const proof = { po: null, look: null, asked: 0, acting: false, looking: null, key: '' }
 let opened = () => {}, origin = () => {}
 const RULE_ACTS = { auto: () => isOpen(proof.po) || statusOf(proof.po)[0] === 'gone', attempt: onLeaf, linear: onLeaf, review: onLeaf, prune: onRule, undo: () => proof.look.undo, redo: () => proof.look.redo }
 
@@ -19,27 +19,31 @@ function onRule () { return !proof.look.open && proof.look.nodes.length > 0 }
 
 export async function openProof (name) {
   proof.po = name
-  for (const id of ['proof-tools', 'proof-body', 'in-text']) $(id).hidden = false
+  for (const id of ['proof-tools', 'proof-body']) $(id).hidden = false
   $('proof-none').hidden = true
   sequent.forget()
+  proof.key = ''
   say([])
   opened(name)
   await look()
 }
 
 // Asks for the tree and a node's sequent. An answer that a later question has overtaken is left alone.
-export async function look (path) {
+export function look (path = null) {
   if (!proof.po) return
   const asked = ++proof.asked
-  try {
-    const found = await post('look', { po: proof.po, path: path === undefined ? null : path })
-    if (asked === proof.asked) paint(found)
-  } catch (fault) {
-    if (asked === proof.asked) say([fault.message], true)
-  }
+  proof.looking = (async () => {
+    try {
+      const found = await post('look', { po: proof.po, path })
+      if (asked === proof.asked) paint(found)
+    } catch (fault) {
+      if (asked === proof.asked) say([fault.message], true)
+    }
+  })()
+  return proof.looking
 }
 
-function paint (found) {
+function paint (found, wholly = false) {
   if (found.po !== proof.po) return
   proof.look = found
   $('proof-name').textContent = found.po
@@ -48,8 +52,12 @@ function paint (found) {
   paintTree(found)
   $('proof-note').hidden = !found.note
   $('proof-note').textContent = found.note || ''
-  sequent.paint(found)
-  offers.forGoal(found)
+  const key = JSON.stringify([found.po, found.at, found.open, found.line, found.hypotheses, found.goal])
+  if (key !== proof.key || wholly) { // else what is shown, clicked and typed there stays
+    proof.key = key
+    sequent.paint(found)
+    offers.forGoal(found)
+  }
   for (const button of document.querySelectorAll('[data-act]')) button.disabled = !RULE_ACTS[button.dataset.act]()
   $('copy-lines').disabled = found.nodes.length === 0
 }
@@ -110,6 +118,7 @@ function treeKeys (event) {
 export async function act (what, more = {}) {
   if (!proof.po || proof.acting || !proof.look) return
   proof.acting = true
+  await proof.looking // the node that was clicked last is the one that is meant
   const po = proof.po, asked = ++proof.asked
   $('proof').setAttribute('aria-busy', 'true')
   if (what === 'attempt' || what === 'auto') say(['the prover is at work …'])
@@ -117,7 +126,7 @@ export async function act (what, more = {}) {
     const out = await post('act', { po, what, path: proof.look.at, chosen: sequent.chosen(), ...more })
     if (po === proof.po) {
       sequent.unchoose()
-      if (asked === proof.asked) paint(out.look)
+      if (asked === proof.asked) paint(out.look, true)
       const refused = out.reply.length > 0 && out.reply[0].startsWith('refused')
       say(out.reply, refused)
       return !refused
@@ -172,11 +181,11 @@ export function begin (doors) {
   $('proof-tree').addEventListener('keydown', treeKeys)
   $('proof').addEventListener('keydown', keydown)
   // A build may have changed the sequent; another page, or a worker, the proof.
-  hear('texts', () => { if (!proof.acting) look(proof.look && proof.look.at) })
+  hear('texts', () => { if (!proof.acting) say([]); if (!proof.acting) look(proof.look && statusOf(proof.po)[0] === proof.look.status[0] ? proof.look.at : null) })
   hear('statuses', names => {
     paintStatus()
     const status = statusOf(proof.po)[0]
-    if ((names === null || names.includes(proof.po)) && proof.look && status !== proof.look.status[0] && !proof.acting) look(proof.look.at)
+    if ((names === null || names.includes(proof.po)) && proof.look && status !== proof.look.status[0] && !proof.acting) look(status === 'broken' ? null : proof.look.at)
   })
   $('proof-tools').addEventListener('keydown', event => {
     const buttons = [...$('proof-tools').querySelectorAll('button:not(:disabled)')], k = buttons.indexOf(document.activeElement)

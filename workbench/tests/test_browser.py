@@ -216,6 +216,7 @@ class Tutorial(Page):
         self.save('built: 4 components, 0 faulted, 21 obligations')
         self.status('boom/thm1/THM', 'broken')
         b.until(f'!{by_id("proof-note")}.hidden')
+        b.until('document.querySelector("#proof-tree .misfit[aria-selected=true]")')
         self.picture('broken')
         b.click('document.querySelector("#proof-tree .misfit")')
         self.assertEqual(b.ask('[...document.querySelectorAll("#proof-tree [role=treeitem]")].map(e => e.className)'), ['', '', '', 'misfit'])
