@@ -13,6 +13,7 @@ import json
 import os
 import queue
 import threading
+import time
 import zipfile
 from typing import Any, Callable, Collection, Mapping, Optional, Sequence
 
@@ -34,6 +35,9 @@ LOOKS = ('show', 'tree', 'status', 'faults')
 
 SILENT = 5.0
 """Seconds without an answer behind which the pages are told."""
+
+CALM = 10.0
+"""Seconds behind a key typed into a text for which nothing is tried unasked."""
 
 KEPT_LOG, SENT, LINES = 300, 2000, 100
 """Entries of the log that a page begins with, and how much of a command and of a reply an entry has at first."""
@@ -99,7 +103,7 @@ def entry(logged: Told, whole: bool = False, typed: Collection[str] = ()) -> Tol
 class Desk:
     """The doors over one project. `start` opens the project and looks after it; `streams` are the queues of the pages."""
 
-    DOORS = ('state', 'text', 'save', 'drop', 'bring', 'export', 'look', 'offers', 'leaves', 'lines', 'act', 'raw', 'entry', 'again')
+    DOORS = ('state', 'text', 'save', 'drop', 'bring', 'export', 'look', 'offers', 'leaves', 'lines', 'act', 'raw', 'entry', 'typing', 'again')
 
     def __init__(self, path: str, workers: int = 2, program: Optional[str] = None, sweep: bool = True, every: float = 0.3) -> None:
         self.path, self.workers, self.program, self.sweep, self.every = path, workers, program, sweep, every
@@ -107,6 +111,7 @@ class Desk:
         self.proofs: dict[str, tuple[Proof, threading.RLock]] = {}
         self.lock, self.notes = threading.RLock(), list[Told]()
         self.typed: set[str] = set()
+        self.saves = 0
         self._built, self._stop = threading.Event(), threading.Event()
         self.project = self._open()
         self.copy = Copy(self.project.engine.words[0])
@@ -243,7 +248,11 @@ class Desk:
                 text = text.replace('\n', '\r\n')
             p.folder.put(name, text)
         p.sync()
-        return {'mark': mark(text), 'built': p.built}
+        with self.lock:
+            self.saves += 1
+            count = self.saves
+        self.tell('saved', count)
+        return {'mark': mark(text), 'built': p.built, 'saved': count}
 
     def drop(self, given: Given) -> Told:
         """Takes a component out of its file, and builds."""
@@ -434,6 +443,11 @@ class Desk:
             if logged['n'] == given.get('n'):
                 return entry(logged, whole=True)
         raise ValueError('this entry of the log is not kept any more')
+
+    def typing(self, given: Given) -> Told:
+        """A text is being typed: nothing is tried unasked for a while, so that no attempt stands before the save."""
+        self.project.calm = time.monotonic() + CALM
+        return {}
 
     def again(self, given: Given) -> Told:
         """A new session, where the old one ended for good."""

@@ -40,12 +40,21 @@ function makeArea (name, text) {
     if (text) text.marked = false
     repaint()
     showDirty()
+    tellTyping()
   })
   area.addEventListener('scroll', () => sheet.scrollWith(area))
   area.addEventListener('keydown', keydown)
   for (const event of ['keyup', 'click', 'focus']) area.addEventListener(event, showCaret)
   $('sheet').append(area)
   return area
+}
+
+// The prover isn't sent for while a text is typed: so a save needn't wait for it.
+let toldTyping = 0
+function tellTyping () {
+  if (performance.now() - toldTyping < 2000) return
+  toldTyping = performance.now()
+  post('typing').catch(() => {})
 }
 
 function show (name) {
@@ -164,6 +173,23 @@ export async function save (over = false) {
   text.theirs = undefined
   showConflict()
   showDirty()
+  shownSoon(out.saved)
+}
+
+// A save is shown when what its build told, which comes before the word `saved`, is painted. The time stands in the page's measures.
+let lastSaved = 0, waitsFor = Infinity
+export function saved (count) {
+  lastSaved = Math.max(lastSaved, count)
+  if (lastSaved >= waitsFor) measure()
+}
+
+function shownSoon (count) {
+  waitsFor = count
+  if (lastSaved >= count) measure()
+}
+
+function measure () {
+  waitsFor = Infinity
   requestAnimationFrame(() => setTimeout(() => performance.measure('save to paint', 'save')))
 }
 

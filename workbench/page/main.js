@@ -55,11 +55,8 @@ async function begin () {
   panes.bring('models')
 }
 
-// A save is shown when the statuses, or the faults, of its build are painted.
-state.hear('statuses', () => requestAnimationFrame(() => performance.mark('statuses painted')))
-
 listen({
-  state: state.whole, texts: state.texts, built: state.built, statuses: state.statuses, tried: state.tried, idle: state.idle, ended: state.ended, log: log.logged,
+  state: state.whole, texts: state.texts, built: state.built, statuses: state.statuses, tried: state.tried, idle: state.idle, ended: state.ended, log: log.logged, saved: editor.saved,
   silent: ({ seconds, at }) => banner('silent', seconds ? `The session has not answered for ${seconds} s (${at}). It goes on when it is let; what is typed is kept.` : null),
   trouble: words => banner('trouble', `${words}. It is tried again.`),
   bye: () => banner('connection', 'rodin-web has ended. Start it again and open its new address.')

@@ -33,11 +33,13 @@ function wanted () {
 const paintSoon = oncePerFrame(paint)
 
 function paint () {
+  const begun = performance.now()
   if (allAnew || wanted().narrow) paintAll()
   else paintChanged()
   allAnew = false
   changed.clear()
   paintCounts()
+  performance.measure('tree painted', { start: begun })
 }
 
 function paintAll () {

@@ -109,7 +109,7 @@ class Browser:
             raise RuntimeError(json.dumps(out['exceptionDetails'])[:500])
         return out['result'].get('value')
 
-    def until(self, script: str, seconds: float = 20) -> float:
+    def until(self, script: str, seconds: float = 60) -> float:
         """Waits until an expression is true; the seconds that it took."""
         begun = time.monotonic()
         while not self.ask(f'!!({script})'):
