@@ -24,6 +24,9 @@ Entry = dict[str, Any]
 LOG = 2000
 """Entries that are kept."""
 
+PATIENCE = 10
+"""Looks in which nothing changed, behind which what the workers left is tried once more, to know that it was tried."""
+
 ORIGINS = {'step': 'user', 'review': 'user', 'prune': 'user', 'auto': 'prover', 'show': ''}
 """Commands whose answer says the status of one obligation, and who made its proof then."""
 
@@ -56,7 +59,9 @@ class Project:
         self.tried: dict[str, str] = {}
         self.known: dict[str, str] = {}
         self.held: set[str] = set()
+        self.calm = 0.0
         # `sent`: what the session took; `turned`: what it refused, with its words. `held`: what a user has in hand, which is not tried unasked.
+        # `calm`: until when nothing is tried unasked, by the monotonic clock: somebody types, and a save is to come.
         # `tried`: what the prover found no proof of, with a hash of the sequent, since the last build; `known`: the same before it.
         self.files, self.lock, self.stop = threading.RLock(), threading.RLock(), threading.Event()
         self.resting, self.noticed = False, threading.Event()
@@ -245,7 +250,7 @@ class Project:
         left = self.left() if sweep else []
         if left:
             self.resting = False
-        if left and (state.quiet >= 4 or self.workers == 0):
+        if left and time.monotonic() >= self.calm and (state.quiet >= PATIENCE or self.workers == 0):
             state.turn = state.turn + 1 if self.workers else 0
             if self._attempt(left[-1 - state.turn % len(left)] if self.workers else left[0]):
                 return True
