@@ -7,6 +7,7 @@ from __future__ import annotations
 
 import os
 import struct
+import sys
 import threading
 from typing import Callable, NamedTuple, Optional, TypeVar
 
@@ -16,6 +17,8 @@ MAGIC = b'RODINJ1\n'
 KINDS = ('hyp top bot contr andR andL orR orL impR impL mp iffR iffL notR notL contra allR allL exR exL cut cases review eqRefl eqGoal eqHyp boolCases '
          'boolDiff rwGoal rwHyp linear cardNat funIn funEq overOther').split()
 """The kinds of rules by their numbers, from 1."""
+
+sys.setrecursionlimit(max(sys.getrecursionlimit(), 60_000))  # a formula may be 4,096 high, a tree 2,048
 
 _T = TypeVar('_T')
 

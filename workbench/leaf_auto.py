@@ -19,6 +19,7 @@ if TYPE_CHECKING:
 
 _SECTIONS = re.compile(r'\b(?:constants|axioms|end|extends)\b')
 _PRIMED = re.compile(r"([A-Za-z_][A-Za-z0-9_]*)'")
+_HIDDEN = re.compile(r'([A-Za-z_][A-Za-z0-9_]*)__primed\b')
 
 
 def sets_of(texts: Iterable[str]) -> list[str]:
@@ -34,7 +35,7 @@ def sets_of(texts: Iterable[str]) -> list[str]:
 
 def hidden(text: str) -> str:
     """A formula without primes, which no context may have."""
-    return _PRIMED.sub(r'\1_prime', text)
+    return _PRIMED.sub(r'\1__primed', text)
 
 
 def context(sequent: replies.Sequent, sets: list[str], new: dict[str, core_text.Type]) -> str:
@@ -77,7 +78,7 @@ def steps(project: 'Project', name: str, path: Optional[str], sequent: Optional[
     for line in proofs.steps(name, tree, [hidden(h) for h in sequent.hypotheses]):
         word, obligation, at, *rest = line.split(' ', 3)
         place = proofs.path_text(proofs.numbers_of(path) + proofs.numbers_of(at))
-        items = re.sub(r'([A-Za-z0-9_]+)_prime\b', r"\1'", rest[0]) if rest else ''
+        items = _HIDDEN.sub(r"\1'", rest[0]) if rest else ''
         if '?<' in items:
             return f'the proof uses the type of a name: {items}'
         found.append(f'{word} {obligation} {place} {items}'.rstrip())

@@ -21,8 +21,8 @@ Listener = Callable[[str, Any], None]
 Entry = dict[str, Any]
 """Of the log: `n`, `at`, `sent`, `reply`, `seconds`, `quiet`."""
 
-LOG = 2000
-"""Entries that are kept."""
+LOG, LOG_SIZE = 2000, 8_000_000
+"""Entries that are kept, and their characters."""
 
 PATIENCE = 10
 """Looks in which nothing changed, behind which what the workers left is tried once more, to know that it was tried."""
@@ -66,6 +66,7 @@ class Project:
         self.files, self.lock, self.stop = threading.RLock(), threading.RLock(), threading.Event()
         self.resting, self.noticed = False, threading.Event()
         self.logged: list[Entry] = []
+        self.logged_size = 0
         self.journal = journal.Journal(path)
         self.engine = Engine(path, workers, program, self._log)
 
@@ -82,7 +83,9 @@ class Project:
         entry: Entry = {'n': self.count, 'at': time.strftime('%H:%M:%S'), 'sent': sent, 'reply': reply[-1:] if sent == 'status' else reply,
                         'seconds': round(seconds, 3), 'quiet': quiet}
         self.logged.append(entry)
-        del self.logged[:-LOG]
+        self.logged_size += _size(entry)
+        while len(self.logged) > LOG or self.logged_size > LOG_SIZE and len(self.logged) > 1:
+            self.logged_size -= _size(self.logged.pop(0))
         self._hear(sent, reply)
         self.tell('log', entry)
 
@@ -295,6 +298,11 @@ class Project:
         self.stop.set()
         self.noticed.set()
         self.engine.close()
+
+
+def _size(entry: Entry) -> int:
+    """The characters of an entry."""
+    return len(entry['sent']) + sum(map(len, entry['reply']))
 
 
 class _Minding:

@@ -121,7 +121,8 @@ class Built(Room):
 
     def test_the_archive_is_built(self) -> None:
         made, _ = bring.bring(bring.zipped(archive()))
-        project = self.project(**made)
+        self.put(**made)
+        project = self.project()
         self.assertEqual(project.faults, {})
         self.assertIn('M1/up/act1/SIM', project.statuses)
 

@@ -1,6 +1,7 @@
 """Replies belong to their commands, whatever the commands are; edits go before attempts; what was answered outlives every crash."""
 from __future__ import annotations
 
+import functools
 import os
 import random
 import signal
@@ -271,7 +272,8 @@ class OurSide(Room):
 
     def test_two_hundred_saves_in_a_second(self) -> None:
         """Saves from many threads are built together; what stands at the end is the last one of each component."""
-        project = self.project(**{f'c{n}': f'context c{n} constants x axioms @a x = 0 theorem @t x = 0 end\n' for n in range(10)})
+        self.put(**{f'c{n}': f'context c{n} constants x axioms @a x = 0 theorem @t x = 0 end\n' for n in range(10)})
+        project = self.project()
         begun = time.monotonic()
 
         def save(n: int) -> None:
@@ -352,6 +354,11 @@ class Words(Room):
 class Restarts(Room):
     """A project over a session that dies."""
 
+    @staticmethod
+    def bound_is(project: Project, wanted: str) -> bool:
+        """Whether the hypothesis is that of the last text."""
+        return project.engine.ask('show boom/thm2/THM')[1] == wanted
+
     def test_the_minder_goes_on_over_a_killed_session(self) -> None:
         project: Project = self.project(boom=BOOM)
         minder = threading.Thread(target=project.mind, kwargs={'every': 0.05}, daemon=True)
@@ -359,7 +366,7 @@ class Restarts(Room):
         for n in range(3):
             os.kill(project.engine.process.pid, signal.SIGKILL)
             self.put(boom=BOOM.replace('10', str(20 + n)))
-            self.until(lambda wanted=f'1: {20 + n} ≤ up': project.engine.ask('show boom/thm2/THM')[1] == wanted)
+            self.until(functools.partial(self.bound_is, project, f'1: {20 + n} ≤ up'))
         self.until(lambda: project.statuses['boom/thm2/THM'] == ('discharged', 'prover'))
         self.assertEqual((project.engine.ended, minder.is_alive()), (None, True))
 

@@ -149,8 +149,10 @@ class Replayed(Room):
                 '@k ∀z·z < x @l ∃z·z < x @m ¬x = 4 @n x = 1 ⇒ y = 2 @o x = 1 theorem @t x = 5 end\n')
         project = self.project(k=text)
         numbers = {h: n for n, h in enumerate(replies.sequent(project.engine.ask('show k/t/THM')).hypotheses, 1)}
-        n = lambda text: numbers[text]  # noqa: E731
-        sent = [f'cut p x = 7 ∨ x = 8', 'cases p x = 9', 'boolCases e t', 'cardNat e T', f'funIn h {n("f ∈ S ⇸ ℤ")} ;; e e', f'funEq h {n("e ↦ 1 ∈ f")} ;; h {n("f ∈ S ⇸ ℤ")}',
+
+        def n(text: str) -> int:
+            return numbers[text]
+        sent = ['cut p x = 7 ∨ x = 8', 'cases p x = 9', 'boolCases e t', 'cardNat e T', f'funIn h {n("f ∈ S ⇸ ℤ")} ;; e e', f'funEq h {n("e ↦ 1 ∈ f")} ;; h {n("f ∈ S ⇸ ℤ")}',
                 f'eqGoal h {n("x = y")}', f'eqHyp h {n("x = y")} ;; h {n("x < 3")}', f'allL h {n("∀x1⦂ℤ·x1 < x")} ;; e y + 1', f'exL h {n("∃x1⦂ℤ·x1 < x")} ;; n v',
                 f'notL h {n("x ≠ 4")}', f'mp h {n("x = 1 ⇒ y = 2")} ;; h {n("x = 1")}', f'impL h {n("x = 1 ⇒ y = 2")}', 'contra', 'rwGoal w 68 -',
                 f'rwHyp h {n("x < 3")} ;; w 69 -', f'overOther h {n("x ≠ 4")}', 'review']

@@ -31,9 +31,13 @@ class Asked(Room):
 
     def shell(self, **given: str) -> Shell:
         """A shell on texts."""
-        shell = Shell(self.project(**given))
-        self.say = lambda line: list(shell.lines(line))
-        return shell
+        self.put(**given)
+        self.current = Shell(self.project())
+        return self.current
+
+    def say(self, line: str) -> list[str]:
+        """What a line says."""
+        return list(self.current.lines(line))
 
 
 @needs_program

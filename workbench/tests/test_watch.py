@@ -251,8 +251,11 @@ class Watching(Room):
         self.put(c='context c\naxioms\n  @a x = 1\nend\n')
         link = os.path.join(self.room, 'w')
         os.symlink(os.path.join(TOP, 'rodin-watch'), link)
-        with subprocess.Popen([sys.executable, link, self.room, '--workers', '1'], stdout=subprocess.PIPE, text=True, env={**os.environ, 'RODIN': PROGRAM}) as run:
+        with subprocess.Popen([sys.executable, link, self.room, '--workers', '0'], stdout=subprocess.PIPE, text=True, env={**os.environ, 'RODIN': PROGRAM}) as run:
             assert run.stdout is not None
+            timer = threading.Timer(60, run.kill)
+            timer.start()
+            self.addCleanup(timer.cancel)
 
             def until(wanted: str) -> None:
                 assert run.stdout is not None
