@@ -122,11 +122,12 @@ class Bring:
         return new
 
     def formula(self, component: str, text: str) -> str:
-        """A formula with its renamed names, on one line."""
+        """A formula with its renamed names, and signs that every font has, on one line."""
         def replaced(m: 're.Match[str]') -> str:
             word, prime = m[0].rstrip("'"), "'" if m[0].endswith("'") else ''
             return m[0] if word in KEPT_WORDS else self.name(component, word) + prime
-        return re.sub(r'\s+', ' ', _WORD.sub(replaced, text)).strip()
+        shown = ''.join(spell.PRIVATE.get(sign, sign) for sign in _WORD.sub(replaced, text))
+        return re.sub(r'\s+', ' ', shown).strip()
 
     def file(self, component: str, data: bytes) -> None:
         """One file's text."""

@@ -52,7 +52,10 @@ class Ended(Exception):
 
 
 class Lost(Refused):
-    """The session died twice over one request, or had no room for it. What it was to do may be done or not; a new session goes on."""
+    """The session died twice over one request (once over an attempt of the prover), or had no room for it.
+
+    What it was to do may be done or not; a new session goes on.
+    """
 
 
 class _Over(Exception):
@@ -220,7 +223,7 @@ class Engine:
                 self._start()
                 if over.status == ELSEWHERE:
                     continue
-                if stuck == len(replies) or over.last == 'full: journal':
+                if stuck == len(replies) or over.last == 'full: journal' or rank == SWEEP and over.last not in FULL:
                     raise Lost(f'{over.last}, at: {commands[len(replies)].split(chr(10), 1)[0][:200]}') from over
                 stuck = len(replies)
 

@@ -15,7 +15,7 @@ from typing import Any, Callable, Optional
 
 from . import journal, replies, texts
 from .commands import Refused, edit, word
-from .engine import EDIT, LOOK, SWEEP, USER, Ended, Engine, Reply
+from .engine import EDIT, LOOK, SWEEP, USER, Ended, Engine, Lost, Reply
 
 Listener = Callable[[str, Any], None]
 Entry = dict[str, Any]
@@ -280,7 +280,11 @@ class Project:
         if self.known.get(name) == sequent:
             self._note(name, sequent, builds)
             return True
-        found = replies.attempted(self.engine.ask(f'auto {name}', SWEEP))
+        try:
+            found = replies.attempted(self.engine.ask(f'auto {name}', SWEEP))
+        except Lost:
+            self._note(name, sequent, builds)  # what a session died over isn't tried again unasked
+            raise
         if found and found[0] in ('noted', 'no memory', 'refused'):
             self._note(name, sequent, builds)
         self.refresh()

@@ -102,6 +102,8 @@ class Prompt:
                 print('\n'.join([self.project.built, *report.fault_lines(self.project)]), flush=True)
         except (Refused, OSError) as fault:
             print(f'? {fault}', flush=True)
+        except KeyboardInterrupt:
+            print('\n? interrupted: what was sent goes on', flush=True)
 
     def run(self) -> int:
         """Until `quit`, the end of the input, or the end of the session."""

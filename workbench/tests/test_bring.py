@@ -112,6 +112,7 @@ class Texts(unittest.TestCase):
         made = bring.Bring(['a_b'])
         self.assertEqual([made.name('c', word) for word in ('a b', 'a b', '1x', 'or', 'x' * 70, 'ok', 'α_β', '漢')],
                          ['a_b_', 'a_b_', 'n1x', 'or_', 'x' * 56, 'ok', 'alpha_beta', '_'])
+        self.assertEqual(made.formula('c', 'f\ue103{1↦2}∈ℕ\ue100ℕ'), 'f<+{1↦2}∈ℕ<<->ℕ')
         self.assertEqual(made.formula('c', "or' = λα·α∈ℕ1∣ℙ1(id)"), "or_' = λalpha·alpha∈ℕ1∣ℙ1(id)")
 
 

@@ -192,6 +192,24 @@ class Crashes(Talking):
             fragile.send(['status']).result()
         self.assertIsNotNone(fragile.ended)
 
+    def test_an_attempt_that_a_session_dies_over_is_not_tried_again(self) -> None:
+        """A program that ends at each `auto` of one obligation; the minder goes on with the others, once each."""
+        script = os.path.join(self.room, 'fragile')
+        with open(script, 'w', encoding='utf-8') as file:
+            file.write('#!/bin/sh\nwhile IFS= read -r line; do case $line in "auto boom/thm1/THM") exit 9;; esac; printf "%s\\n" "$line"; done | '
+                       f'{PROGRAM} session 0\nexit 9\n')
+        os.chmod(script, 0o755)
+        room = tempfile.mkdtemp(dir=self.room)
+        with open(os.path.join(room, 'boom.eventb'), 'w', encoding='utf-8') as file:
+            file.write(BOOM)
+        project = Project(room, 0, script)
+        self.addCleanup(project.close)
+        threading.Thread(target=project.mind, kwargs={'every': 0.05}, daemon=True).start()
+        self.until(lambda: project.resting)
+        self.assertEqual(({name: status for name, (status, _) in project.statuses.items()}, [*project.tried]),
+                         ({'boom/thm1/THM': 'unattempted', 'boom/thm2/THM': 'discharged'}, ['boom/thm1/THM']))
+        self.assertEqual((project.engine.starts, project.engine.ended), (2, None))
+
     def test_a_stopped_session_goes_on_where_it_was(self) -> None:
         self.boom()
         self.die(signal.SIGSTOP)
