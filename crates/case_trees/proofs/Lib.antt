@@ -1,0 +1,5 @@
+pub mod Fits
+pub mod Plain
+pub mod ProofTrees
+pub mod Refuting
+pub mod Sound

@@ -1,0 +1,2 @@
+pub mod PrivateProofs
+pub mod Trees
