@@ -12,3 +12,4 @@ pub mod LeastRows
 pub mod GreatestRows
 pub mod FiniteRows
 pub mod LogicRows
+pub mod FactRows
