@@ -115,6 +115,7 @@ class Desk:
         self._built, self._stop = threading.Event(), threading.Event()
         self.project = self._open()
         self.copy = Copy(self.project.engine.words[0])
+        self._built.set()
         for watch in (self._lint, self._wake):
             threading.Thread(target=watch, daemon=True).start()
 

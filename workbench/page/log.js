@@ -21,7 +21,7 @@ export function logged (entry) {
   scrolling = true
   requestAnimationFrame(() => {
     scrolling = false
-    if (!$('entries').matches(':hover, :focus-within')) $('entries').scrollTop = $('entries').scrollHeight
+    if ($('entries').offsetParent && !$('entries').matches(':hover, :focus-within')) $('entries').scrollTop = $('entries').scrollHeight
   })
 }
 

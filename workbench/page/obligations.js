@@ -9,7 +9,7 @@ const FOLD_FROM = 600 // projects with more obligations begin folded
 const folded = new Map() // component -> whether the user folded it
 let chosen = { name: null, po: null } // what the other panes show
 let active = null // the row that has the focus when the tree gets it
-let groups = new Map(), rows = new Map(), keys = []
+let groups = new Map(), rows = new Map(), before = new Map(), keys = []
 let open = { text: () => {}, proof: () => {} }
 let allAnew = true
 const changed = new Set()
@@ -46,6 +46,7 @@ function paintAll () {
   const hadFocus = $('tree').contains(document.activeElement)
   const { narrow, test } = wanted()
   gather()
+  before = rows
   rows = new Map()
   keys = []
   const made = []
@@ -62,10 +63,20 @@ function paintAll () {
     left = Math.max(0, left - names.length)
   }
   if (narrow && made.length === 0) made.push(el('div', { class: 'more' }, 'No obligation fits the filter.'))
-  $('tree').replaceChildren(...made)
+  place($('tree'), made)
   if (!rows.has(active)) active = keys[0] || null
   stop(active)
   if (hadFocus && active) rows.get(active).focus()
+}
+
+// Puts rows into the tree; those that stand where they stood aren't touched, so that little is laid out anew.
+function place (tree, made) {
+  let at = tree.firstChild
+  for (const row of made) {
+    if (at === row) at = at.nextSibling
+    else tree.insertBefore(row, at)
+  }
+  while (at) { const next = at.nextSibling; at.remove(); at = next }
 }
 
 // Names of obligations by component, in the order of the session.
@@ -81,7 +92,7 @@ function gather () {
 const componentKey = name => ` ${name}`
 
 function row (key, fill, ...given) {
-  const made = el('div', { role: 'treeitem', tabindex: '-1' })
+  const made = before.get(key) || el('div', { role: 'treeitem', tabindex: '-1' })
   made.rowKey = key
   rows.set(key, made)
   keys.push(key)
@@ -95,6 +106,9 @@ function fillComponent (made, component, isFolded) {
   const fault = state.faults.get(component.name)
   made.component = component
   made.isFolded = isFolded
+  const sign = JSON.stringify([component, isFolded, done, names.length, fault, component.name === chosen.name, unsaved(component.name)])
+  if (made.sign === sign) return
+  made.sign = sign
   const told = [component.kind, component.name, fault ? `fault: ${fault.text}` : names.length ? `${done} of ${names.length} discharged` : 'no obligations']
   set(made, {
     class: 'component' + (fault ? ' faulted' : ''), 'aria-level': '1', 'aria-expanded': names.length ? String(!isFolded) : null,
@@ -113,6 +127,9 @@ export const tellUnsaved = f => { unsaved = f }
 function fillObligation (made, name) {
   const [status, by] = statusOf(name)
   const vain = state.tried.has(name) ? ', the prover found no proof' : ''
+  const sign = `${status} ${by} ${vain} ${name === chosen.po}`
+  if (made.sign === sign) return
+  made.sign = sign
   const short = name.slice(name.indexOf('/') + 1)
   set(made, {
     class: `obligation ${status}`, 'aria-level': '2', 'aria-selected': String(name === chosen.po),

@@ -10,6 +10,7 @@ import time
 import unittest
 from typing import Any, Optional
 
+import archive
 import browser
 from browser import Browser
 from rooms import BOOM, EXAMPLES, PROGRAM, SETS, TOP, needs_program
@@ -272,6 +273,51 @@ class Tutorial(Page):
         """Clicks an obligation."""
         self.b.click(obligation(name))
         self.b.until(f'{by_id("proof-name")}.textContent === {quoted(name)}')
+
+
+class Newcomer(Page):
+    """The walk of docs/WORKBENCH.md: from an archive of the Rodin platform to the last green."""
+
+    def test_walk(self) -> None:
+        b = self.b
+        path = os.path.join(self.room, 'library.zip')
+        archive.write(path)
+        self.room = os.path.join(self.room, 'library')
+        out = subprocess.run([sys.executable, os.path.join(TOP, 'rodin-import'), path, '--to', self.room], capture_output=True, text=True, check=True)
+        self.assertIn('shelves: μ is now mu\nshelves: label axm 1 is now axm_1\n', out.stdout)
+        self.serve(workers=2, sweep=True)
+        self.open()
+        b.until(f'{by_id("counts")}.textContent.includes("5 unattempted") && {by_id("activity")}.textContent === "idle"')
+        b.click('document.querySelector("#warnings summary")')
+        self.picture('walk-1')
+        b.click(one('#warnings button', 'library0'))
+        b.until(f'{by_id("text-name")}.textContent === "library0" && {by_id("caret")}.textContent === "line 7, column 3"')
+        for _ in range(2):
+            b.press('End', SHIFT)
+        b.type('@inv3 lent : BOOK +-> MEMBER\n@inv3d !x,y.x |-> y : lent => x : books & y : members ')
+        self.assertIn('  @inv3 lent ∈ BOOK ⇸ MEMBER\n  @inv3d ∀x,y·x ↦ y ∈ lent ⇒ x ∈ books ∧ y ∈ members \n', b.ask(f'{area()}.value'))
+        b.press('s', CONTROL)
+        b.until(f'{by_id("counts")}.textContent.includes("14 discharged") && {by_id("activity")}.textContent === "idle"')
+        self.assertEqual(b.ask('document.querySelectorAll("#warnings li").length'), 0)
+        b.press('F8')
+        self.goal('∃x1⦂ℤ·x1 ∈ ℕ ∧ x1 < mu')
+        b.click(offer('exR e ..'))
+        b.type('0')
+        b.until('document.querySelector("#offers .items .leaf")')
+        self.picture('walk-2')
+        b.press('Enter')
+        self.goal('0 ∈ ℕ ∧ 0 < mu')
+        b.click(offer('andR'))
+        self.goal('0 ∈ ℕ')
+        b.click('document.querySelector("[data-act=attempt]")')
+        self.goal('0 < mu')
+        b.click(f'{row(1)}.querySelector(".part")')
+        b.click(offer('rwHyp h 1 ;; w 62 -'))
+        b.until(row(2))
+        b.click('document.querySelector("[data-act=linear]")')
+        b.until(f'{by_id("counts")}.textContent.trim() === "✓ 15 discharged"')
+        self.picture('walk-3')
+        self.nothing_wrong()
 
 
 class Proving(Page):

@@ -262,9 +262,16 @@ class Texts(Served):
     def test_faults_warnings_and_notes(self) -> None:
         cycle = 'machine m variables x events event INITIALISATION then @a x ≔ 0 end end'
         self.serve(c='context c constants k axioms @a kk = 1 end\n', m=cycle)
-        told = self.stream().of('state')[0]
+        page = self.stream()
+        told = page.of('state')[0]
         self.assertEqual(told['faults']['c'], {'component': 'c', 'kind': 16, 'line': 1, 'column': 21, 'text': 'k has no type'})
         self.assertEqual({c['name']: c['kind'] for c in told['components']}, {'c': 'context', 'm': 'machine'})
+        arrows = 'context s sets S end\nmachine a sees s variables u r\n invariants @i u ⊆ S @j r ∈ u ⇸ u\n events event INITIALISATION then @a u, r ≔ ∅, ∅ end event e then @b r ≔ ∅ end end\n'
+        self.put(arrows=arrows)
+        self.until(lambda: page.of('texts') and page.of('texts')[-1]['notes'])
+        note = page.of('texts')[-1]['notes'][0]
+        self.assertEqual((note['component'], note['line'], note['column']), ('a', 2, 22))
+        self.assertIn('no rule closes @j', note['text'])
 
     def test_words_are_those_of_the_language(self) -> None:
         with open(os.path.join(TOP, 'docs', 'LANGUAGE.md'), encoding='utf-8') as file:
