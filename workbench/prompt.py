@@ -69,7 +69,7 @@ class Prompt:
     """Reads lines, prints what they say, and what changed meanwhile."""
 
     def __init__(self, project: Project, tty: bool) -> None:
-        self.project, self.shell, self.tty = project, Shell(project), tty
+        self.project, self.shell, self.tty = project, Shell(project, alone=not tty), tty
         self.told = 0
 
     def where(self) -> str:

@@ -19,8 +19,8 @@ SHORT = 12
 class Shell:
     """Answers lines of a user; `lines(line)` yields what is to be printed."""
 
-    def __init__(self, project: Project) -> None:
-        self.project = project
+    def __init__(self, project: Project, alone: bool = False) -> None:
+        self.project, self.alone = project, alone
         self.proof: Optional[Proof] = None
         self.hints: list[rules.Hint] = []
         self.over = False
@@ -104,7 +104,7 @@ class Shell:
         """Obligations that match a pattern."""
         self.project.refresh()
         try:
-            pattern = re.compile(rest)
+            pattern = re.compile(rest, re.I if rest == rest.lower() else 0)
         except re.error as fault:
             raise Refused(f'the pattern: {fault}') from fault
         for name in list(self.project.statuses) if names is None else names:
@@ -116,6 +116,7 @@ class Shell:
         """What isn't discharged."""
         self.project.refresh()
         yield from self.do_ls(rest, self.project.open_ones(True))
+        yield f'{len(self.project.open_ones(True))} open of {len(self.project.statuses)}'
 
     def do_next(self, _: str) -> Iterator[str]:
         """The next open obligation behind the current one."""
@@ -136,8 +137,11 @@ class Shell:
         yield from self.do_g('')
 
     def do_wait(self, _: str) -> Iterator[str]:
-        """Until all is tried."""
-        self.project.settle()
+        """Until all is tried: by `wait` of the session where lines come from a pipe, so that nobody waits for it; else one after another."""
+        if self.alone:
+            self.project.ask('wait')
+        else:
+            self.project.settle()
         yield report.counted(self.project)
 
     # Looks at the proof.
