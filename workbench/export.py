@@ -32,14 +32,14 @@ def exported(engine: Engine, folder: str, by_hand: bool) -> tuple[dict[str, str]
     """Texts, proofs that apply, and what can't be said in lines. Of the stored texts those that the session has now, built or not."""
     statuses = replies.statuses(engine.ask('status'))
     written, trees = journal.state(folder)
+    asked = [name for name, (_, origin) in statuses.items() if trees.get(name) is not None and not (by_hand and origin == 'prover')]
     found, lacking = [], []
-    for name, (status, origin) in statuses.items():
-        if trees.get(name) is None or by_hand and origin == 'prover':
-            continue
+    for name, shown in zip(asked, engine.send([f'show {name}' for name in asked]).result()):
+        status, origin = statuses[name]
         if status == 'broken':
             lacking.append(f'{name} is broken: left out')
             continue
-        hypotheses = replies.sequent(engine.ask(f'show {name}')).hypotheses
+        hypotheses = replies.sequent(shown).hypotheses
         steps = list(proofs.steps(name, trees[name], hypotheses))
         if any(UNSAID in line for line in steps):
             lacking.append(f'{name} uses a hypothesis that is not shown: left out')
