@@ -297,9 +297,9 @@ class Shell:
         yield words.rstrip()
         yield from self.rule(*words.partition(' ')[::2])
 
-    def do_auto(self, _: str) -> Iterator[str]:
-        """The prover on the whole obligation."""
-        yield from self.need().auto()
+    def do_auto(self, rest: str) -> Iterator[str]:
+        """The prover on the whole obligation, or on another one."""
+        yield from self.project.ask(raw(f'auto {rest}')) if rest else self.need().auto()
 
     def do_try(self, rest: str) -> Iterator[str]:
         """The prover at leaves."""

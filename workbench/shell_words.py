@@ -22,7 +22,7 @@ WORDS = {
             'Of each open leaf the goal and the hypotheses that share names with it; of a broken proof the first rule that does not apply, and what it wants.'),
     'hint': ('[N]', 'rules that fit the goal, or hypothesis N, by their shape', '`do K` does the Kth of them.'),
     'do': ('K [ITEMS]', 'the Kth proposal of `hint`', 'With the items that it asks for: `do 2 e x + 1`.'),
-    'auto': ('', 'the prover on the whole obligation', 'Only where it is unattempted or broken.'),
+    'auto': ('[PO]', 'the prover on the whole obligation', 'Of the current one, or of another one; only where it is unattempted or broken.'),
     'try': ('[all]', 'the prover at the current leaf, or at all open leaves',
             'The leaf\'s sequent is proved in a session of its own; the steps come back to this one, which tests them like any other.'),
     'wait': ('', 'have everything tried that is left', 'Ctrl-C ends the waiting.'),

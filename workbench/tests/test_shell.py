@@ -5,6 +5,7 @@ import fcntl
 import io
 import os
 import pty
+import re
 import select
 import subprocess
 import sys
@@ -13,6 +14,7 @@ import threading
 import time
 import unittest
 from contextlib import redirect_stdout
+from typing import Iterator
 from unittest import mock
 
 from rooms import BOOM, PROGRAM, SETS, TOP, Room, needs_program
@@ -187,6 +189,46 @@ class Words(Asked):
         self.assertEqual(completer.offers('funIn h ', ''), ['3'])
         self.assertEqual(completer.offers('rwHyp h 1 ;; w 1', '1')[:2], ['1', '10'])
         self.assertEqual(completer.offers('leaf ', ''), ['-'])
+
+
+@needs_program
+class Tutorial(Asked):
+    """docs/TUTORIAL.md: its texts as files, its commands at the prompt."""
+
+    def test_the_story(self) -> None:
+        shell = self.shell()
+        blocks = re.findall(r'```session\n(.*?)```', texts.read(os.path.join(TOP, 'docs', 'TUTORIAL.md')), re.S)
+        asked = 0
+        for command, wanted in [turn for block in blocks for turn in self.turns(block)]:
+            word, _, rest = command.split('\n', 1)[0].partition(' ')
+            if word == 'edit':
+                self.put(**{rest: command.split('\n', 1)[1]})
+            elif word == 'build':
+                shell.project.sync()
+                self.assertEqual([shell.project.built], wanted)
+            elif word == 'faults':
+                self.assertEqual(len(self.say('faults')), len(wanted) - 1)
+            elif word == 'wait':
+                self.say('wait')
+            elif word != 'quit':
+                self.assertEqual(self.say(command), wanted, command)
+                asked += 1
+        self.assertGreater(asked, 15)
+
+    @staticmethod
+    def turns(block: str) -> Iterator[tuple[str, list[str]]]:
+        """Commands with their answers; an edit has its text behind its first line."""
+        lines = iter([*block.splitlines(), ''])
+        command, answer = '', list[str]()
+        for line in lines:
+            if line.startswith('> '):
+                answer.append(line[2:])
+                continue
+            if command:
+                yield command, answer
+            command, answer = line, []
+            if line.startswith('edit '):
+                command += ''.join(f'\n{text}' for text in iter(lines.__next__, '.')) + '\n'
 
 
 def own_terminal() -> None:
