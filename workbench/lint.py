@@ -100,13 +100,14 @@ def _whole(side: Sequence[str], sets: set[str]) -> bool:
 
 
 def assigned(action: Labelled) -> list[str]:
-    """What an action changes; of a choice from a set nothing, since what is chosen is in the set."""
+    """What an action changes. Not what gets the value of a name or ∅, or is chosen from a set: what is known of these may do."""
     names: list[str] = []
-    for word in action.words():
-        if word in ('≔', ':∣') or word == '(':
-            return names
-        if word == ':∈':
+    words = action.words()
+    for n, word in enumerate(words):
+        if word == ':∈' or word == '≔' and len(words) == n + 2:
             return []
+        if word in ('≔', ':∣', '('):
+            return names
         if word != ',':
             names.append(word)
     return []

@@ -122,8 +122,25 @@ class Warnings(Room):
         self.assertEqual(found('@i f ∈ S ⇸ ℙ(T × ℤ)', '@a f ≔ f ∪ {x}'), [])
         self.assertEqual(found('@i f ⊆ a × T', '@a f :∣ f\' = f'), ['@i'])
         self.assertEqual(found('@i f ∈ a → T', '@a f :∈ a → T'), [])
-        self.assertEqual(found('@i f ⊆ f', '@a f ≔ f'), ['@i'])
-        self.assertEqual(found('@i x ∈ a ⇒ f ∈ S → a', '@a f ≔ f'), [])
+        self.assertEqual(found('@i f ⊆ f', '@a f ≔ f ∪ f'), ['@i'])
+        self.assertEqual(found('@i f ∈ a → T', '@a f ≔ b'), [])
+        self.assertEqual(found('@i x ∈ a ⇒ f ∈ S → a', '@a f ≔ f ∪ f'), [])
+
+    def test_warned_invariants_of_the_examples_are_open(self) -> None:
+        """By what `rodin check` prints of them: an obligation of each is unattempted."""
+        warned = 0
+        for name in sorted(file for file in os.listdir(EXAMPLES) if file.endswith('.eventb')):
+            shutil.copy(os.path.join(EXAMPLES, name), os.path.join(self.room, 'x.eventb'))
+            opened = [line.split(' ')[0] for line in texts.read(os.path.join(EXAMPLES, name.replace('.eventb', '.out'))).splitlines()
+                      if line.endswith(' unattempted')]
+            folder = texts.Folder(self.room)
+            folder.look()
+            for warn in lint.warnings(folder):
+                part = max((part for _, part in folder.components().values() if part.line <= warn.line), key=lambda part: part.line)
+                label = warn.text.split('@')[1].split(' ')[0]
+                self.assertTrue([po for po in opened if re.fullmatch(f'{part.name}/.*/{label}/INV', po)], (name, warn))
+                warned += 1
+        self.assertGreater(warned, 2)
 
     def test_sections_of_an_example(self) -> None:
         text = texts.read(os.path.join(EXAMPLES, 'bridge.eventb'))
