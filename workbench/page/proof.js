@@ -88,7 +88,8 @@ function paintTree (found) {
       class: misfit ? 'misfit' : node.rule ? '' : 'open',
       title: node.path + (node.goal ? ` ⊢ ${node.goal}` : ''), 'aria-label': node.rule ? `rule ${node.rule}${misfit ? `, does not fit: ${misfit}` : ''}` : `open goal ${node.goal}`
     })
-    for (let k = 0; k < depth; k++) row.append(el('span', { class: 'step' }))
+    const begins = up !== null && children.get(up) > 1
+    for (let k = 0; k < depth; k++) row.append(el('span', { class: 'step', 'aria-hidden': 'true' }, begins && k === depth - 1 ? '├' : '│'))
     row.append(node.rule ? el('span', {}, node.rule) : el('span', {}, `○ ${node.goal}`))
     const says = misfit ? `✗ ${misfit}` : node.rule && state.rules[node.rule]
     if (says) row.append(el('span', { class: 'says' }, says))

@@ -61,7 +61,7 @@ def row(n: int) -> str:
 
 
 @needs_program
-@unittest.skipUnless(browser.program(), 'there is no chromium')
+@unittest.skipUnless(os.environ.get('BROWSER_CHECK') and browser.program(), 'workbench/browser_check runs these')
 class Page(Served):
     """A browser over a room."""
 
@@ -69,12 +69,12 @@ class Page(Served):
 
     @classmethod
     def setUpClass(cls) -> None:
-        cls.b = Browser(1500, 900)
+        cls.b = Browser(1360, 760)
         cls.addClassCleanup(cls.b.close)
 
     def setUp(self) -> None:
         super().setUp()
-        self.b.size(1500, 900)
+        self.b.size(1360, 760)
         self.b.dark(False)
         self.b.told.clear()
         self.addCleanup(self.b.open, 'about:blank')
@@ -186,7 +186,7 @@ class Tutorial(Page):
         self.open_proof('crossing1/train_in/barrier/INV')
         self.goal('closed = FALSE ⇒ trains + 1 = 0')
         b.until('document.querySelectorAll("#proof-tree [role=treeitem]").length === 3')
-        self.assertEqual(b.ask('[...document.querySelectorAll("#proof-tree [role=treeitem]")].map(e => e.firstElementChild.textContent)'), ['eqGoal', 'impR', 'boolDiff'])
+        self.assertEqual(b.ask('[...document.querySelectorAll("#proof-tree [role=treeitem]")].map(e => e.getAttribute("aria-label"))'), ['rule eqGoal', 'rule impR', 'rule boolDiff'])
         # A proof by clicks.
         name, text = self.text(5)
         self.make(name, 'context', text)
