@@ -14,6 +14,7 @@ from .engine import Ended
 from .project import Project
 from .replies import summary
 from .shell import Shell
+from .texts import prefix
 from .watch import ended
 
 HISTORY = os.path.join('~', '.rodin_shell_history')
@@ -142,6 +143,7 @@ def main(words: Optional[Sequence[str]] = None) -> int:
     except Ended as fault:
         print(f'rodin-shell: {fault}', file=sys.stderr)
         return 3
+    project.folder.prefix = prefix(given.folder)
     tty = sys.stdin.isatty()
     prompt = Prompt(project, tty)
     if tty:

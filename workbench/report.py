@@ -23,13 +23,13 @@ def fault_line(project: Project, fault: replies.Fault) -> str:
     file, line = project.folder.place(fault.component, fault.line)
     if fault.kind == 0 and fault.component not in project.folder.components():
         file, _, text = fault.text.partition(': ')
-        return f'{file}:1:1: {text}'
-    return f'{file}:{line}:{fault.column}: {fault.text}'
+        return f'{project.folder.prefix}{file}:1:1: {text}'
+    return f'{project.folder.prefix}{file}:{line}:{fault.column}: {fault.text}'
 
 
-def warn_line(warn: Warn) -> str:
+def warn_line(project: Project, warn: Warn) -> str:
     """FILE:LINE:COLUMN: warning: text."""
-    return f'{warn.file}:{warn.line}:{warn.column}: warning: {warn.text}'
+    return f'{project.folder.prefix}{warn.file}:{warn.line}:{warn.column}: warning: {warn.text}'
 
 
 def warnings(project: Project) -> list[Warn]:
@@ -40,7 +40,7 @@ def warnings(project: Project) -> list[Warn]:
 
 def fault_lines(project: Project) -> list[str]:
     """The lines of all faults, then of all warnings."""
-    return [fault_line(project, fault) for _, fault in sorted(project.faults.items())] + [warn_line(warn) for warn in warnings(project)]
+    return [fault_line(project, fault) for _, fault in sorted(project.faults.items())] + [warn_line(project, warn) for warn in warnings(project)]
 
 
 def counted(project: Project) -> str:
@@ -76,7 +76,7 @@ def junit(project: Project, seconds: float) -> str:
         case = ET.SubElement(suite, 'testcase', classname=fault.component, name='static check')
         ET.SubElement(case, 'error', message=_said(fault_line(project, fault)))
     if warnings(project):
-        ET.SubElement(suite, 'system-out').text = _said('\n'.join(map(warn_line, warnings(project))))
+        ET.SubElement(suite, 'system-out').text = _said('\n'.join(warn_line(project, warn) for warn in warnings(project)))
     return '<?xml version="1.0" encoding="UTF-8"?>\n' + ET.tostring(suite, encoding='unicode') + '\n'
 
 
@@ -86,7 +86,7 @@ def page(project: Project) -> str:
     out = [f'<!doctype html><html lang="en"><meta charset="utf-8"><title>rodin</title><style>{STYLE}</style>',
            f'<h1>Proof obligations</h1><p>{e(counted(project))}</p>']
     out += [f'<p class="f">{e(fault_line(project, fault))}</p>' for _, fault in sorted(project.faults.items())]
-    out += [f'<p class="w">{e(warn_line(warn))}</p>' for warn in warnings(project)]
+    out += [f'<p class="w">{e(warn_line(project, warn))}</p>' for warn in warnings(project)]
     shown = sequents(project, project.open_ones(True))
     for name, (file, part) in sorted(project.folder.components().items()):
         found = {n: status for n, status in project.statuses.items() if replies.component_of(n) == name}

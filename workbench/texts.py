@@ -61,15 +61,20 @@ def write(path: str, text: str) -> None:
         raise
 
 
+def prefix(folder: str) -> str:
+    """What stands before a file's name where it is printed: the folder as the user gave it, so that editors find the file."""
+    return '' if os.path.normpath(folder) == os.curdir else os.path.join(folder, '')
+
+
 class Folder:
     """The `*.eventb` files of a folder, read again where size, time or inode changed.
 
     `bad` has what can't be taken, by file: bytes that aren't UTF-8, no heading and no name. `marked` has the files with a byte order mark,
-    which isn't sent.
+    which isn't sent. `prefix` is printed before the names of files.
     """
 
     def __init__(self, path: str) -> None:
-        self.path = path
+        self.path, self.prefix = path, ''
         self.seen: dict[str, tuple[int, int, int]] = {}
         self.read: dict[str, list[Part]] = {}
         self.bad: dict[str, str] = {}

@@ -1,6 +1,6 @@
 """`rodin-watch FOLDER`: the user's own editor; each save is built, faults and changed statuses are printed as they come.
 
-Faults are printed as FILE:LINE:COLUMN: text, warnings with `warning: ` before the text. `--once` builds and proves once, in a copy of
+Faults are printed as FILE:LINE:COLUMN: text, with the folder as it was given before the file's name, warnings with `warning: ` before the text. `--once` builds and proves once, in a copy of
 the texts, and ends: 0 all is discharged, 1 a fault, 2 something isn't discharged (or with --reviewed neither discharged nor reviewed),
 3 the program or the folder failed.
 """
@@ -114,6 +114,7 @@ def once(asked: Once, out: TextIO = sys.stdout) -> int:
 
 def _once(project: Project, asked: Once, out: TextIO) -> int:
     begun = time.monotonic()
+    project.folder.prefix = texts.prefix(asked.folder)
     project.sync(patient=False)
     for file in asked.proofs:
         for line, words in proofs.replay(project.engine, texts.read(file).splitlines()):
@@ -145,6 +146,7 @@ def watch(folder: str, workers: int, sweep: bool, out: TextIO) -> int:
     except Ended as fault:
         print(f'rodin-watch: {fault}', file=sys.stderr)
         return 3
+    project.folder.prefix = texts.prefix(folder)
     project.listeners.append(hear)
     try:
         project.mind(every=0.2, sweep=sweep)

@@ -14,7 +14,7 @@ import xml.etree.ElementTree as ET
 from typing import Any
 
 from rooms import BOOM, EXAMPLES, PROGRAM, SETS, TOP, Room, needs_program
-from workbench import lint, report, scan, texts, watch
+from workbench import lint, scan, texts, watch
 from workbench.watch import Once
 
 CYCLE = '''machine a
@@ -183,7 +183,7 @@ class OnceRun(Room):
         self.put(c='context c\naxioms\n  @a x = 1\nend\n', d='context d extends c end\n')
         page = os.path.join(self.room, 'r.html')
         status, said = self.once(html=page, junit=os.path.join(self.room, 'j.xml'))
-        self.assertEqual((status, said.splitlines()[:2]), (1, ['c.eventb:3:6: x is unknown', 'd.eventb:1:19: blocked by c']))
+        self.assertEqual((status, said.splitlines()[:2]), (1, [f'{self.room}/c.eventb:3:6: x is unknown', f'{self.room}/d.eventb:1:19: blocked by c']))
         self.assertIn('@a <span class="mark">x</span> = 1', texts.read(page))
         self.assertEqual(ET.parse(os.path.join(self.room, 'j.xml')).getroot().get('errors'), '2')
 
@@ -192,7 +192,8 @@ class OnceRun(Room):
             file.write(b'\xff')
         self.put(c='context c\nend\ncontext c\nend\n')
         status, said = self.once()
-        self.assertEqual((status, said.splitlines()[:2]), (1, ['b.eventb:1:1: not UTF-8 at byte 0', 'c.eventb:1:1: a second text of this name stands in c.eventb']))
+        self.assertEqual((status, said.splitlines()[:2]), (1, [f'{self.room}/b.eventb:1:1: not UTF-8 at byte 0',
+                                                           f'{self.room}/c.eventb:1:1: a second text of this name stands in c.eventb']))
 
     def test_what_failed(self) -> None:
         self.assertEqual(self.once()[0], 3)
@@ -225,7 +226,7 @@ class OnceRun(Room):
     def test_a_warning_of_the_program_stands_at_its_machine(self) -> None:
         self.put(two='context c\nend\n' + CYCLE + CYCLE_BELOW.replace('event e refines e', 'event f').replace("x' = y' + 1", '').replace("y' = x' + 1", '')
                  .replace("    with\n      @x' \n      @y' \n", ''))
-        self.assertIn('two.eventb:12:1: warning: event e is not refined', self.once()[1].splitlines())
+        self.assertIn(f'{self.room}/two.eventb:12:1: warning: event e is not refined', self.once()[1].splitlines())
 
     def test_each_example_has_the_statuses_of_check(self) -> None:
         shutil.copy(os.path.join(EXAMPLES, 'press.eventb'), self.room)
@@ -280,7 +281,7 @@ class Watching(Room):
                     if line.rstrip('\n') == wanted:
                         return
                 self.fail(wanted)
-            until('c.eventb:3:6: x is unknown')
+            until(f'{self.room}/c.eventb:3:6: x is unknown')
             until('checked: 1 faults, 0 warnings')
             self.put(c='context c constants x axioms @a x = 1 theorem @t x = 1 end\n')
             until('checked: 0 faults, 0 warnings')
@@ -297,8 +298,8 @@ class Watching(Room):
 class Lines(unittest.TestCase):
     """What editors read."""
 
-    def test_a_warning(self) -> None:
-        self.assertEqual(report.warn_line(texts.Warn('c.eventb', 3, 4, 'words')), 'c.eventb:3:4: warning: words')
+    def test_before_a_file(self) -> None:
+        self.assertEqual([texts.prefix(folder) for folder in ('.', './', 'models', 'models/', '/a/b', '..')], ['', '', 'models/', 'models/', '/a/b/', '../'])
 
 
 if __name__ == '__main__':
