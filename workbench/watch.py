@@ -12,6 +12,7 @@ import shutil
 import signal
 import sys
 import tempfile
+import threading
 import time
 from typing import Any, NamedTuple, Optional, Sequence, TextIO
 
@@ -19,6 +20,9 @@ from . import proofs, replies, report, texts
 from .commands import Refused
 from .engine import Ended
 from .project import Project
+
+LONG = 10.0
+"""Seconds without an answer of which the watcher speaks."""
 
 PAINT = {'discharged': 32, 'reviewed': 34, 'pending': 33, 'broken': 31}
 ELSEWHERE = {'project: disk fault': ' (the disk failed, or another session is open in the folder)'}
@@ -138,6 +142,16 @@ def _once(project: Project, asked: Once, out: TextIO) -> int:
     return 2 if project.open_ones(reviewed=not asked.reviewed) else 0
 
 
+def patience(project: Project, hear: Printer, stop: threading.Event) -> None:
+    """Says once of each command that the session hasn't answered for long: it proves, or it is stopped. What waits behind it is sent then."""
+    told = ''
+    while not stop.wait(1.0):
+        command, seconds = project.engine.at_work, project.engine.silent()
+        if command and seconds > LONG and command != told:
+            hear.say(f'no answer for {seconds:.0f} s: {command}')
+        told = command if seconds > LONG else ''
+
+
 def watch(folder: str, workers: int, sweep: bool, out: TextIO) -> int:
     """Prints what changes until it is interrupted, or the session can't go on."""
     hear = Printer(out, out.isatty())
@@ -148,10 +162,13 @@ def watch(folder: str, workers: int, sweep: bool, out: TextIO) -> int:
         return 3
     project.folder.prefix = texts.prefix(folder)
     project.listeners.append(hear)
+    stop = threading.Event()
+    threading.Thread(target=patience, args=(project, hear, stop), daemon=True).start()
     try:
         project.mind(every=0.2, sweep=sweep)
     except KeyboardInterrupt:
         pass
+    stop.set()
     project.close()
     return 3 if project.engine.ended not in (None, 'closed') else 0
 

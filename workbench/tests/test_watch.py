@@ -9,9 +9,11 @@ import signal
 import subprocess
 import sys
 import threading
+import time
 import unittest
 import xml.etree.ElementTree as ET
 from typing import Any
+from unittest import mock
 
 from rooms import BOOM, EXAMPLES, PROGRAM, SETS, TOP, Room, needs_program
 from workbench import lint, scan, texts, watch
@@ -263,6 +265,19 @@ class Watching(Room):
         project.close()
         minder.join(5)
         self.assertNotIn('ended', [event for event, _ in told])
+
+    def test_a_stopped_session_is_told_once(self) -> None:
+        out = io.StringIO()
+        project, stop = self.project(boom=BOOM), threading.Event()
+        with mock.patch.object(watch, 'LONG', 0.1):
+            threading.Thread(target=watch.patience, args=(project, watch.Printer(out, False), stop), daemon=True).start()
+            os.kill(project.engine.process.pid, signal.SIGSTOP)
+            waiting = project.engine.send(['build'])
+            time.sleep(3.5)
+            os.kill(project.engine.process.pid, signal.SIGCONT)
+            waiting.result()
+            stop.set()
+        self.assertRegex(out.getvalue(), r'^no answer for \d s: build\n$')
 
     def test_the_command(self) -> None:
         """The script, by a link, with what it prints of a fault, its mending, a rename and a removal; an interrupt ends it with status 0."""
