@@ -143,6 +143,8 @@ class Tutorial(Page):
 
     def test_story(self) -> None:
         b = self.b
+        self.room = os.path.join(self.room, 'crossing')
+        os.mkdir(self.room)
         self.serve(workers=0, sweep=True)
         self.open()
         self.assertIn('No components', b.ask('getComputedStyle(document.getElementById("tree"), "::after").content'))

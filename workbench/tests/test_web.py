@@ -266,7 +266,7 @@ class Texts(Served):
         told = page.of('state')[0]
         self.assertEqual(told['faults']['c'], {'component': 'c', 'kind': 16, 'line': 1, 'column': 21, 'text': 'k has no type'})
         self.assertEqual({c['name']: c['kind'] for c in told['components']}, {'c': 'context', 'm': 'machine'})
-        arrows = 'context s sets S end\nmachine a sees s variables u r\n invariants @i u ⊆ S @j r ∈ u ⇸ u\n events event INITIALISATION then @a u, r ≔ ∅, ∅ end event e then @b r ≔ ∅ end end\n'
+        arrows = 'context s sets S end\nmachine a sees s variables u r\n invariants @i u ⊆ S @j r ∈ u ⇸ u\n events event INITIALISATION then @a u, r ≔ ∅, ∅ end event e any x where @g x ∈ u then @b r(x) ≔ x end end\n'
         self.put(arrows=arrows)
         self.until(lambda: page.of('texts') and page.of('texts')[-1]['notes'])
         note = page.of('texts')[-1]['notes'][0]
