@@ -10,6 +10,8 @@ use Rattle.core_steps.specs.Laws.{EntersAll}
 use Rattle.core_steps.specs.Status.{IsRebuilt}
 use Rattle.core_steps.specs.State.{opened, no_texts}
 use Rattle.core_steps.specs.Run.{Exchange, Runs, IsLegal, history_of}
+use Rattle.true_marks.specs.TrueMarks.{AreTrueMarks}
+use Rattle.true_marks.proofs.Truths.{marks_are_true}
 use Rattle.rodin_cli.specs.declared.session.Session.{Session}
 use Rattle.rodin_cli.specs.declared.outcome.Part.{Part}
 use Rattle.check_input.specs.Inputs.{Component, IsInput}
@@ -85,6 +87,7 @@ module _ (answers : Sequent → Attempt → Type 0) (sure : Sequent → Type 0) 
           warnings = subst (λ d. TellsWarnings d warned) (sym did.last) tells.1;
           clean = subst (λ d. IsRebuilt d shown) (sym did.last) clean;
           proved = subst (λ d. IsProved d shown) (sym did.last) (proved_of new.core.durable shown clean);
+          true_marks = subst (λ d. AreTrueMarks d.built shown) (sym did.last) (marks_are_true new.core.durable shown clean);
           complete = subst (λ d. LeavesNothingSure sure d exchanges) (sym did.last) complete;
           text = text;
         }

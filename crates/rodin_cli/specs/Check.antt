@@ -19,6 +19,7 @@ use Rattle.core_steps.specs.Faults.{AreFaults, AreWarnings}
 use Rattle.core_steps.specs.Table.{IsTable}
 use Rattle.core_steps.specs.State.{State, opened, no_texts, after}
 use Rattle.core_steps.specs.Run.{Exchange, Runs, IsLegal, history_of}
+use Rattle.true_marks.specs.TrueMarks.{AreTrueMarks}
 use Rattle.rodin_cli.specs.declared.outcome.Part.{Part}
 use Rattle.session_streams.specs.Streams.{SourceState, Writing, SourceFailed, Writes, WritesCut, WritesNothing}
 use Rattle.session_ends.specs.Written.{WritesOrFails}
@@ -84,6 +85,7 @@ pub record IsAnswered (answers : Sequent → Attempt → Type 0) (sure : Sequent
   pub warnings : TellsWarnings part.last warned
   pub clean : IsRebuilt part.last shown
   pub proved : IsProved part.last shown
+  pub true_marks : AreTrueMarks part.last.built shown
   pub complete : LeavesNothingSure sure part.last exchanges
   pub text : ((part.status ≡ check_status told) × Writes sink (printed_lines told warned shown)) ⊎ ((part.status ≡ 4) × WritesCut sink (printed_lines told warned shown))
 

@@ -27,7 +27,8 @@ use Rattle.session_run.proofs.Runs.{CoreLaws, run_cut}
 use Rattle.session_streams.specs.Streams.{SourceState, Writing, reading, writing}
 use Rattle.session_streams.proofs.Known.{Appends-nothing, Consumes-nothing}
 use Rattle.session_talk.specs.declared.Ending.{Ending}
-use Rattle.session_ends.specs.Ends.{IsClean, HasHistory, EndsWithoutMemory}
+use Rattle.true_marks.proofs.Truths.{tells_truth}
+use Rattle.session_ends.specs.Ends.{IsClean, IsTruthful, HasHistory, EndsWithoutMemory}
 use Rattle.session_play.specs.Playing.{IsPlayed}
 use Rattle.session_ends.specs.Private.{PlaysEnd, status_at, ending_line}
 use Rattle.session_ends.specs.Sessions.{EndsBy, without_memory, IsSession, Opens}
@@ -47,6 +48,10 @@ clean : TellsTheRebuilt → (d : Durable) (xs : List Exchange) → IsClean d xs
 clean law d xs before x behind s cut run =
     let c = run_cut (opened d) s before (x ∷ []) run in
     subst (λ (z : State). TellsRebuilt z.durable x.reply) (sym c.2.2) (law c.0 x.event x.reply x.entry c.2.0 c.2.1)
+
+-- what replies show discharged is true
+truthful : (d : Durable) (xs : List Exchange) → IsClean d xs → IsTruthful d xs
+truthful d xs clean before x behind s cut run = tells_truth s.durable x.reply (clean before x behind s cut run)
 
 -- the log of a store, by the exchanges of its history
 log_is : (history : List (ℕ × Event)) (xs : List (ℕ × Exchange)) (m : List Logged) → history ≡ events_of xs → map logged history ++ m ≡ map done xs ++ m
@@ -92,6 +97,7 @@ module _ {D : Type 0} (told : Type 0) (bytes_of : D → Sides) (images : D → S
     lasts = refl;
     folds = folds enters (exchanges_of sound.exchanges) (opened st.base) st.core sound.run.run;
     clean = clean rebuilt st.base (exchanges_of sound.exchanges);
+    truthful = truthful st.base (exchanges_of sound.exchanges) (clean rebuilt st.base (exchanges_of sound.exchanges));
     worked = makes.worked;
     complete = complete_law st.base (exchanges_of sound.exchanges) st.core makes.fair_run;
   }
@@ -179,6 +185,7 @@ module _ {D : Type 0} (told : Type 0) (bytes_of : D → Sides) (images : D → S
       lasts = refl;
       folds = ap (λ z. z.durable) begun;
       clean = λ xs x behind s cut run. absurd (none_cut xs x behind cut);
+      truthful = λ xs x behind s cut run. absurd (none_cut xs x behind cut);
       worked = record { each = λ k low_ high. (None, none_yet); others = λ k high. refl };
       complete = λ xs x behind s cut run e r. absurd (none_cut xs x behind cut);
     };

@@ -18,6 +18,7 @@ use Rattle.session_run.specs.Dialogue.{Next, tells, Dialogue}
 use Rattle.session_run.specs.OneHistory.{Reached, IsFailedEvent}
 use Rattle.session_streams.specs.Reads.{HasRead, IsNextLine}
 use Rattle.session_streams.specs.Streams.{SourceState, Writing, SourceFailed, SinkFailed, Writes}
+use Rattle.true_marks.specs.TrueMarks.{TellsTrue}
 use Rattle.session_ends.specs.Written.{WritesThen, WritesUpTo}
 
 -- each status in a reply is the one that a clean rebuild at its place gives
@@ -25,6 +26,12 @@ abbrev pub IsClean : Durable → List Exchange → Type 0
 IsClean d xs =
     (before : List Exchange) (x : Exchange) (behind : List Exchange) (s : State) → xs ≡ before ++ x ∷ behind →
     Runs (opened d) (before ++ x ∷ []) s → TellsRebuilt s.durable x.reply
+
+-- what a reply shows discharged is true in each classical universe
+abbrev pub IsTruthful : Durable → List Exchange → Type 0
+IsTruthful d xs =
+    (before : List Exchange) (x : Exchange) (behind : List Exchange) (s : State) → xs ≡ before ++ x ∷ behind →
+    Runs (opened d) (before ++ x ∷ []) s → TellsTrue s.durable.built x.reply
 
 -- the line that was begun, if one was, is the next one
 abbrev pub IsAt : List Command → Option (Line × Next) → Type 0
@@ -82,6 +89,7 @@ module _ (fair : Sequent → Attempt → Type 0) (sure : Sequent → Type 0) (wo
     pub lasts : last ≡ s.durable
     pub folds : last ≡ after d (map (λ x. x.entry) (exchanges_of xs))
     pub clean : IsClean d (exchanges_of xs)
+    pub truthful : IsTruthful d (exchanges_of xs)
     pub worked : HaveWorked fair workers xs
     pub complete : IsCompleteWhenIdle sure d (exchanges_of xs)
 
