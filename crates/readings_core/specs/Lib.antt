@@ -1,0 +1,4 @@
+pub mod Follows
+pub mod Private
+pub mod Values
+pub mod Widths
