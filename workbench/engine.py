@@ -21,6 +21,7 @@ import subprocess
 import threading
 import time
 import traceback
+from collections import deque
 from concurrent.futures import Future
 from typing import Callable, NamedTuple, Optional, Sequence
 
@@ -147,7 +148,8 @@ class Engine:
 
     def _start(self) -> None:
         self._nonce, self._count, self._answered = secrets.token_hex(8), 0, False
-        self._lines: 'queue.Queue[Optional[str]]' = queue.Queue()
+        self._lines: 'queue.Queue[Optional[Reply]]' = queue.Queue()
+        self._taken: 'deque[str]' = deque()
         self.starts += 1
         try:
             self.process = subprocess.Popen(self.words, cwd=self.folder, stdin=subprocess.PIPE, stdout=subprocess.PIPE, bufsize=0)
@@ -156,13 +158,27 @@ class Engine:
         threading.Thread(target=self._read, args=(self.process, self._lines), daemon=True).start()
 
     @staticmethod
-    def _read(process: 'subprocess.Popen[bytes]', lines: 'queue.Queue[Optional[str]]') -> None:
+    def _read(process: 'subprocess.Popen[bytes]', lines: 'queue.Queue[Optional[Reply]]') -> None:
+        """Hands over the lines of each piece that was read at once: a line at a time would cost a change of threads each."""
         assert process.stdout is not None
-        with open(process.stdout.fileno(), 'rb', closefd=False) as source:
-            for line in source:
-                lines.put(line.rstrip(b'\n').decode('utf-8', 'replace'))
+        rest = b''
+        while piece := os.read(process.stdout.fileno(), 65536):
+            *whole, rest = (rest + piece).split(b'\n')
+            if whole:
+                lines.put([line.decode('utf-8', 'replace') for line in whole])
+        if rest:
+            lines.put([rest.decode('utf-8', 'replace')])
         process.stdout.close()
         lines.put(None)
+
+    def _line(self) -> Optional[str]:
+        """The next line of the session; None where it has ended."""
+        while not self._taken:
+            found = self._lines.get()
+            if found is None:
+                return None
+            self._taken.extend(found)
+        return self._taken.popleft()
 
     @staticmethod
     def _end(process: 'subprocess.Popen[bytes]', patience: float) -> None:
@@ -267,7 +283,7 @@ class Engine:
         reply: Reply = []
         end = f'refused: no obligation {mark}'
         while True:
-            line = self._lines.get()
+            line = self._line()
             if line is None:
                 self.at_work = ''
                 self._end(self.process, AGAIN_FOR)
