@@ -1,6 +1,6 @@
 """`rodin-export FOLDER`: the texts of the project in a folder, and its proofs as lines that replay in an empty folder.
 
-With --to it writes NAME.eventb for each component and `proofs.steps`; without, the lines of the proofs to standard output. A proof
+The proofs stored for an obligation or a component that was renamed are written for the new name with --move OLD NEW. With --to it writes NAME.eventb for each component and `proofs.steps`; without, the lines of the proofs to standard output. A proof
 moves to a renamed obligation by editing the lines: each names its obligation. Each `step` stores the whole tree anew, so that n lines of one
 proof write some n² nodes into the session's files: 1,000 lines 80 MB. `rodin-watch --once --proofs FILE` and `replay` at the prompt read
 the lines. Exit: 0, 1 (a proof can't be written as lines; it is told), 3 (the program or the folder failed).
@@ -16,10 +16,6 @@ from . import journal, proofs, replies, texts
 from .engine import Ended, Engine
 from .watch import ended
 
-UNSAID = '?<'
-"""Stands in a line for a hypothesis that the sequent doesn't have."""
-
-
 class Lines(NamedTuple):
     """The lines of one obligation's proof, its status and who made it."""
     name: str
@@ -28,7 +24,7 @@ class Lines(NamedTuple):
     steps: list[str]
 
 
-def exported(engine: Engine, folder: str, by_hand: bool) -> tuple[dict[str, str], list[Lines], list[str]]:
+def exported(engine: Engine, folder: str, by_hand: bool, moves: Sequence[tuple[str, str]] = ()) -> tuple[dict[str, str], list[Lines], list[str]]:
     """Texts, proofs that apply, and what can't be said in lines. Of the stored texts those that the session has now, built or not."""
     statuses = replies.statuses(engine.ask('status'))
     written, trees = journal.state(folder)
@@ -41,13 +37,16 @@ def exported(engine: Engine, folder: str, by_hand: bool) -> tuple[dict[str, str]
             continue
         hypotheses = replies.sequent(shown).hypotheses
         steps = list(proofs.steps(name, trees[name], hypotheses))
-        if any(UNSAID in line for line in steps):
+        if any(proofs.UNSAID in line for line in steps):
             lacking.append(f'{name} uses a hypothesis that is not shown: left out')
         elif any(len(line.encode()) > 4096 for line in steps):
             lacking.append(f'{name} has a line of more than 4,096 bytes: left out')
         else:
             found.append(Lines(name, status, origin, steps))
-    lacking += [f'{name} has a proof, and is no obligation of the last build: left out' for name in sorted(set(trees) - set(statuses)) if trees[name] is not None]
+    for old, new in moves:
+        found += [Lines(name, 'moved', f'from {old}', steps) for name, steps in proofs.moved(engine, trees, old, new)]
+    gone = [name for name in sorted(set(trees) - set(statuses)) if trees[name] is not None and not any(proofs.renamed(name, *move) for move in moves)]
+    lacking += [f'{name} has a proof, and is no obligation of the last build: left out' for name in gone]
     return written, found, lacking
 
 
@@ -77,13 +76,15 @@ def main(words: Optional[Sequence[str]] = None) -> int:
     parser.add_argument('--to', metavar='FOLDER', help='where texts and proofs are written')
     parser.add_argument('--over', action='store_true', help='write over files that are there')
     parser.add_argument('--by-hand', action='store_true', help='leave out the proofs of the prover')
+    parser.add_argument('--move', nargs=2, action='append', default=[], metavar=('OLD', 'NEW'),
+                        help='write the proofs of an obligation or a component that was renamed as lines for its new name')
     given = parser.parse_args(words)
     try:
         if not os.path.exists(os.path.join(given.folder, 'rodin.left')):
             raise FileNotFoundError(f'{given.folder} has no project: no session was begun there')
         engine = Engine(given.folder, 0)
         try:
-            written, found, lacking = exported(engine, given.folder, given.by_hand)
+            written, found, lacking = exported(engine, given.folder, given.by_hand, [(old, new) for old, new in given.move])
         finally:
             engine.close()
         if given.to:

@@ -9,6 +9,8 @@ session's last word. Between a `build` and the `status` behind it `fresh` is fal
 from __future__ import annotations
 
 import hashlib
+import os
+import struct
 import threading
 import time
 from typing import Any, Callable, Optional
@@ -26,6 +28,9 @@ LOG, LOG_SIZE = 2000, 8_000_000
 
 PATIENCE = 10
 """Looks in which nothing changed, behind which what the workers left is tried once more, to know that it was tried."""
+
+DROPPED = '.rodin-dropped'
+"""The folder of texts that the project had, and no file."""
 
 ORIGINS = {'step': 'user', 'review': 'user', 'prune': 'user', 'auto': 'prover', 'show': ''}
 """Commands whose answer says the status of one obligation, and who made its proof then."""
@@ -146,14 +151,38 @@ class Project:
                 self.folder.look(patient)
                 now = {name: part.text for name, (_, part) in self.folder.components().items()}
                 unsent = self._unsent()
+            lone = [] if self.built else self._without_files(now)
             new = {name: text for name, text in now.items() if self.sent.get(name) != text and self.turned.get(name, ('', ''))[0] != text}
-            gone = sorted((self.sent.keys() | self.turned.keys()) - now.keys())
+            gone = sorted(((self.sent.keys() | self.turned.keys()) - now.keys()).union(lone))
             if new or gone or not self.built:
                 self._send(new, gone, unsent)
             elif self._all_extra(unsent) != self.extra:
                 self.extra = self._all_extra(unsent)
                 self.tell('faults', self.faults)
             return bool(new or gone)
+
+    def _without_files(self, now: dict[str, str]) -> list[str]:
+        """At the start: components that the session has from before, and no file has. They are dropped, and their texts kept aside; but where the
+        folder has no file at all, they are written as files. `now` is completed by these."""
+        self.engine.ask('status', EDIT)
+        try:
+            lone = {name: text for name, text in self.journal.read()[0].items() if name not in now}
+        except (LookupError, ValueError, struct.error) as fault:
+            self.tell('trouble', f'the files of the session are not read: {fault!r}')
+            return []
+        if lone and not self.folder.files():
+            with self.files:
+                for name, text in lone.items():
+                    self.folder.put(name, text)
+                self.folder.look(patient=False)
+            now.update(lone)
+            self.tell('trouble', f'no text was here: {", ".join(lone)} written as files')
+            return []
+        for name, text in lone.items():
+            os.makedirs(os.path.join(self.folder.path, DROPPED), exist_ok=True)
+            texts.write(os.path.join(self.folder.path, DROPPED, f'{name}{texts.SUFFIX}'), text)
+            self.tell('trouble', f'no file has {name}: dropped; its text is kept in {DROPPED}')
+        return sorted(lone)
 
     def _unsent(self) -> dict[str, replies.Fault]:
         """Faults of the folder: files that can't be read, and second texts of a name."""

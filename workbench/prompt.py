@@ -5,7 +5,7 @@ import argparse
 import os
 import sys
 import threading
-from typing import Iterator, Optional, Sequence
+from typing import Any, Iterator, Optional, Sequence
 
 from . import report
 from .commands import Refused
@@ -72,6 +72,13 @@ class Prompt:
     def __init__(self, project: Project, tty: bool) -> None:
         self.project, self.shell, self.tty = project, Shell(project, alone=not tty), tty
         self.told = 0
+        project.listeners.append(self.hear)
+
+    @staticmethod
+    def hear(event: str, data: Any) -> None:
+        """Prints what went wrong beside the user."""
+        if event == 'trouble':
+            print(f'? {data}', flush=True)
 
     def where(self) -> str:
         """What stands before the user's line."""

@@ -1,7 +1,7 @@
 """Stored proofs as `step` lines, and lines replayed. Text that replays is what a user keeps under version control."""
 from __future__ import annotations
 
-from typing import TYPE_CHECKING, Collection, Iterable, Iterator, Optional, Sequence
+from typing import TYPE_CHECKING, Collection, Iterable, Iterator, Mapping, Optional, Sequence
 
 from . import core_text, replies
 from .engine import Engine
@@ -72,6 +72,27 @@ def export(project: 'Project', names: Optional[Collection[str]] = None, by_hand:
         if not replies.refusal(shown):
             lines += [f'// {name} {status} ({origin})', *steps(name, trees[name], replies.sequent(shown).hypotheses)]
     return lines
+
+
+UNSAID = '?<'
+"""Stands in a line for a hypothesis that the sequent doesn't have."""
+
+
+def renamed(name: str, old: str, new: str) -> Optional[str]:
+    """An obligation's name where the obligation or its component `old` is called `new`; None of others."""
+    if name == old:
+        return new
+    return new + name[len(old):] if name.startswith(f'{old}/') else None
+
+
+def moved(engine: Engine, trees: Mapping[str, Optional[Tree]], old: str, new: str) -> list[tuple[str, list[str]]]:
+    """The stored proofs of an obligation or a component that was renamed, as lines for the new names; hypotheses have the new sequents' numbers."""
+    known, found = replies.statuses(engine.ask('status')), []
+    for name, tree in trees.items():
+        target = renamed(name, old, new)
+        if tree is not None and target is not None and target in known:
+            found.append((target, list(steps(target, tree, replies.sequent(engine.ask(f'show {target}')).hypotheses))))
+    return found
 
 
 def at(tree: Optional[Tree], path: Sequence[int]) -> tuple[Optional[Tree], list[str], dict[str, core_text.Type]]:

@@ -354,6 +354,21 @@ class Shell:
         self.project.refresh()
         yield report.counted(self.project)
 
+    def do_move(self, rest: str) -> Iterator[str]:
+        """The proofs of what was renamed, made again under the new name."""
+        old, _, new = rest.partition(' ')
+        if not new:
+            raise Refused('move OLD NEW: two obligations, or two components')
+        self.project.refresh()
+        for name, lines in proofs.moved(self.project.engine, self.project.journal.read()[1], old, new.strip()):
+            status = self.project.statuses.get(name, ('', ''))[0]
+            if status != 'unattempted':
+                yield f'{name} is {status}: left as it is'
+                continue
+            refused = list(proofs.replay(self.project.engine, lines))
+            self.project.refresh()
+            yield self._told(name) + (f', {len(refused)} of {len(lines)} lines do not fit' if refused else '')
+
     def do_help(self, rest: str) -> Iterator[str]:
         """The words, or one."""
         yield from shell_words.long(rest) if rest else shell_words.short()

@@ -32,6 +32,8 @@ WORDS = {
     'review': ('', 'take the goal of the current leaf for proved', 'The obligation then counts as reviewed, not as discharged.'),
     'proofs': ('[FILE]', 'the proofs by hand as lines that replay', ''),
     'replay': ('FILE', 'send lines of proofs', 'What is discharged already is left alone.'),
+    'move': ('OLD NEW', 'the proofs of an obligation or a component that was renamed, made again under its new name',
+             'As far as they fit; what has a proof is left as it is. `purge` removes the old ones.'),
     'text': ('NAME', 'the text of a component, with line numbers', ''),
     'edit': ('NAME', 'the text of a component in $EDITOR, then load', ''),
     'bring': ('FILE', 'files of Rodin (.zip, .buc, .bum) as texts into the folder', 'No file of the folder is written over.'),

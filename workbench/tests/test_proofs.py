@@ -192,6 +192,12 @@ class Replayed(Room):
         project.ask('auto boom/thm2/THM')
         project.close()
         self.assertEqual(run(self.room, '--by-hand'), (0, '// boom/thm1/THM pending (user)\nstep boom/thm1/THM - exR e 1\n'))
+        project = self.project(boom=BOOM.replace('boom', 'arm'))
+        project.close()
+        self.assertEqual(run(self.room)[0], 1)
+        self.assertEqual(run(self.room, '--move', 'boom', 'arm'), (0, '// arm/thm1/THM moved (from boom)\nstep arm/thm1/THM - exR e 1\n'
+                                                                   '// arm/thm2/THM moved (from boom)\nstep arm/thm2/THM - linear h 1 1\n'))
+        self.project(boom=BOOM).close()
         to = os.path.join(self.room, 'to')
         self.assertEqual(run(self.room, '--to', to), (0, '1 texts, 2 proofs, 2 lines\n'))
         self.assertEqual(run(self.room, '--to', to)[0], 3)

@@ -164,6 +164,20 @@ class Words(Asked):
         self.assertEqual(self.say('wait'), ['3 obligations: 0 unattempted, 0 pending, 0 reviewed, 3 discharged, 0 broken'])
         self.assertEqual(self.say('next'), ['nothing open'])
 
+    def test_proofs_of_what_was_renamed(self) -> None:
+        self.shell(boom=BOOM)
+        for line in ('po boom/thm1/THM', 'exR e 1', 'andR', 'linear', 'linear', 'auto boom/thm2/THM'):
+            self.say(line)
+        self.put(boom=BOOM.replace('boom', 'arm').replace('@axm1', '@axm0 0 ≤ up @axm1').replace('thm2', 'low'))
+        self.say('load')
+        self.assertEqual(self.say('ls'), ['arm/thm1/THM unattempted', 'arm/low/THM unattempted'])
+        self.assertEqual(self.say('move boom arm'), ['arm/thm1/THM discharged (user)'])
+        self.assertEqual(self.say('move boom/thm2/THM arm/low/THM'), ['arm/low/THM discharged (user)'])
+        self.assertEqual(self.say('move boom arm'), ['arm/thm1/THM is discharged: left as it is'])
+        self.assertEqual(self.say('purge'), ['purged 2'])
+        self.assertEqual(self.say('move boom arm'), [])
+        self.assertRaises(Refused, self.say, 'move boom')
+
     def test_help_for_each_word(self) -> None:
         self.shell()
         for word in [*shell_words.WORDS, *shell_words.RAW, *rule_words.KINDS, *map(str, rule_words.LAWS)]:

@@ -266,6 +266,20 @@ class Watching(Room):
         minder.join(5)
         self.assertNotIn('ended', [event for event, _ in told])
 
+    def test_files_that_went_while_nothing_watched(self) -> None:
+        """What no file has any more is dropped, its text kept aside; a project without any file has its texts written."""
+        self.project(boom=BOOM, rel=SETS).close()
+        os.remove(os.path.join(self.room, 'rel.eventb'))
+        told: list[str] = []
+        project = self.project(listener=lambda event, data: told.append(data) if event == 'trouble' else None)
+        self.assertEqual((list(project.statuses), told), (['boom/thm1/THM', 'boom/thm2/THM'], ['no file has rel: dropped; its text is kept in .rodin-dropped']))
+        self.assertEqual(texts.read(os.path.join(self.room, '.rodin-dropped', 'rel.eventb')), SETS)
+        project.close()
+        os.remove(os.path.join(self.room, 'boom.eventb'))
+        project = self.project()
+        self.assertEqual(list(project.statuses), ['boom/thm1/THM', 'boom/thm2/THM'])
+        self.assertEqual(texts.read(os.path.join(self.room, 'boom.eventb')), BOOM)
+
     def test_a_stopped_session_is_told_once(self) -> None:
         out = io.StringIO()
         project, stop = self.project(boom=BOOM), threading.Event()
