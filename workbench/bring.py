@@ -151,7 +151,8 @@ class _Text:
 
     def whole(self, root: ET.Element) -> list[str]:
         """Its lines."""
-        self._unknown(root, {'extendsContext', 'carrierSet', 'constant', 'axiom', 'refinesMachine', 'seesContext', 'variable', 'invariant', 'variant', 'event'})
+        self._unknown(root, {'extendsContext', 'carrierSet', 'constant', 'axiom', 'refinesMachine', 'seesContext', 'variable', 'invariant', 'variant',
+                             'event'})
         lines = self.remark(root, '')
         if root.tag == CORE + 'contextFile':
             lines += [f'context {self.component}', *self.names('extends', kids(root, 'extendsContext'), 'target'), *self.names('sets', kids(root, 'carrierSet')),
@@ -159,7 +160,8 @@ class _Text:
         else:
             lines += [f'machine {self.component}', *self.names('refines', kids(root, 'refinesMachine'), 'target'),
                       *self.names('sees', kids(root, 'seesContext'), 'target'), *self.names('variables', kids(root, 'variable')),
-                      *self.labelled('invariants', kids(root, 'invariant'), 'predicate', labels(kids(root, 'invariant'))), *self.variant(kids(root, 'variant')), 'events']
+                      *self.labelled('invariants', kids(root, 'invariant'), 'predicate', labels(kids(root, 'invariant'))),
+                      *self.variant(kids(root, 'variant')), 'events']
             for event in kids(root, 'event'):
                 lines += self.event(event)
         return [*lines, 'end']

@@ -1,9 +1,10 @@
 """`rodin-export FOLDER`: the texts of the project in a folder, and its proofs as lines that replay in an empty folder.
 
-The proofs stored for an obligation or a component that was renamed are written for the new name with --move OLD NEW. With --to it writes NAME.eventb for each component and `proofs.steps`; without, the lines of the proofs to standard output. A proof
-moves to a renamed obligation by editing the lines: each names its obligation. Each `step` stores the whole tree anew, so that n lines of one
-proof write some n² nodes into the session's files: 1,000 lines 80 MB. `rodin-watch --once --proofs FILE` and `replay` at the prompt read
-the lines. Exit: 0, 1 (a proof can't be written as lines; it is told), 3 (the program or the folder failed).
+With --to it writes NAME.eventb for each component and `proofs.steps`; without, the lines of the proofs to standard output. A proof moves
+to a renamed obligation by editing the lines, each of which names its obligation. The proofs that are stored for an obligation or a component
+that was renamed are written for the new name with --move OLD NEW. Each `step` stores the whole tree anew, so that n lines of one proof write
+some n² nodes into the session's files: 1,000 lines 80 MB. `rodin-watch --once --proofs FILE` and `replay` at the prompt read the lines.
+Exit: 0, 1 (a proof can't be written as lines; it is told), 3 (the program or the folder failed).
 """
 from __future__ import annotations
 

@@ -9,7 +9,8 @@ WORDS = {
     'load': ('[FILE..]', 'send the folder\'s texts, build, tell faults and warnings',
              'With files: copies them into the folder first. Without: only what changed is sent. The folder is looked at before each command, too.'),
     'faults': ('', 'the faults and warnings of the last build', 'As FILE:LINE:COLUMN: text.'),
-    'ls': ('[PATTERN]', 'obligations with their statuses', 'PATTERN is a regular expression over `NAME STATUS (ORIGIN)`: `ls ^m1/.*INV`, `ls unattempted`. Small letters match capitals, too.'),
+    'ls': ('[PATTERN]', 'obligations with their statuses',
+           'PATTERN is a regular expression over `NAME STATUS (ORIGIN)`: `ls ^m1/.*INV`, `ls unattempted`. Small letters match capitals, too.'),
     'open': ('[PATTERN]', 'the obligations that are not discharged', '`tried` behind one says that the prover found no proof of its present sequent.'),
     'next': ('', 'go to the next open obligation', 'In the order of `open`, from the current one on; reviewed ones are left out.'),
     'po': ('NAME', 'go to an obligation', 'The prover does not try unasked what you have in hand.'),
@@ -41,7 +42,8 @@ WORDS = {
     'quit': ('', 'end', 'What was answered is kept.')}
 """From each word to its arguments, a line, and more."""
 
-RAW = {'status': 'the status of each obligation', 'build': 'build the texts as they are', 'show': 'PO [PATH]: a sequent', 'step': 'PO PATH RULE ITEMS: a rule at a leaf',
+RAW = {'status': 'the status of each obligation', 'build': 'build the texts as they are',
+       'show': 'PO [PATH]: a sequent', 'step': 'PO PATH RULE ITEMS: a rule at a leaf',
        'delete': 'NAME: drop a component from the session', 'purge': 'remove the proofs of obligations that are gone', 'digest': 'the digest of what lasts'}
 """Commands of the session (docs/SESSION.md) that are no words of the prompt; they are sent as they are."""
 

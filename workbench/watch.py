@@ -1,8 +1,8 @@
 """`rodin-watch FOLDER`: the user's own editor; each save is built, faults and changed statuses are printed as they come.
 
-Faults are printed as FILE:LINE:COLUMN: text, with the folder as it was given before the file's name, warnings with `warning: ` before the text. `--once` builds and proves once, in a copy of
-the texts, and ends: 0 all is discharged, 1 a fault, 2 something isn't discharged (or with --reviewed neither discharged nor reviewed),
-3 the program or the folder failed.
+Faults are printed as FILE:LINE:COLUMN: text, with the folder as it was given before the file's name, warnings with `warning: ` before
+the text. `--once` builds and proves once, in a copy of the texts, and ends: 0 all is discharged, 1 a fault, 2 something isn't discharged
+(or with --reviewed neither discharged nor reviewed), 3 the program or the folder failed.
 """
 from __future__ import annotations
 
