@@ -117,7 +117,8 @@ function treeKeys (event) {
 // ---- What the user does
 
 export async function act (what, more = {}) {
-  if (!proof.po || proof.acting || !proof.look) return
+  if (!proof.po || !proof.look) return
+  if (proof.acting) return speak('still at work')
   proof.acting = true
   await proof.looking // the node that was clicked last is the one that is meant
   const po = proof.po, asked = ++proof.asked

@@ -394,9 +394,12 @@ class Proving(Page):
         b.press('F6', SHIFT)
         b.until('document.activeElement.closest("#proof")')
         b.press('h')
+        still = '!document.getElementById("proof").hasAttribute("aria-busy") && !document.querySelector("[data-act=undo]").disabled'
         self.status('rel/thm1/THM', 'discharged')
+        b.until(still)
         b.press('u')
         b.until('document.querySelectorAll("#proof-tree .open").length === 1')
+        b.until(still.split(' && ', maxsplit=1)[0])
         b.press('r')
         b.until('document.querySelectorAll("#proof-tree .open").length === 0')
         b.press('Home')
