@@ -1,0 +1,4 @@
+pub mod Cases
+pub mod PrivateRows
+pub mod PrivateSearch
+pub mod PrivateWays
