@@ -4,8 +4,8 @@ use crate::term::{Head, Id, NONE, Span, Term, TypeHead};
 use formula_core::{Binder, Name, Op};
 use std::alloc::Global;
 
-/// How many chains the formulas stand in.
-const CHAINS: u32 = 16384;
+/// How many chains the formulas stand in at first. There are never less than half as many as formulas.
+const CHAINS: usize = 256;
 
 /// The most formulas of a bank.
 const MOST: usize = 2097152;
@@ -22,6 +22,7 @@ pub struct Bank {
     chains: Vec<Id>,
     pub(crate) types: Vec<TypeHead>,
     pub(crate) names: Vec<Name>,
+    pub(crate) marks: Vec<u32>,
 }
 
 impl Bank {
@@ -41,6 +42,7 @@ impl Bank {
             chains,
             types,
             names: Vec::new(alloc),
+            marks: Vec::new(alloc),
         })
     }
 
@@ -67,6 +69,7 @@ impl Bank {
                 loose: NONE,
                 size: 1,
                 mask: 0,
+                hash: 0,
                 next: NONE,
             },
         }
@@ -86,9 +89,8 @@ impl Bank {
 
     /// The formula with this head, these parts and these types of bound identifiers.
     pub fn add(&mut self, head: Head, parts: &[Id], types: &[Id], ty: Id) -> Result<Id, Stop> {
-        let chain = chain_of(head, parts, ty);
-        let first = self.first_of(chain);
-        let found = self.find(first, head, parts, types, ty);
+        let hash = hash_of(head, parts, ty);
+        let found = self.find(hash, head, parts, types, ty);
         if found != NONE {
             return Ok(found);
         }
@@ -102,28 +104,59 @@ impl Bank {
         }
         term.parts = self.add_span(parts)?;
         term.types = self.add_span(types)?;
-        term.next = first;
+        term.hash = hash;
         self.terms.push(term)?;
-        self.set_first(chain, id);
+        self.link(id as usize);
+        if self.terms.len() > self.chains.len().saturating_mul(2) {
+            self.widen()?;
+        }
         Ok(id)
+    }
+
+    /// Puts a formula at the head of its chain.
+    fn link(&mut self, id: usize) {
+        if id < self.terms.len() && id < MOST {
+            let hash = self.terms[id].hash;
+            let first = self.first_of(hash);
+            self.terms[id].next = first;
+            self.set_first(hash, id as u32);
+        }
+    }
+
+    /// Four times as many chains.
+    fn widen(&mut self) -> Result<(), Stop> {
+        let count = self.chains.len().saturating_mul(4);
+        self.chains.clear();
+        for _ in 0..count {
+            self.chains.push(NONE)?;
+        }
+        for id in 0..self.terms.len() {
+            self.link(id);
+        }
+        Ok(())
     }
 
     /// The formula with this head and these parts, or `NONE` where the bank lacks it. Nothing is added.
     pub fn existing(&self, head: Head, parts: &[Id], ty: Id) -> Id {
-        let first = self.first_of(chain_of(head, parts, ty));
-        self.find(first, head, parts, &[], ty)
+        self.find(hash_of(head, parts, ty), head, parts, &[], ty)
     }
 
-    fn first_of(&self, chain: u32) -> Id {
-        match self.chains.get(chain as usize) {
+    /// The place of a hash among the chains, whose number is a power of 2.
+    fn chain_of(&self, hash: u32) -> usize {
+        hash as usize & self.chains.len().saturating_sub(1)
+    }
+
+    fn first_of(&self, hash: u32) -> Id {
+        match self.chains.get(self.chain_of(hash)) {
             Some(first) => *first,
             None => NONE,
         }
     }
 
-    fn set_first(&mut self, chain: u32, id: Id) {
-        if (chain as usize) < self.chains.len() {
-            self.chains[chain as usize] = id;
+    fn set_first(&mut self, hash: u32, id: Id) {
+        let chain = self.chain_of(hash);
+        if chain < self.chains.len() {
+            self.chains[chain] = id;
         }
     }
 
@@ -141,14 +174,14 @@ impl Bank {
         })
     }
 
-    fn find(&self, first: Id, head: Head, parts: &[Id], types: &[Id], ty: Id) -> Id {
-        let mut at = first;
+    fn find(&self, hash: u32, head: Head, parts: &[Id], types: &[Id], ty: Id) -> Id {
+        let mut at = self.first_of(hash);
         for _ in 0..self.terms.len() {
-            if at == NONE {
+            let Some(term) = self.terms.get(at as usize) else {
                 return NONE;
-            }
-            let term = self.term(at);
-            if term.head == head
+            };
+            if term.hash == hash
+                && term.head == head
                 && term.ty == ty
                 && self.is_span(term.parts, parts)
                 && self.is_span(term.types, types)
@@ -195,6 +228,7 @@ impl Bank {
             loose,
             size,
             mask: self.mask_of(names),
+            hash: 0,
             next: NONE,
         })
     }
@@ -291,11 +325,11 @@ fn binder_number(binder: Binder) -> u32 {
     binder.number() as u32
 }
 
-fn chain_of(head: Head, parts: &[Id], ty: Id) -> u32 {
+fn hash_of(head: Head, parts: &[Id], ty: Id) -> u32 {
     let mut hash = mixed(2166136261, head_number(head));
     hash = mixed(hash, ty);
     for part in parts {
         hash = mixed(hash, *part);
     }
-    hash % CHAINS
+    hash ^ hash >> 15
 }

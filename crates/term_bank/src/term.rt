@@ -39,6 +39,7 @@ pub struct Term {
     pub loose: u32,
     pub size: u32,
     pub mask: u64,
+    pub hash: u32,
     pub next: Id,
 }
 

@@ -57,16 +57,25 @@ impl Bank {
 
     /// The number of a name.
     pub fn name(&mut self, name: &Name) -> Result<u32, Stop> {
+        let mark = mark_of(name);
         let mut at: u32 = 0;
-        for other in &self.names {
-            if other.same(name) {
+        for other in &self.marks {
+            if *other == mark && self.is_name(at, name) {
                 return Ok(at);
             }
             at = at.saturating_add(1);
         }
         let copy = name.copy(self.alloc)?;
         self.names.push(copy)?;
+        self.marks.push(mark)?;
         Ok(at)
+    }
+
+    fn is_name(&self, at: u32, name: &Name) -> bool {
+        match self.names.get(at as usize) {
+            Some(other) => other.same(name),
+            None => false,
+        }
     }
 
     /// How many names there are.
@@ -153,4 +162,13 @@ impl Bank {
             }
         }
     }
+}
+
+/// A number of a name, the same for the same names.
+fn mark_of(name: &Name) -> u32 {
+    let mut mark: u32 = 2166136261;
+    for byte in name.as_text().as_bytes() {
+        mark = (mark ^ *byte as u32).wrapping_mul(16777619);
+    }
+    mark
 }
