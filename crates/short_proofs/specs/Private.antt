@@ -1,5 +1,5 @@
 -- What only private contracts cite.
-use Rattle.std.specs.Prelude.{ℕ, ℤ, List, [], ◌∷◌, Option, Some, None, ◌==◌, if◌then◌else◌}
+use Rattle.std.specs.Prelude.{ℕ, ℤ, pos, negsuc, List, [], ◌∷◌, Option, Some, None, ◌==◌, if◌then◌else◌}
 use Rattle.std.specs.Option.{option_map_or}
 use Rattle.formula_core.specs.declared.Op.TheVariants as op
 use Rattle.formula_core.specs.declared.Formula.{Formula}
@@ -25,6 +25,11 @@ linear_tree ks hyps g = Node (rule_of (kind.Linear ks) (both g hyps [])) []
 
 abbrev pub linear_tree_if : List ℤ → List Formula → Formula → Option Tree
 linear_tree_if ks hyps g = if is_linear_step ks hyps g then Some (linear_tree ks hyps g) else None
+
+-- the tree of a linear step in which a formula is used with the multiplier 1, or else with −1
+abbrev pub either_tree_if : Formula → Formula → Option Tree
+either_tree_if f g =
+    if is_linear_step (pos 1 ∷ []) (f ∷ []) g then Some (linear_tree (pos 1 ∷ []) (f ∷ []) g) else linear_tree_if (negsuc 0 ∷ []) (f ∷ []) g
 
 -- a tree below the law by which the goal f, or the hypothesis f, is read as g; the law 0 is none
 abbrev pub below_goal : ℕ → Formula → Formula → Tree → Tree

@@ -1,23 +1,23 @@
 //! Proofs by one linear step.
 ghost use Rattle.std.specs.Prelude.{◌≡◌, ◌≢◌, ◌↔◌, ◌∷◌, [], ℤ, IsTrue, IsSome, IfOk, IfSome, Contains, ◌||◌};
 ghost use Rattle.std.specs.List.{list_any};
-ghost use Rattle.std.specs.Option.{option_map};
 ghost use Rattle.rule_table.specs.declared.kind.RuleKind.TheVariants as kind;
 ghost use Rattle.rule_table.specs.Rows.{adds, backward, both, forward, proves};
 ghost use Rattle.rule_table.specs.Rules.{IsSound};
 ghost use Rattle.sequent_core.specs.Sequents.{IsSequent};
-ghost use Rattle.short_proofs.specs.Private.{below_goal, below_hyp, law_of_reading, linear_tree_if};
+ghost use Rattle.short_proofs.specs.Private.{below_goal, below_hyp, either_tree_if, law_of_reading, linear_tree_if};
 ghost use Rattle.short_proofs.specs.Short.{IsShortProof};
 ghost use Rattle.short_proofs.specs.Sure.{IsSmallSequent, IsSureByArithmetic, as_comparison, follows_from, is_linear_step};
 
 use crate::reading::{Reading, read};
 use crate::rules::{above, alone, goal_by_law, hyp_by_law, rule_of};
-use crate::tests::{bottom, is_small};
+use crate::tests::{bottom, is_small, may_be_goal, may_be_multiplied};
 use formula_core::{Formula, List, OutOfMemory};
-use rule_table::{RuleKind, one};
+use rule_table::RuleKind;
 use rules_arith::linear_step_of;
 use sequent_core::{Sequent, Tree};
 use std::alloc::Global;
+use std::slice;
 
 /// A short proof, where the sequent is one that is surely proved by arithmetic.
 pub fn proof_by_arithmetic(alloc: Global, sequent: &Sequent) -> Result<Option<Tree>, OutOfMemory>
@@ -45,7 +45,7 @@ fn from_nothing(alloc: Global, sequent: &Sequent) -> Result<Option<Tree>, OutOfM
     let Some(tree) = linear_tree(alloc, List::of(Vec::new(alloc)), &[], &goal.formula)? else {
         return Ok(None);
     };
-    Ok(Some(below_goal(alloc, &sequent.goal, goal, tree)?))
+    Ok(Some(below_goal(alloc, &sequent.goal, &goal, tree)?))
 }
 
 /// A proof in which one hypothesis is used.
@@ -56,73 +56,57 @@ fn from_any(alloc: Global, sequent: &Sequent) -> Result<Option<Tree>, OutOfMemor
         ↔ IsTrue (list_any (λ h. follows_from (as_comparison sequent.now.goal) (as_comparison h)) sequent.now.hyps)) }
     ensures short { IfOk result (λ o. IfSome o (λ tree. IsShortProof tree sequent.now)) }
 {
+    let goal = read(alloc, &sequent.goal)?;
+    if !may_be_goal(&goal.formula) {
+        return Ok(None);
+    }
     let hyps = sequent.hyps.items();
     for hyp in hyps {
-        if let Some(tree) = from_hypothesis(alloc, sequent, hyp)? {
+        if let Some(tree) = from_hypothesis(alloc, sequent, &goal, hyp)? {
             return Ok(Some(tree));
         }
     }
     Ok(None)
 }
 
+/// A proof in which a hypothesis is used, for the goal as it is read.
 fn from_hypothesis(
     alloc: Global,
     sequent: &Sequent,
+    goal: &Reading,
     hyp: &Formula,
 ) -> Result<Option<Tree>, OutOfMemory>
     requires sequent { IsSequent sequent.now }
     requires small { IsSmallSequent sequent.now }
     requires among { Contains sequent.now.hyps hyp.now }
+    requires goal { goal.now.formula ≡ as_comparison sequent.now.goal }
+    requires law { goal.now.law ≡ law_of_reading sequent.now.goal }
     ensures sure { IfOk result (λ o.
         IsSome o ↔ IsTrue (follows_from (as_comparison sequent.now.goal) (as_comparison hyp.now))) }
     ensures short { IfOk result (λ o. IfSome o (λ tree. IsShortProof tree sequent.now)) }
 {
-    if let Some(tree) = from_multiple(alloc, sequent, hyp, 1)? {
-        return Ok(Some(tree));
-    }
-    from_multiple(alloc, sequent, hyp, -1)
-}
-
-/// A proof in which a hypothesis is used with a multiplier.
-fn from_multiple(
-    alloc: Global,
-    sequent: &Sequent,
-    hyp: &Formula,
-    multiplier: i128,
-) -> Result<Option<Tree>, OutOfMemory>
-    requires sequent { IsSequent sequent.now }
-    requires small { IsSmallSequent sequent.now }
-    requires among { Contains sequent.now.hyps hyp.now }
-    ensures sure { IfOk result (λ o. IsSome o
-        ↔ IsTrue (is_linear_step (multiplier ∷ []) (as_comparison hyp.now ∷ []) (as_comparison sequent.now.goal))) }
-    ensures short { IfOk result (λ o. IfSome o (λ tree. IsShortProof tree sequent.now)) }
-{
-    let goal = read(alloc, &sequent.goal)?;
-    let Some(tree) = multiple_tree(alloc, hyp, multiplier, &goal.formula)? else {
+    let reading = read(alloc, hyp)?;
+    let Some(tree) = step_by_either(alloc, &reading.formula, &goal.formula)? else {
         return Ok(None);
     };
+    let tree = below_hyp(alloc, hyp, reading, tree)?;
     Ok(Some(below_goal(alloc, &sequent.goal, goal, tree)?))
 }
 
-/// The tree of a linear step in which a hypothesis is used, as it is read, with a multiplier.
-fn multiple_tree(
+/// The tree of a linear step in which a formula is used with the multiplier 1, or −1.
+#[tactic(auto, using(crate::proofs::Steps::by_first, crate::proofs::Steps::by_second))]
+fn step_by_either(
     alloc: Global,
-    hyp: &Formula,
-    multiplier: i128,
+    used: &Formula,
     goal: &Formula,
 ) -> Result<Option<Tree>, OutOfMemory>
-    requires step { IsSound (kind.Linear (multiplier ∷ [])) (both goal.now (as_comparison hyp.now ∷ []) []) }
-    requires law { law_of_reading hyp.now ≢ 0
-        → IsSound (kind.RwHyp (law_of_reading hyp.now) [])
-        (forward (hyp.now ∷ []) (adds (as_comparison hyp.now ∷ []) ∷ [])) }
-    ensures tree { IfOk result (λ o. o ≡ option_map (below_hyp (law_of_reading hyp.now) hyp.now (as_comparison hyp.now))
-        (linear_tree_if (multiplier ∷ []) (as_comparison hyp.now ∷ []) goal.now)) }
+    requires sound { IsSound (kind.Linear []) (both goal.now (used.now ∷ []) []) }
+    ensures tree { IfOk result (λ o. o ≡ either_tree_if used.now goal.now) }
 {
-    let reading = read(alloc, hyp)?;
-    let Some(tree) = step_from(alloc, &reading.formula, multiplier, goal)? else {
-        return Ok(None);
-    };
-    Ok(Some(below_hyp(alloc, hyp, reading, tree)?))
+    if let Some(tree) = step_from(alloc, used, 1, goal)? {
+        return Ok(Some(tree));
+    }
+    step_from(alloc, used, -1, goal)
 }
 
 /// The tree of a linear step in which a formula is used with a multiplier.
@@ -135,9 +119,11 @@ fn step_from(
     requires sound { IsSound (kind.Linear (multiplier ∷ [])) (both goal.now (used.now ∷ []) []) }
     ensures tree { IfOk result (λ o. o ≡ linear_tree_if (multiplier ∷ []) (used.now ∷ []) goal.now) }
 {
-    let hyps = one(alloc, used.copy(alloc)?)?;
+    if !may_be_multiplied(used, multiplier) {
+        return Ok(None);
+    }
     let by = one_number(alloc, multiplier)?;
-    linear_tree(alloc, by, hyps.items(), goal)
+    linear_tree(alloc, by, slice::from_ref(used), goal)
 }
 
 fn one_number(alloc: Global, n: i128) -> Result<List<i128>, OutOfMemory>
@@ -170,18 +156,18 @@ fn linear_tree(
 fn below_goal(
     alloc: Global,
     goal: &Formula,
-    reading: Reading,
+    reading: &Reading,
     tree: Tree,
 ) -> Result<Tree, OutOfMemory>
-    requires sound { reading.law ≢ 0
-        → IsSound (kind.RwGoal reading.law []) (backward goal.now (proves reading.formula ∷ [])) }
-    ensures tree { IfOk result (λ t. t ≡ below_goal reading.law goal.now reading.formula tree) }
+    requires sound { reading.now.law ≢ 0
+        → IsSound (kind.RwGoal reading.now.law []) (backward goal.now (proves reading.now.formula ∷ [])) }
+    ensures tree { IfOk result (λ t. t ≡ below_goal reading.now.law goal.now reading.now.formula tree) }
 {
-    let Reading { formula, law } = reading;
-    if law == 0 {
+    if reading.law == 0 {
         return Ok(tree);
     }
-    let rule = goal_by_law(alloc, law, goal, formula)?;
+    let formula = reading.formula.copy(alloc)?;
+    let rule = goal_by_law(alloc, reading.law, goal, formula)?;
     above(alloc, rule, tree)
 }
 
