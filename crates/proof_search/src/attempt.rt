@@ -1,6 +1,7 @@
 //! Attempts to prove a sequent, each with more fuel.
 use crate::finder::Finder;
-use search_facts::{Facts, Limits};
+use search_facts::{Counts, Facts, Limits};
+use search_instances::tells_pairs;
 use search_steps::{Id, Search, Stop};
 use search_terms::{Branch, Comparisons};
 use sequent_core::{Sequent, Tree};
@@ -58,13 +59,28 @@ pub fn searched(
     budget: u32,
     passes: Passes,
 ) -> Result<Option<Tree>, Stop> {
-    if let Some(tree) = attempted(alloc, sequent, budget, passes, FIRST)? {
-        return Ok(Some(tree));
+    match attempted(alloc, sequent, budget, passes, FIRST)? {
+        Outcome::Found(tree) => return Ok(Some(tree)),
+        Outcome::Exhausted => return Ok(None),
+        Outcome::HeldBack => {}
     }
-    if let Some(tree) = attempted(alloc, sequent, budget, passes, SECOND)? {
-        return Ok(Some(tree));
+    match attempted(alloc, sequent, budget, passes, SECOND)? {
+        Outcome::Found(tree) => return Ok(Some(tree)),
+        Outcome::Exhausted => return Ok(None),
+        Outcome::HeldBack => {}
     }
-    attempted(alloc, sequent, budget, passes, THIRD)
+    match attempted(alloc, sequent, budget, passes, THIRD)? {
+        Outcome::Found(tree) => Ok(Some(tree)),
+        _ => Ok(None),
+    }
+}
+
+/// What came of an attempt: a tree, nothing that more fuel could change, or nothing.
+#[derive(Drop)]
+enum Outcome {
+    Found(Tree),
+    Exhausted,
+    HeldBack,
 }
 
 fn attempted(
@@ -73,9 +89,9 @@ fn attempted(
     budget: u32,
     passes: Passes,
     attempt: Attempt,
-) -> Result<Option<Tree>, Stop> {
+) -> Result<Outcome, Stop> {
     match found(alloc, sequent, budget, passes, attempt) {
-        Err(Stop::Spent) => Ok(None),
+        Err(Stop::Spent) => Ok(Outcome::HeldBack),
         other => other,
     }
 }
@@ -86,7 +102,7 @@ fn found(
     budget: u32,
     passes: Passes,
     attempt: Attempt,
-) -> Result<Option<Tree>, Stop> {
+) -> Result<Outcome, Stop> {
     let mut search = Search::new(alloc, &sequent.env)?;
     let hyps = search.hypotheses(sequent)?;
     let goal = search.formula_of(&sequent.goal)?;
@@ -101,33 +117,42 @@ fn found(
         facts: Facts {
             search,
             comparisons: Comparisons::new(alloc),
+            counts: Counts::new(alloc),
             near,
             unfolds: passes.unfolds,
             reckons: passes.reckons,
         },
         active: Vec::new(alloc),
         rounds: attempt.limits.rounds,
+        held_back: false,
     };
-    let mut branch = first_branch(alloc, &finder, &hyps, goal, attempt)?;
+    let mut branch = first_branch(alloc, &mut finder, &hyps, goal, attempt)?;
     match finder.solve(&mut branch, attempt.limits, 400)? {
         Some(proof) if finder.facts.search.proof(proof).size <= budget => {
-            Ok(Some(finder.facts.search.tree(proof, HIGHEST)?))
+            let tree = finder.facts.search.tree(proof, HIGHEST)?;
+            Ok(Outcome::Found(tree))
         }
-        _ => Ok(None),
+        None if !finder.held_back => Ok(Outcome::Exhausted),
+        _ => Ok(Outcome::HeldBack),
     }
 }
 
 fn first_branch(
     alloc: Global,
-    finder: &Finder,
+    finder: &mut Finder,
     hyps: &[Id],
     goal: Id,
     attempt: Attempt,
 ) -> Result<Branch, Stop> {
     let mut branch = Branch::new(alloc, goal);
     for hyp in hyps {
-        if !attempt.only_near || finder.shares_name(*hyp) {
+        if !attempt.only_near
+            || finder.shares_name(*hyp)
+            || tells_pairs(&finder.facts.search.bank, *hyp)
+        {
             let _ = branch.add(*hyp)?;
+        } else {
+            finder.held_back = true;
         }
     }
     Ok(branch)

@@ -2,10 +2,10 @@
 use crate::finder::Finder;
 use formula_core::Op;
 use search_facts::{Limits, Next, Plan, Turn, Way};
-use search_instances::best_instance;
+use search_instances::{best_instance, pair_of_value};
 use search_passes::{
-    application, bounds_of_values, equal_arguments, equal_bounds, goal_step, nearest_clause,
-    propagate, saturate, split, truth_value,
+    application, bounds_of_values, cardinality, equal_arguments, equal_bounds, goal_step,
+    nearest_clause, propagate, saturate, split, truth_value,
 };
 use search_steps::{Id, Kind, LOOKS, Link, Stop};
 use search_terms::Branch;
@@ -17,6 +17,8 @@ const MOST_TURNS: u32 = 20000;
 const NEAR: u32 = 120;
 
 const FAR: u32 = 4294967295;
+
+const STILL: Next = Next::Turn(Turn::Still);
 
 impl Finder {
     /// A proof of the branch's goal, if one is found.
@@ -84,7 +86,27 @@ impl Finder {
         if !is_still(next) {
             return Ok(next);
         }
+        let next = self.next_of_types(b)?;
+        if !is_still(next) {
+            return Ok(next);
+        }
         self.next_instance(b, limits)
+    }
+
+    /// What the types of values say, looked for where hypotheses have come.
+    fn next_of_types(&mut self, b: &mut Branch) -> Result<Next, Stop> {
+        if b.seen == b.order.len() {
+            return Ok(STILL);
+        }
+        let next = pair_of_value(&mut self.facts, b)?;
+        if !is_still(next) {
+            return Ok(next);
+        }
+        let next = cardinality(&mut self.facts, b)?;
+        if is_still(next) {
+            b.seen = b.order.len();
+        }
+        Ok(next)
     }
 
     fn next_instance(&mut self, b: &mut Branch, limits: &mut Limits) -> Result<Next, Stop> {
@@ -139,6 +161,10 @@ impl Finder {
             if let Some(clause) = nearest_clause(&mut self.facts, b, FAR)? {
                 return split(&mut self.facts, b, clause, *limits);
             }
+        }
+        let is_aside = !self.active.is_empty();
+        if !may_turn || !is_aside && (limits.splits == 0 || limits.rounds == 0) {
+            self.held_back = true;
         }
         Ok(Next::Turn(Turn::Failed))
     }

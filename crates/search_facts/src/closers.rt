@@ -1,6 +1,7 @@
 //! Hypotheses that close a branch.
 use crate::facts::Facts;
 use formula_core::Op;
+use rule_table::Law;
 use search_steps::{Id, Kind, Search, Stop};
 use search_terms::Branch;
 
@@ -34,6 +35,11 @@ impl Facts {
         if b.has(f) {
             return self.opposites(f, h);
         }
+        if f == self.search.top {
+            let inner = self.ended(Search::on_goal(Kind::Top, f))?;
+            let step = self.on(Kind::NotL, h)?;
+            return self.topped(step, inner);
+        }
         if self.search.bank.is(f, Op::Equal) {
             let (left, right) = self.search.bank.two(f);
             if left == right {
@@ -44,7 +50,7 @@ impl Facts {
             let turned = self.search.bank.turned(f)?;
             if b.has(turned) {
                 let inner = self.opposites(f, h)?;
-                let step = self.search.rewriting(turned, 10, &[])?;
+                let step = self.search.rewriting(turned, Law::EqualTurned, &[])?;
                 return self.topped(step, inner);
             }
         }
@@ -52,7 +58,7 @@ impl Facts {
         if self.search.bank.is(f, Op::Member) && self.is_whole(set)? {
             let top = self.search.top;
             let inner = self.ended(Search::on_goal(Kind::Top, top))?;
-            let law = self.search.rewriting_goal(f, 55, &[])?;
+            let law = self.search.rewriting_goal(f, Law::MemberOfWhole, &[])?;
             let inner = self.topped(law, inner)?;
             let step = self.on(Kind::NotL, h)?;
             return self.topped(step, inner);
@@ -66,7 +72,7 @@ impl Facts {
         let (left, right) = self.search.bank.two(h);
         if b.has(negated) {
             let inner = self.opposites(turned, negated)?;
-            let step = self.search.rewriting(h, 10, &[])?;
+            let step = self.search.rewriting(h, Law::EqualTurned, &[])?;
             return self.topped(step, inner);
         }
         if left == self.search.yes && right == self.search.no {
@@ -76,7 +82,7 @@ impl Facts {
         if left == self.search.no && right == self.search.yes {
             let step = self.on(Kind::BoolDiff, turned)?;
             let inner = self.ended(step)?;
-            let law = self.search.rewriting(h, 10, &[])?;
+            let law = self.search.rewriting(h, Law::EqualTurned, &[])?;
             return self.topped(law, inner);
         }
         self.contradiction_of_bound(h)

@@ -1,7 +1,11 @@
 //! What a search for a proof keeps, and which passes it makes.
+use crate::fourier::Counts;
 use formula_core::Op;
+use rule_table::Law;
 use search_steps::{Bank, Id, Search, Span, Stop};
-use search_terms::{Branch, Comparison, Comparisons, is_arrow, is_whole, law_for, oriented};
+use search_terms::{
+    Branch, Comparison, Comparisons, is_arrow, is_of_integers, is_whole, law_for, oriented,
+};
 
 /// How many formulas below one another are looked into.
 pub(crate) const LEVELS: u32 = 64;
@@ -11,6 +15,7 @@ pub(crate) const LEVELS: u32 = 64;
 pub struct Facts {
     pub search: Search,
     pub comparisons: Comparisons,
+    pub counts: Counts,
     pub near: Span,
     pub unfolds: bool,
     pub reckons: bool,
@@ -22,8 +27,8 @@ impl Facts {
         is_whole(&mut self.search.bank, set)
     }
 
-    /// The number of the law that opens a formula at its root, or 0.
-    pub fn law_for(&mut self, f: Id) -> Result<u8, Stop> {
+    /// The law that opens a formula at its root.
+    pub fn law_for(&mut self, f: Id) -> Result<Option<Law>, Stop> {
         law_for(&mut self.search.bank, f)
     }
 
@@ -55,15 +60,16 @@ impl Facts {
     }
 
     /// The law that opens a formula, as far as the search unfolds sets.
-    pub fn law_to_open(&mut self, f: Id) -> Result<u8, Stop> {
-        let law = self.law_for(f)?;
-        if self.unfolds || law == 8 || law == 9 || law == 10 {
-            return Ok(law);
-        }
-        if self.reckons && law >= 61 {
-            return Ok(law);
-        }
-        Ok(if law == 55 { 55 } else { 0 })
+    pub fn law_to_open(&mut self, f: Id) -> Result<Option<Law>, Stop> {
+        let found = self.law_for(f)?;
+        let Some(law) = found else {
+            return Ok(None);
+        };
+        let is_open = match law {
+            Law::BoolIsTrue | Law::BoolIsFalse | Law::EqualTurned | Law::MemberOfWhole => true,
+            _ => self.unfolds || self.reckons && is_of_integers(law),
+        };
+        Ok(if is_open { found } else { None })
     }
 
     /// Notes the bounds that a hypothesis gives.

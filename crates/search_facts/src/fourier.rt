@@ -1,8 +1,8 @@
 //! Linear arithmetic over many hypotheses: atoms are eliminated, and the multipliers kept.
 use crate::facts::Facts;
-use crate::triggers::is_in;
 use search_steps::{Id, Stop};
 use search_terms::{Branch, Form, add_atom, form_of};
+use std::alloc::Global;
 
 /// The most rows that are kept.
 const MOST_ROWS: usize = 160;
@@ -11,8 +11,112 @@ const MOST_ROWS: usize = 160;
 #[derive(Drop)]
 struct Row {
     form: Form,
+    mark: u64,
     is_equation: bool,
     by: Vec<(Id, i128)>,
+}
+
+/// How many rows have an atom positive and how many negative, by the atom's number, and which atoms these are.
+#[derive(Drop)]
+pub struct Counts {
+    table: Vec<(u32, u32)>,
+    atoms: Vec<Id>,
+}
+
+impl Counts {
+    pub fn new(alloc: Global) -> Counts {
+        Counts {
+            table: Vec::new(alloc),
+            atoms: Vec::new(alloc),
+        }
+    }
+
+    fn of(&self, atom: Id) -> (u32, u32) {
+        match self.table.get(atom as usize) {
+            Some(found) => *found,
+            None => (0, 0),
+        }
+    }
+
+    fn clear(&mut self) {
+        for _ in 0..self.atoms.len() {
+            if let Some(atom) = self.atoms.pop() {
+                let at = atom as usize;
+                if at < self.table.len() {
+                    self.table[at] = (0, 0);
+                }
+            }
+        }
+    }
+
+    /// Counts anew.
+    fn count(&mut self, rows: &[Row]) -> Result<(), Stop> {
+        self.clear();
+        for row in rows {
+            for atom in &row.form.atoms {
+                self.note(atom.0, atom.1 > 0)?;
+            }
+        }
+        Ok(())
+    }
+
+    fn note(&mut self, atom: Id, is_positive: bool) -> Result<(), Stop> {
+        for _ in self.table.len()..(atom as usize).saturating_add(1) {
+            self.table.push((0, 0))?;
+        }
+        let (above, below) = self.of(atom);
+        if above == 0 && below == 0 {
+            self.atoms.push(atom)?;
+        }
+        if (atom as usize) < self.table.len() {
+            self.table[atom as usize] = if is_positive {
+                (above.saturating_add(1), below)
+            } else {
+                (above, below.saturating_add(1))
+            };
+        }
+        Ok(())
+    }
+
+    /// The atom without which there are the fewest rows; the smallest of these.
+    fn cheapest(&self) -> Option<Id> {
+        let mut best: Option<(i64, Id)> = None;
+        for atom in &self.atoms {
+            let cost = cost_of(self.of(*atom));
+            let is_better = match best {
+                Some(found) => cost < found.0 || cost == found.0 && *atom < found.1,
+                None => true,
+            };
+            if is_better {
+                best = Some((cost, *atom));
+            }
+        }
+        match best {
+            Some(found) => Some(found.1),
+            None => None,
+        }
+    }
+
+    /// Whether an atom of the row has one sign in all rows.
+    fn is_idle(&self, row: &Row) -> bool {
+        for atom in &row.form.atoms {
+            let (above, below) = self.of(atom.0);
+            if above == 0 || below == 0 {
+                return true;
+            }
+        }
+        false
+    }
+}
+
+/// A number of some atoms, the same for the same ones.
+fn mark_of(atoms: &[(Id, i128)]) -> u64 {
+    let mut mark: u64 = 14695981039346656037;
+    for atom in atoms {
+        mark = (mark ^ atom.0 as u64).wrapping_mul(1099511628211);
+        mark = (mark ^ (atom.1 & 0xffffffff) as u64).wrapping_mul(1099511628211);
+    }
+    mark
 }
 
 fn magnitude(a: i128, b: i128) -> i128 {
@@ -109,8 +213,10 @@ impl Facts {
                 if let Some((form, is_equation)) = form_of(&self.search.bank, h)? {
                     let mut by = Vec::new(self.search.alloc());
                     by.push((h, 1))?;
+                    let mark = mark_of(&form.atoms);
                     rows.push(Row {
                         form,
+                        mark,
                         is_equation,
                         by,
                     })?;
@@ -131,6 +237,7 @@ impl Facts {
                 atoms: Vec::new(self.search.alloc()),
                 constant,
             },
+            mark: 0,
             is_equation: a.is_equation && b.is_equation,
             by: Vec::new(self.search.alloc()),
         };
@@ -142,7 +249,9 @@ impl Facts {
             return Ok(None);
         }
         let divisor = common_divisor(&row);
-        Ok(Some(self.divided(row, divisor)?))
+        let mut row = self.divided(row, divisor)?;
+        row.mark = mark_of(&row.form.atoms);
+        Ok(Some(row))
     }
 
     fn divided(&self, row: Row, divisor: i128) -> Result<Row, Stop> {
@@ -162,6 +271,7 @@ impl Facts {
                 atoms,
                 constant: quotient(row.form.constant, divisor),
             },
+            mark: 0,
             is_equation: row.is_equation,
             by,
         })
@@ -175,6 +285,9 @@ impl Facts {
                 return Ok(taken(rows, i));
             }
             self.search.look_over(rows.len())?;
+            if !has_equation(&rows) {
+                rows = self.without_idle(rows)?;
+            }
             let Some((atom, is_by_equation)) = self.next_atom(&rows)? else {
                 return Ok(None);
             };
@@ -191,7 +304,7 @@ impl Facts {
     }
 
     /// The atom that goes next, by an equation that has it or by pairs of rows.
-    fn next_atom(&self, rows: &[Row]) -> Result<Option<(Id, bool)>, Stop> {
+    fn next_atom(&mut self, rows: &[Row]) -> Result<Option<(Id, bool)>, Stop> {
         for row in rows {
             if row.is_equation {
                 if let Some(atom) = smallest_atom(row) {
@@ -199,35 +312,31 @@ impl Facts {
                 }
             }
         }
-        let mut best: Option<(i64, Id)> = None;
-        let atoms = self.atoms_of(rows)?;
-        for atom in &atoms {
-            let cost = cost_of(rows, *atom);
-            let is_better = match best {
-                Some(found) => cost < found.0 || cost == found.0 && *atom < found.1,
-                None => true,
-            };
-            if is_better {
-                best = Some((cost, *atom));
-            }
-        }
-        Ok(match best {
-            Some(found) => Some((found.1, false)),
+        self.counts.count(rows)?;
+        Ok(match self.counts.cheapest() {
+            Some(atom) => Some((atom, false)),
             None => None,
         })
     }
 
-    /// The atoms of some rows, each once.
-    fn atoms_of(&self, rows: &[Row]) -> Result<Vec<Id>, Stop> {
-        let mut atoms = Vec::new(self.search.alloc());
-        for row in rows {
-            for atom in &row.form.atoms {
-                if !is_in(&atoms, atom.0) {
-                    atoms.push(atom.0)?;
+    /// The rows of which each atom is positive in one row and negative in another.
+    fn without_idle(&mut self, rows: Vec<Row>) -> Result<Vec<Row>, Stop> {
+        let mut rows = rows;
+        for _ in 0..200u32 {
+            self.counts.count(&rows)?;
+            let before = rows.len();
+            let mut left = Vec::new(self.search.alloc());
+            for row in rows {
+                if !self.counts.is_idle(&row) {
+                    left.push(row)?;
                 }
             }
+            rows = left;
+            if rows.len() == before {
+                return Ok(rows);
+            }
         }
-        Ok(atoms)
+        Ok(rows)
     }
 
     /// Each row without an atom that an equation has; the equation goes.
@@ -295,7 +404,10 @@ impl Facts {
     /// Adds a row, unless one with the same atoms says as much.
     fn add_row(&self, row: Row, out: &mut Vec<Row>) -> Result<(), Stop> {
         for other in out.iter() {
-            if other.form.atoms == row.form.atoms && other.form.constant >= row.form.constant {
+            if other.mark == row.mark
+                && other.form.atoms == row.form.atoms
+                && other.form.constant >= row.form.constant
+            {
                 return Ok(());
             }
         }
@@ -348,21 +460,21 @@ fn equation_with(rows: &[Row], atom: Id) -> Option<usize> {
     None
 }
 
-/// How many rows more there are without an atom.
-fn cost_of(rows: &[Row], atom: Id) -> i64 {
-    let mut above: i64 = 0;
-    let mut below: i64 = 0;
-    for row in rows {
-        let multiple = multiple_in(row, atom);
-        if multiple > 0 {
-            above = above.saturating_add(1);
-        }
-        if multiple < 0 {
-            below = below.saturating_add(1);
-        }
-    }
+/// How many rows more there are without an atom that so many have positive and so many negative.
+fn cost_of(counts: (u32, u32)) -> i64 {
+    let above = counts.0 as i64;
+    let below = counts.1 as i64;
     above
         .saturating_mul(below)
         .saturating_sub(above)
         .saturating_sub(below)
+}
+
+fn has_equation(rows: &[Row]) -> bool {
+    for row in rows {
+        if row.is_equation && !row.form.atoms.is_empty() {
+            return true;
+        }
+    }
+    false
 }

@@ -1,8 +1,9 @@
 //! What the hypotheses say of a formula by short looks.
 use crate::facts::Facts;
 use formula_core::{Binder, Op};
+use rule_table::Law;
 use search_steps::{Bank, Head, Id, NONE, Stop};
-use search_terms::{Branch, is_plain};
+use search_terms::{Branch, is_of_partner, is_plain};
 
 /// Whether both hold, of two that may be known.
 fn and(a: Option<bool>, b: Option<bool>) -> Option<bool> {
@@ -106,11 +107,13 @@ impl Facts {
 
     #[cycle(known)]
     fn known_by_law(&mut self, b: &Branch, f: Id, levels: u32) -> Result<Option<bool>, Stop> {
-        let law = self.law_for(f)?;
-        if law == 55 {
+        let Some(law) = self.law_for(f)? else {
+            return Ok(None);
+        };
+        if law == Law::MemberOfWhole {
             return Ok(Some(true));
         }
-        if law == 0 || levels == 0 {
+        if levels == 0 {
             return Ok(None);
         }
         let opened = self.search.by_law(law, f)?;
@@ -120,7 +123,7 @@ impl Facts {
         if is_plain(law) {
             return self.known(b, opened, levels - 1);
         }
-        if law == 23 || law == 24 || law == 31 || law == 32 {
+        if is_of_partner(law) {
             return self.known_witness(b, opened, levels - 1);
         }
         Ok(None)
@@ -150,12 +153,16 @@ impl Facts {
                 return Ok(Some(known));
             }
         }
-        let law = self.law_for(f)?;
-        if (law == 54 || law == 8 || law == 9) && levels > 0 {
-            let opened = self.search.by_law(law, f)?;
-            return self.known(b, opened, levels - 1);
+        if levels == 0 {
+            return Ok(None);
         }
-        Ok(None)
+        match self.law_for(f)? {
+            Some(law) if is_plain(law) => {
+                let opened = self.search.by_law(law, f)?;
+                self.known(b, opened, levels - 1)
+            }
+            _ => Ok(None),
+        }
     }
 
     fn known_by_values(&self, left: Id, right: Id) -> Option<bool> {

@@ -12,5 +12,6 @@ mod triggers;
 mod witness;
 
 pub use facts::Facts;
+pub use fourier::Counts;
 pub use plan::{Limits, Next, Plan, Turn, Way};
 pub use triggers::{Trigger, is_in};

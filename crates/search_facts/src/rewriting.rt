@@ -1,6 +1,7 @@
 //! Equations of a branch, and what they rewrite.
 use crate::facts::{Facts, LEVELS};
 use formula_core::Op;
+use rule_table::Law;
 use search_steps::{Id, Kind, Link, NONE, Stop};
 use search_terms::{Branch, Equation, State};
 
@@ -14,7 +15,7 @@ impl Facts {
     ) -> Result<Id, Stop> {
         let wanted = self.search.bank.equal(equation.left, equation.right)?;
         if wanted != equation.hyp && !b.has(wanted) {
-            let step = self.search.rewriting(equation.hyp, 10, &[])?;
+            let step = self.search.rewriting(equation.hyp, Law::EqualTurned, &[])?;
             self.quiet(b, chain, step)?;
         }
         Ok(wanted)

@@ -1,5 +1,6 @@
 //! Steps taken in a branch.
 use crate::facts::Facts;
+use formula_core::Op;
 use search_steps::{Id, Kind, Link, NONE, Span, Step, Stop};
 use search_terms::Branch;
 
@@ -118,9 +119,24 @@ impl Facts {
         }
     }
 
+    /// Whether it is `∃..·x = E ↦ F`.
+    fn is_pair_alone(&self, id: Id) -> bool {
+        let body = self.search.bank.part(id, 0);
+        self.search.bank.is(body, Op::Equal)
+            && self
+                .search
+                .bank
+                .is(self.search.bank.part(body, 1), Op::Maplet)
+    }
+
     /// New names for the identifiers of a binder.
     pub fn names_for(&mut self, id: Id) -> Result<Span, Stop> {
-        let generation = self.search.generation(id).saturating_add(1);
+        let above = self.search.generation(id);
+        let generation = if self.is_pair_alone(id) {
+            above
+        } else {
+            above.saturating_add(1)
+        };
         let count = self.search.bank.term(id).types.count;
         let mut names: Vec<u32> = Vec::new(self.search.alloc());
         for _ in 0..count {

@@ -1,8 +1,9 @@
-//! The atoms and applications of a `∀` that are matched against what the branch has.
+//! The atoms and terms of a `∀` that are matched against what the branch has.
 use crate::facts::Facts;
 use formula_core::{Binder, Op};
-use search_steps::{Bank, Head, Id, NONE, Stop};
-use search_terms::is_plain;
+use rule_table::Law;
+use search_steps::{Bank, Head, Id, Stop};
+use search_terms::{is_of_integers, is_of_partner, is_plain};
 
 /// An atom or a term with bound identifiers, below so many inner ones.
 #[derive(Clone, Copy)]
@@ -15,11 +16,11 @@ pub struct Trigger {
 const MOST: usize = 24;
 
 impl Facts {
-    /// The triggers of a body: atoms first, then applications.
+    /// The triggers of a body: atoms first, then values of functions and integers that no linear step speaks of.
     pub fn triggers(&mut self, body: Id) -> Result<Vec<Trigger>, Stop> {
         let mut out = Vec::new(self.search.alloc());
         self.add_atoms(body, 0, &mut out, 32)?;
-        self.add_applications(body, 0, &mut out, 32)?;
+        self.add_values(body, 0, &mut out, 32)?;
         Ok(out)
     }
 
@@ -48,23 +49,22 @@ impl Facts {
             }
             Head::Node(_) => {
                 let law = self.law_for(f)?;
-                let is_listed = law == 23 || law == 24 || law == 31 || law == 32;
-                if !(is_plain(law) && law < 61) || is_listed {
+                if is_atom_by(law) {
                     out.push(Trigger { formula: f, depth })?;
                 }
-                if law != 0 && law < 61 && (is_plain(law) || is_listed || law == 46 || law == 17) {
-                    let opened = self.search.by_law(law, f)?;
-                    if opened != NONE {
-                        return self.add_atoms(opened, depth, out, levels - 1);
+                match law {
+                    Some(law) if has_atoms(law) => {
+                        let opened = self.search.by_law(law, f)?;
+                        self.add_atoms(opened, depth, out, levels - 1)
                     }
+                    _ => Ok(()),
                 }
-                Ok(())
             }
             _ => Ok(()),
         }
     }
 
-    fn add_applications(
+    fn add_values(
         &self,
         f: Id,
         depth: u32,
@@ -75,12 +75,12 @@ impl Facts {
         if levels == 0 || term.loose <= depth || out.len() >= MOST {
             return Ok(());
         }
-        if self.search.bank.is(f, Op::Apply) {
+        if self.is_value(f) {
             out.push(Trigger { formula: f, depth })?;
         }
         let inner = depth.saturating_add(term.types.count);
         for i in 0..term.parts.count {
-            self.add_applications(self.search.bank.at(term.parts, i), inner, out, levels - 1)?;
+            self.add_values(self.search.bank.at(term.parts, i), inner, out, levels - 1)?;
         }
         Ok(())
     }
@@ -105,6 +105,39 @@ impl Facts {
         Ok(())
     }
 
+    /// Closed values inside a formula, each once.
+    pub fn add_closed_values(&self, f: Id, out: &mut Vec<Id>, levels: u32) -> Result<(), Stop> {
+        let term = self.search.bank.term(f);
+        if levels == 0 {
+            return Ok(());
+        }
+        for i in 0..term.parts.count {
+            self.add_closed_values(self.search.bank.at(term.parts, i), out, levels - 1)?;
+        }
+        if term.loose == 0 && self.is_value(f) && !is_in(out, f) {
+            out.push(f)?;
+        }
+        Ok(())
+    }
+
+    /// Whether it is the value of a function, or an integer that no linear step speaks of.
+    fn is_value(&self, f: Id) -> bool {
+        self.search.bank.is(f, Op::Apply) || self.is_nonlinear(f)
+    }
+
+    /// Whether it is an integer that no linear step speaks of: a size, a least or greatest member, a quotient, a remainder
+    /// or a power.
+    pub fn is_nonlinear(&self, f: Id) -> bool {
+        match self.search.bank.operator(f) {
+            Some(op) => match op {
+                Op::Cardinality | Op::Minimum | Op::Maximum => true,
+                Op::Divide | Op::Modulo | Op::Power => true,
+                _ => false,
+            },
+            None => false,
+        }
+    }
+
     /// Small closed terms of a type inside a formula, each once.
     pub fn add_terms_of(&self, f: Id, ty: Id, out: &mut Vec<Id>, levels: u32) -> Result<(), Stop> {
         let term = self.search.bank.term(f);
@@ -122,6 +155,22 @@ impl Facts {
 
     pub fn is_predicate(&self, f: Id) -> bool {
         self.search.bank.ty(f) == Bank::TRUTH
+    }
+}
+
+/// Whether what a law opens, if one does, is matched itself.
+fn is_atom_by(law: Option<Law>) -> bool {
+    match law {
+        Some(law) => !is_plain(law) || is_of_integers(law),
+        None => true,
+    }
+}
+
+/// Whether what a law brings has atoms that are matched.
+fn has_atoms(law: Law) -> bool {
+    match law {
+        Law::Inclusion | Law::MemberOfComprehension => true,
+        _ => is_plain(law) && !is_of_integers(law) || is_of_partner(law),
     }
 }
 

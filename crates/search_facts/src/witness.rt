@@ -1,8 +1,12 @@
 //! Terms for an `∃`, from the memberships and equations of its body.
 use crate::facts::Facts;
 use formula_core::Op;
+use rule_table::Law;
 use search_steps::{Id, NONE, Stop};
-use search_terms::{Branch, filled, is_full, is_plain, matches, may_match, misses, unfilled};
+use search_terms::{
+    Branch, bounded, filled, is_full, is_of_integers, is_plain, matches, may_match, misses,
+    unfilled,
+};
 
 /// The most candidates.
 const MOST: usize = 12;
@@ -30,11 +34,12 @@ impl Facts {
             self.add_conjuncts(left, out, levels - 1)?;
             return self.add_conjuncts(right, out, levels - 1);
         }
-        let law = self.law_for(f)?;
-        if is_plain(law) && law != 55 && law < 60 {
-            let opened = self.search.by_law(law, f)?;
-            if opened != NONE {
-                return self.add_conjuncts(opened, out, levels - 1);
+        if let Some(law) = self.law_for(f)? {
+            if is_plain(law) && law != Law::MemberOfWhole && !is_of_integers(law) {
+                let opened = self.search.by_law(law, f)?;
+                if opened != NONE {
+                    return self.add_conjuncts(opened, out, levels - 1);
+                }
             }
         }
         out.push(f)?;
@@ -65,8 +70,31 @@ impl Facts {
                     return self.join_witness(b, atoms, more, found, levels - 1);
                 }
                 if self.search.bank.is(*atom, Op::Member) {
-                    return self.join_members(b, atoms, *atom, &terms, found, levels - 1);
+                    self.join_members(b, atoms, *atom, &terms, found, levels - 1)?;
+                    break;
                 }
+            }
+        }
+        self.join_bounds(b, atoms, &terms, found, levels - 1)
+    }
+
+    /// Fills a missing identifier by a bound, for each comparison that gives one.
+    #[cycle(joining)]
+    fn join_bounds(
+        &mut self,
+        b: &Branch,
+        atoms: &[Id],
+        terms: &[Id],
+        found: &mut Vec<Vec<Id>>,
+        levels: u32,
+    ) -> Result<(), Stop> {
+        if levels == 0 {
+            return Ok(());
+        }
+        for atom in atoms {
+            let mut more = Vec::from_slice(self.search.alloc(), terms)?;
+            if bounded(&mut self.search.bank, *atom, &mut more)? {
+                self.join_witness(b, atoms, more, found, levels - 1)?;
             }
         }
         Ok(())

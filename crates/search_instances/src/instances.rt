@@ -1,10 +1,11 @@
 //! Instances of universal hypotheses, found by matching, the best first.
+use crate::pairs::tells_pairs;
 use formula_core::{Binder, Op};
 use search_facts::{Facts, Next, Plan, Trigger, Turn, Way, is_in};
 use search_steps::{Bank, Head, Id, Kind, NONE, Stop};
 use search_terms::{
-    Branch, Instance, Spread, assembled, filled, is_full, is_plain, matches, may_match, misses,
-    take_apart, unfilled,
+    Branch, Instance, Spread, assembled, filled, is_full, is_plain, left_whole, matches, may_match,
+    misses, take_apart, unfilled,
 };
 
 /// The most candidates of one formula, and the most matches of one trigger.
@@ -68,7 +69,7 @@ fn ground_of(facts: &mut Facts, b: &Branch) -> Result<Ground, Stop> {
         };
         facts.search.look()?;
         if b.is_live(h) {
-            facts.add_closed_applications(h, &mut ground.applications, 40)?;
+            facts.add_closed_values(h, &mut ground.applications, 40)?;
         }
         if is_atom(facts, f) && (b.is_live(h) || facts.search.bank.is(f, Op::Member)) {
             ground.atoms.push(f)?;
@@ -175,7 +176,10 @@ fn is_bare(facts: &mut Facts, f: Id) -> Result<bool, Stop> {
     if !is_atom(facts, body) {
         return Ok(false);
     }
-    Ok(!is_plain(facts.law_for(body)?))
+    Ok(match facts.law_for(body)? {
+        Some(law) => !is_plain(law),
+        None => true,
+    })
 }
 
 /// Whether a trigger's set is an identifier of the binder.
@@ -184,14 +188,22 @@ fn is_loose_set(facts: &Facts, trigger: Trigger) -> bool {
     facts.search.bank.is(f, Op::Member) && is_index(facts, facts.search.bank.part(f, 1))
 }
 
-fn candidates(facts: &mut Facts, f: Id, ground: &Ground) -> Result<(Spread, Vec<Vec<Id>>), Stop> {
-    let spread = take_apart(&mut facts.search.bank, f)?;
+/// Terms for the identifiers of a `∀` as a spread has them.
+fn candidates(
+    facts: &mut Facts,
+    f: Id,
+    spread: &Spread,
+    ground: &Ground,
+) -> Result<Vec<Vec<Id>>, Stop> {
     let all = facts.triggers(spread.body)?;
     let mut triggers = Vec::new(facts.search.alloc());
     for trigger in &all {
         if !is_loose_set(facts, *trigger) {
             triggers.push(*trigger)?;
         }
+    }
+    if is_of_all(facts, f, 40)? {
+        triggers = for_values(facts, triggers, spread.count)?;
     }
     let mut found = Vec::new(facts.search.alloc());
     let terms = unfilled(facts.search.alloc(), spread.count)?;
@@ -208,7 +220,83 @@ fn candidates(facts: &mut Facts, f: Id, ground: &Ground) -> Result<(Spread, Vec<
         };
         join(facts, matching, 0, &terms, &mut found, 9)?;
     }
-    Ok((spread, found))
+    Ok(found)
+}
+
+/// Whether a formula has no names but those of sets of all values of a type.
+fn is_of_all(facts: &mut Facts, f: Id, levels: u32) -> Result<bool, Stop> {
+    let term = facts.search.bank.term(f);
+    if levels == 0 || term.names.count > 4 {
+        return Ok(false);
+    }
+    if term.names.count == 0 {
+        return Ok(true);
+    }
+    if facts.search.bank.is_free(f) {
+        return facts.is_whole(f);
+    }
+    for i in 0..term.parts.count {
+        let part = facts.search.bank.at(term.parts, i);
+        if !is_of_all(facts, part, levels - 1)? {
+            return Ok(false);
+        }
+    }
+    Ok(true)
+}
+
+/// Of the triggers of a law of integers or sets: the largest of those that no linear step speaks of and that have all
+/// identifiers, where there are such; else those that no linear step speaks of, if these have all identifiers together;
+/// else all.
+fn for_values(facts: &Facts, triggers: Vec<Trigger>, count: u32) -> Result<Vec<Trigger>, Stop> {
+    let mut whole: Vec<Trigger> = Vec::new(facts.search.alloc());
+    let mut some: Vec<Trigger> = Vec::new(facts.search.alloc());
+    let mut largest: u32 = 0;
+    for trigger in &triggers {
+        if trigger.depth == 0 && facts.is_nonlinear(trigger.formula) {
+            some.push(*trigger)?;
+            let size = facts.search.bank.size(trigger.formula);
+            if has_all(facts, &[*trigger], count)? && size >= largest {
+                if size > largest {
+                    whole.clear();
+                }
+                largest = size;
+                whole.push(*trigger)?;
+            }
+        }
+    }
+    if !whole.is_empty() {
+        return Ok(whole);
+    }
+    if !some.is_empty() && has_all(facts, &some, count)? {
+        return Ok(some);
+    }
+    Ok(triggers)
+}
+
+/// Whether each of so many identifiers stands in one of the triggers.
+fn has_all(facts: &Facts, triggers: &[Trigger], count: u32) -> Result<bool, Stop> {
+    for i in 0..count {
+        let mut terms: Vec<Id> = Vec::new(facts.search.alloc());
+        for j in 0..count {
+            terms.push(if i == j { NONE } else { 0 })?;
+        }
+        let mut is_there = false;
+        for trigger in triggers {
+            if misses(
+                &facts.search.bank,
+                trigger.formula,
+                trigger.depth,
+                &terms,
+                64,
+            ) {
+                is_there = true;
+            }
+        }
+        if !is_there {
+            return Ok(false);
+        }
+    }
+    Ok(true)
 }
 
 fn reversed(facts: &Facts, triggers: &[Trigger]) -> Result<Vec<Trigger>, Stop> {
@@ -432,7 +520,8 @@ fn add_instances(
     most: u32,
     out: &mut Vec<Instance>,
 ) -> Result<(), Stop> {
-    let (spread, mut found) = candidates(facts, f, ground)?;
+    let spread = take_apart(&mut facts.search.bank, f)?;
+    let mut found = candidates(facts, f, &spread, ground)?;
     let is_split = spread.count == facts.search.bank.term(f).types.count;
     if found.is_empty() && is_split {
         found = small_terms(facts, b, f)?;
@@ -443,7 +532,40 @@ fn add_instances(
         let whole = assembled(&mut facts.search.bank, &spread.shapes, terms)?;
         add_instance(facts, b, f, whole, allowed, out)?;
     }
+    if !is_split {
+        add_named_pairs(facts, b, f, ground, allowed, out)?;
+    }
     Ok(())
+}
+
+/// The instances of a hypothesis at values of product types that aren't written as pairs.
+fn add_named_pairs(
+    facts: &mut Facts,
+    b: &Branch,
+    f: Id,
+    ground: &Ground,
+    allowed: Allowed,
+    out: &mut Vec<Instance>,
+) -> Result<(), Stop> {
+    let spread = left_whole(&mut facts.search.bank, f)?;
+    let found = candidates(facts, f, &spread, ground)?;
+    for terms in &found {
+        if has_named_pair(&facts.search.bank, terms) {
+            let terms = Vec::from_slice(facts.search.alloc(), terms)?;
+            add_instance(facts, b, f, terms, allowed, out)?;
+        }
+    }
+    Ok(())
+}
+
+/// Whether a term has a product type and isn't written as a pair.
+fn has_named_pair(bank: &Bank, terms: &[Id]) -> bool {
+    for term in terms {
+        if bank.components(bank.ty(*term)).is_some() && !bank.is(*term, Op::Maplet) {
+            return true;
+        }
+    }
+    false
 }
 
 fn add_instance(
@@ -537,17 +659,21 @@ fn cost(
             })
         }
         Some(_) => {
-            let law = facts.law_for(f)?;
-            if !is_plain(law) {
-                return Ok(Some(1));
-            }
-            let opened = facts.search.by_law(law, f)?;
+            let opened = opened_plainly(facts, f)?;
             if opened == NONE {
                 return Ok(Some(1));
             }
             cost(facts, b, opened, holds, levels - 1)
         }
         None => Ok(Some(1)),
+    }
+}
+
+/// What a law without a quantifier makes of a formula, or `NONE`.
+fn opened_plainly(facts: &mut Facts, f: Id) -> Result<Id, Stop> {
+    match facts.law_for(f)? {
+        Some(law) if is_plain(law) => facts.search.by_law(law, f),
+        _ => Ok(NONE),
     }
 }
 
@@ -564,7 +690,8 @@ pub fn best_instance(facts: &mut Facts, b: &mut Branch, most: u32) -> Result<Nex
     let ground = ground_of(facts, b)?;
     for i in 0..b.order.len() {
         let f = b.at(i);
-        if b.is_live(f) && facts.search.bank.binds(f, Binder::ForAll) {
+        let is_universal = facts.search.bank.binds(f, Binder::ForAll);
+        if b.is_live(f) && is_universal && !tells_pairs(&facts.search.bank, f) {
             add_instances(facts, b, f, &ground, most, &mut found)?;
         }
     }
@@ -599,12 +726,22 @@ fn is_still_good(facts: &mut Facts, b: &Branch, waiting: &Instance) -> Result<bo
 }
 
 fn use_instance(facts: &mut Facts, b: &mut Branch, best: &Instance) -> Result<Next, Stop> {
-    let put = facts.put(best.of, &best.terms)?;
+    instance_at(facts, b, best.of, &best.terms)
+}
+
+/// The step that takes an instance of a hypothesis.
+pub(crate) fn instance_at(
+    facts: &mut Facts,
+    b: &mut Branch,
+    of: Id,
+    terms: &[Id],
+) -> Result<Next, Stop> {
+    let put = facts.put(of, terms)?;
     let mut note = b.note(put);
     note.done = true;
     b.set(put, note)?;
-    let mut step = facts.on(Kind::AllL, best.of)?;
-    step.terms = facts.search.list(&best.terms)?;
+    let mut step = facts.on(Kind::AllL, of)?;
+    step.terms = facts.search.list(terms)?;
     let Some(step) = facts.search.made(step)? else {
         return Ok(Next::Turn(Turn::Moved));
     };

@@ -2,5 +2,7 @@
 #![tactic(auto)]
 
 mod instances;
+mod pairs;
 
 pub use instances::best_instance;
+pub use pairs::{pair_of_value, tells_pairs};

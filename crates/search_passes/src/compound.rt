@@ -1,6 +1,7 @@
 //! Functions that operators make of others, at an argument: that they are functions, and have a value there.
 use crate::lemmas::{STILL, lemma, note_asked};
 use formula_core::Op;
+use rule_table::Law;
 use search_facts::{Facts, Limits, Next, Way};
 use search_steps::{Head, Id, NONE, Stop};
 use search_terms::Branch;
@@ -81,5 +82,5 @@ fn has_value(facts: &mut Facts, function: Id, argument: Id) -> Result<Id, Stop> 
         .bank
         .add(Head::Node(Op::Domain), &[function], &[], ty)?;
     let within = facts.search.bank.member(argument, domain)?;
-    facts.search.by_law(23, within)
+    facts.search.by_law(Law::MemberOfDomain, within)
 }

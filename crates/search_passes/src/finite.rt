@@ -1,6 +1,7 @@
 //! `finite(S)` of a set that is listed, or within one that is finite.
 use crate::lemmas::{lemma, note_asked};
 use formula_core::Op;
+use rule_table::Law;
 use search_facts::{Facts, Limits, Next, Turn, Way};
 use search_steps::{Bank, Head, Id, Kind, Link, Search, Stop};
 use search_terms::Branch;
@@ -28,6 +29,9 @@ pub(crate) fn goal_finite(
         if facts.forward(b, chain, step)? {
             return Ok(Some(Next::Turn(Turn::Moved)));
         }
+    }
+    if let Some(next) = listed_around(facts, b, set)? {
+        return Ok(Some(next));
     }
     if let Some(next) = finite_within(facts, b, goal, set)? {
         return Ok(Some(next));
@@ -59,6 +63,22 @@ fn is_listed(facts: &Facts, set: Id) -> bool {
         },
         None => false,
     }
+}
+
+/// Asks that a set is finite in which the set is by a hypothesis, where its members are listed.
+fn listed_around(facts: &mut Facts, b: &mut Branch, set: Id) -> Result<Option<Next>, Stop> {
+    for i in 0..b.order.len() {
+        let h = b.at(i);
+        let (left, right) = facts.search.bank.two(h);
+        if left == set && facts.search.bank.is(h, Op::Subset) && is_listed(facts, right) {
+            let finite = finite_of(facts, right)?;
+            if !b.has(finite) && !b.note(finite).done {
+                note_asked(b, finite)?;
+                return Ok(Some(lemma(facts, finite, WITHIN)?));
+            }
+        }
+    }
+    Ok(None)
 }
 
 /// By a hypothesis `finite(T)`: of `T = S ∪ (T ∖ S)` follows the goal.
@@ -117,7 +137,7 @@ fn finished(
     let inner = facts.ended(Search::on_goal(Kind::Hyp, goal))?;
     let step = facts.on(Kind::AndL, pair)?;
     let inner = facts.topped(step, inner)?;
-    let step = facts.search.rewriting(of_both, 58, &[])?;
+    let step = facts.search.rewriting(of_both, Law::FiniteUnion, &[])?;
     let inner = facts.topped(step, inner)?;
     let step = facts.search.on_hyps(Kind::EqHyp, &[equation, finite])?;
     match facts.topped(step, inner)? {

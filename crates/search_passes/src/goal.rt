@@ -1,7 +1,9 @@
 //! The goal is opened as a goal as far as it goes; then its negation is assumed.
+use crate::computing::goal_computed;
 use crate::finite::goal_finite;
 use crate::over::goal_override;
 use formula_core::{Binder, Op};
+use rule_table::Law;
 use search_facts::{Facts, Limits, Next, Plan, Turn, Way};
 use search_steps::{Head, Id, Kind, Link, NONE, Search, Span, Step, Stop};
 use search_terms::Branch;
@@ -22,7 +24,7 @@ pub fn goal_step(
     if let Some(proof) = goal_closed(facts, b, goal)? {
         return Ok(Next::Turn(Turn::Closed(proof)));
     }
-    if goal_rewritten(facts, b, chain, goal)? {
+    if goal_rewritten(facts, b, chain, goal)? || goal_computed(facts, b, chain, goal)? {
         return Ok(Next::Turn(Turn::Moved));
     }
     match facts.search.bank.term(goal).head {
@@ -51,7 +53,7 @@ fn goal_closed(facts: &mut Facts, b: &Branch, goal: Id) -> Result<Option<u32>, S
     let turned = facts.search.bank.turned(goal)?;
     if b.has(turned) {
         let inner = facts.ended(Search::on_goal(Kind::Hyp, turned))?;
-        let step = facts.search.rewriting_goal(goal, 10, &[])?;
+        let step = facts.search.rewriting_goal(goal, Law::EqualTurned, &[])?;
         return facts.topped(step, inner);
     }
     Ok(None)
@@ -185,8 +187,7 @@ fn goal_atom(
     chain: &mut Vec<Link>,
     goal: Id,
 ) -> Result<Next, Stop> {
-    let law = facts.law_to_open(goal)?;
-    if law != 0 {
+    if let Some(law) = facts.law_to_open(goal)? {
         let step = facts.search.rewriting_goal(goal, law, &[])?;
         return goal_by(facts, b, chain, step);
     }
@@ -197,7 +198,7 @@ fn goal_atom(
     }
     let (left, _) = facts.search.bank.two(goal);
     if facts.reckons && facts.search.bank.is(goal, Op::Equal) && facts.is_number(left) {
-        let step = facts.search.rewriting_goal(goal, 68, &[])?;
+        let step = facts.search.rewriting_goal(goal, Law::EqualIntegers, &[])?;
         return goal_by(facts, b, chain, step);
     }
     goal_refuted(facts, b, chain, goal)

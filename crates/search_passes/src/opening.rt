@@ -1,6 +1,8 @@
 //! Saturation: each new hypothesis closes, is rewritten, or is opened by one step.
+use crate::computing::computed;
 use crate::set_equations::open_equation;
 use formula_core::{Binder, Op};
+use rule_table::Law;
 use search_facts::Facts;
 use search_steps::{Head, Id, Kind, Link, Stop};
 use search_terms::{Branch, State, negation_law};
@@ -37,7 +39,7 @@ fn taken(
         let whole = facts.search.by_contradiction(b.goal, proof)?;
         return Ok(Some(whole));
     }
-    if facts.rewritten(b, chain, h)? {
+    if facts.rewritten(b, chain, h)? || computed(facts, b, chain, h)? {
         return Ok(None);
     }
     b.set_state(h, State::Live)?;
@@ -107,7 +109,7 @@ pub(crate) fn open_by_law(
     b: &mut Branch,
     chain: &mut Vec<Link>,
     h: Id,
-    law: u8,
+    law: Law,
     place: &[u32],
 ) -> Result<(), Stop> {
     let step = facts.search.rewriting(h, law, place)?;
@@ -125,16 +127,19 @@ fn open_negation(
     match facts.search.bank.term(f).head {
         Head::Bind(Binder::ForAll) => {
             b.set_state(h, State::Opened)?;
-            open_by_law(facts, b, chain, h, 6, &[])
+            open_by_law(facts, b, chain, h, Law::NegatedForAll, &[])
         }
         Head::Bind(Binder::Exists) => {
             b.set_state(h, State::Opened)?;
-            open_by_law(facts, b, chain, h, 7, &[])
+            open_by_law(facts, b, chain, h, Law::NegatedExists, &[])
         }
-        Head::Node(op) if negation_law(op) != 0 => {
-            b.set_state(h, State::Opened)?;
-            open_by_law(facts, b, chain, h, negation_law(op), &[])
-        }
+        Head::Node(op) => match negation_law(op) {
+            Some(law) => {
+                b.set_state(h, State::Opened)?;
+                open_by_law(facts, b, chain, h, law, &[])
+            }
+            None => open_negated_atom(facts, b, chain, h, f),
+        },
         _ => open_negated_atom(facts, b, chain, h, f),
     }
 }
@@ -146,8 +151,7 @@ fn open_negated_atom(
     h: Id,
     f: Id,
 ) -> Result<(), Stop> {
-    let law = facts.law_to_open(f)?;
-    if law != 0 {
+    if let Some(law) = facts.law_to_open(f)? {
         return open_by_law(facts, b, chain, h, law, &[0]);
     }
     if !facts.search.bank.is(f, Op::Equal) {
@@ -155,30 +159,37 @@ fn open_negated_atom(
     }
     let (left, _) = facts.search.bank.two(f);
     if facts.reckons && facts.is_number(left) {
-        return open_by_law(facts, b, chain, h, 68, &[0]);
+        return open_by_law(facts, b, chain, h, Law::EqualIntegers, &[0]);
     }
     if left == facts.search.yes || left == facts.search.no {
-        return open_by_law(facts, b, chain, h, 10, &[0]);
+        return open_by_law(facts, b, chain, h, Law::EqualTurned, &[0]);
     }
     Ok(())
 }
 
 fn open_atom(facts: &mut Facts, b: &mut Branch, chain: &mut Vec<Link>, h: Id) -> Result<(), Stop> {
-    let law = facts.law_to_open(h)?;
-    if law == 55 {
-        return b.set_state(h, State::Opened);
-    }
-    let set = facts.search.bank.part(h, 1);
-    if law == 17 && facts.is_whole(set)? {
-        return b.set_state(h, State::Opened);
-    }
-    if law != 0 && !(law == 35 && is_between_wholes(facts, h)?) {
-        open_by_law(facts, b, chain, h, law, &[])?;
+    if let Some(law) = facts.law_to_open(h)? {
+        if tells_nothing(facts, h, law)? {
+            return b.set_state(h, State::Opened);
+        }
+        if law != Law::MemberOfRelations || !is_between_wholes(facts, h)? {
+            open_by_law(facts, b, chain, h, law, &[])?;
+        }
     }
     if facts.search.bank.is(h, Op::Member) && facts.unfolds {
         values_of(facts, b, chain, h)?;
     }
     Ok(())
+}
+
+/// Whether it is `E ∈ T` or `S ⊆ T` with T whole, by the law that opens it.
+fn tells_nothing(facts: &mut Facts, h: Id, law: Law) -> Result<bool, Stop> {
+    let set = facts.search.bank.part(h, 1);
+    match law {
+        Law::MemberOfWhole => Ok(true),
+        Law::Inclusion => facts.is_whole(set),
+        _ => Ok(false),
+    }
 }
 
 /// Whether it is `r ∈ S ↔ T`, of whole sets.

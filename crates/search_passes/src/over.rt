@@ -1,5 +1,6 @@
 //! Overridden functions at an argument in the goal.
 use formula_core::Op;
+use rule_table::Law;
 use search_facts::{Facts, Limits, Next, Plan, Turn, Way};
 use search_steps::{Head, Id, Kind, Link, Search, Stop};
 use search_terms::Branch;
@@ -88,7 +89,9 @@ pub(crate) fn goal_override(
         return Ok(None);
     };
     if found.argument == found.index {
-        let step = facts.search.rewriting_goal(goal, 60, &found.place)?;
+        let step = facts
+            .search
+            .rewriting_goal(goal, Law::OverriddenAt, &found.place)?;
         return Ok(moved(facts.forward(b, chain, step)?));
     }
     let same = facts.search.bank.equal(found.argument, found.index)?;
@@ -118,7 +121,7 @@ fn turned_difference(
     let turned = facts.search.bank.turned(same)?;
     let other = facts.search.bank.not(turned)?;
     if b.has(other) {
-        let step = facts.search.rewriting(other, 10, &[0])?;
+        let step = facts.search.rewriting(other, Law::EqualTurned, &[0])?;
         facts.quiet(b, chain, step)?;
     }
     Ok(())

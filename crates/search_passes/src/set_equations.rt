@@ -1,9 +1,10 @@
 //! Equations of sets among the hypotheses.
 use crate::opening::open_by_law;
 use formula_core::Op;
+use rule_table::Law;
 use search_facts::Facts;
 use search_steps::{Id, Kind, Link, NONE, Stop};
-use search_terms::{Branch, State};
+use search_terms::{Branch, State, is_plain};
 
 /// One step that opens an equation.
 pub(crate) fn open_equation(
@@ -17,9 +18,12 @@ pub(crate) fn open_equation(
         return b.set_state(h, State::Opened);
     }
     let law = facts.law_to_open(h)?;
-    if law == 8 || law == 9 || law == 54 {
-        b.set_state(h, State::Opened)?;
-        return open_by_law(facts, b, chain, h, law, &[]);
+    match law {
+        Some(law) if is_plain(law) => {
+            b.set_state(h, State::Opened)?;
+            return open_by_law(facts, b, chain, h, law, &[]);
+        }
+        _ => {}
     }
     if facts.is_number(left) {
         facts.note_bounds(b, h)?;
@@ -33,17 +37,17 @@ fn open_set_equation(
     b: &mut Branch,
     chain: &mut Vec<Link>,
     h: Id,
-    law: u8,
+    law: Option<Law>,
 ) -> Result<(), Stop> {
     match law {
-        20 => open_by_law(facts, b, chain, h, 20, &[]),
-        10 => {
+        Some(Law::EqualToEmpty) => open_by_law(facts, b, chain, h, Law::EqualToEmpty, &[]),
+        Some(Law::EqualTurned) => {
             let turned = facts.search.bank.turned(h)?;
-            let step = facts.search.rewriting(h, 10, &[])?;
+            let step = facts.search.rewriting(h, Law::EqualTurned, &[])?;
             facts.quiet(b, chain, step)?;
-            open_by_law(facts, b, chain, turned, 20, &[])
+            open_by_law(facts, b, chain, turned, Law::EqualToEmpty, &[])
         }
-        19 => open_equal_sets(facts, b, chain, h),
+        Some(Law::EqualSets) => open_equal_sets(facts, b, chain, h),
         _ => Ok(()),
     }
 }
@@ -63,7 +67,7 @@ fn open_equal_sets(
             return Ok(());
         }
     }
-    open_by_law(facts, b, chain, h, 19, &[])
+    open_by_law(facts, b, chain, h, Law::EqualSets, &[])
 }
 
 /// Whether it is `dom(r)` or `ran(r)`.
@@ -88,7 +92,7 @@ fn find_partners(
     note.done = true;
     b.set(h, note)?;
     let (left, right) = facts.search.bank.two(h);
-    let step = facts.search.rewriting(h, 19, &[])?;
+    let step = facts.search.rewriting(h, Law::EqualSets, &[])?;
     facts.quiet(b, chain, step)?;
     let forth = facts.search.bank.both(Op::Subset, left, right)?;
     let back = facts.search.bank.both(Op::Subset, right, left)?;
@@ -120,13 +124,13 @@ fn partners_of(
     side: u32,
 ) -> Result<(), Stop> {
     let law = if facts.search.bank.is(mapped, Op::Domain) {
-        23
+        Law::MemberOfDomain
     } else {
-        24
+        Law::MemberOfRange
     };
-    let step = facts.search.rewriting(inclusion, 17, &[])?;
+    let step = facts.search.rewriting(inclusion, Law::Inclusion, &[])?;
     facts.quiet(b, chain, step)?;
-    let all = facts.search.by_law(17, inclusion)?;
+    let all = facts.search.by_law(Law::Inclusion, inclusion)?;
     if all == NONE {
         return Ok(());
     }

@@ -3,7 +3,7 @@ use crate::kind::Kind;
 use crate::search::{Left, Search, Step};
 use formula_core::{Formula, List, Name};
 use rule_kernel::instance;
-use rule_table::{Antecedent, Body, Main, RuleKind};
+use rule_table::{Antecedent, Body, Law, Main, RuleKind};
 use term_bank::{Id, NONE, Span, Stop};
 
 impl Search {
@@ -16,7 +16,7 @@ impl Search {
             names: Span::EMPTY,
             terms: Span::EMPTY,
             chosen: NONE,
-            law: 0,
+            law: None,
             place: Span::EMPTY,
             multipliers: Span::EMPTY,
             left: Span::EMPTY,
@@ -38,17 +38,17 @@ impl Search {
     }
 
     /// A law on a hypothesis, at a place.
-    pub fn rewriting(&mut self, hyp: Id, law: u8, place: &[u32]) -> Result<Step, Stop> {
+    pub fn rewriting(&mut self, hyp: Id, law: Law, place: &[u32]) -> Result<Step, Stop> {
         let mut step = self.on_hyps(Kind::RwHyp, &[hyp])?;
-        step.law = law;
+        step.law = Some(law);
         step.place = self.list(place)?;
         Ok(step)
     }
 
     /// A law on a goal, at a place.
-    pub fn rewriting_goal(&mut self, goal: Id, law: u8, place: &[u32]) -> Result<Step, Stop> {
+    pub fn rewriting_goal(&mut self, goal: Id, law: Law, place: &[u32]) -> Result<Step, Stop> {
         let mut step = Search::on_goal(Kind::RwGoal, goal);
-        step.law = law;
+        step.law = Some(law);
         step.place = self.list(place)?;
         Ok(step)
     }
@@ -180,49 +180,51 @@ impl Search {
         Ok(List::of(copies))
     }
 
+    /// The kind of rule that a step is.
     pub(crate) fn rule_kind(&self, step: Step) -> Result<RuleKind, Stop> {
         match step.kind {
             Kind::AllL => Ok(RuleKind::AllL(self.formulas(step.terms)?)),
             Kind::ExR => Ok(RuleKind::ExR(self.formulas(step.terms)?)),
-            Kind::RwGoal => Ok(RuleKind::RwGoal(step.law, self.places(step.place)?)),
-            Kind::RwHyp => Ok(RuleKind::RwHyp(step.law, self.places(step.place)?)),
+            Kind::RwGoal => Ok(RuleKind::RwGoal(number_of(step)?, self.places(step.place)?)),
+            Kind::RwHyp => Ok(RuleKind::RwHyp(number_of(step)?, self.places(step.place)?)),
             Kind::Linear => Ok(RuleKind::Linear(self.multipliers(step.multipliers)?)),
-            _ => Ok(plain_kind(step.kind)),
+            Kind::Hyp => Ok(RuleKind::Hyp),
+            Kind::Top => Ok(RuleKind::Top),
+            Kind::Bot => Ok(RuleKind::Bot),
+            Kind::Contr => Ok(RuleKind::Contr),
+            Kind::AndR => Ok(RuleKind::AndR),
+            Kind::AndL => Ok(RuleKind::AndL),
+            Kind::OrR => Ok(RuleKind::OrR),
+            Kind::OrL => Ok(RuleKind::OrL),
+            Kind::ImpR => Ok(RuleKind::ImpR),
+            Kind::ImpL => Ok(RuleKind::ImpL),
+            Kind::Mp => Ok(RuleKind::Mp),
+            Kind::IffR => Ok(RuleKind::IffR),
+            Kind::IffL => Ok(RuleKind::IffL),
+            Kind::NotR => Ok(RuleKind::NotR),
+            Kind::NotL => Ok(RuleKind::NotL),
+            Kind::Contra => Ok(RuleKind::Contra),
+            Kind::AllR => Ok(RuleKind::AllR),
+            Kind::ExL => Ok(RuleKind::ExL),
+            Kind::Cut => Ok(RuleKind::Cut),
+            Kind::Cases => Ok(RuleKind::Cases),
+            Kind::EqRefl => Ok(RuleKind::EqRefl),
+            Kind::EqGoal => Ok(RuleKind::EqGoal),
+            Kind::EqHyp => Ok(RuleKind::EqHyp),
+            Kind::BoolCases => Ok(RuleKind::BoolCases),
+            Kind::BoolDiff => Ok(RuleKind::BoolDiff),
+            Kind::CardNat => Ok(RuleKind::CardNat),
+            Kind::FunIn => Ok(RuleKind::FunIn),
+            Kind::FunEq => Ok(RuleKind::FunEq),
+            Kind::OverOther => Ok(RuleKind::OverOther),
         }
     }
 }
 
-/// A kind of rule that takes nothing.
-fn plain_kind(kind: Kind) -> RuleKind {
-    match kind {
-        Kind::Hyp => RuleKind::Hyp,
-        Kind::Bot => RuleKind::Bot,
-        Kind::Contr => RuleKind::Contr,
-        Kind::AndR => RuleKind::AndR,
-        Kind::AndL => RuleKind::AndL,
-        Kind::OrR => RuleKind::OrR,
-        Kind::OrL => RuleKind::OrL,
-        Kind::ImpR => RuleKind::ImpR,
-        Kind::ImpL => RuleKind::ImpL,
-        Kind::Mp => RuleKind::Mp,
-        Kind::IffR => RuleKind::IffR,
-        Kind::IffL => RuleKind::IffL,
-        Kind::NotR => RuleKind::NotR,
-        Kind::NotL => RuleKind::NotL,
-        Kind::Contra => RuleKind::Contra,
-        Kind::AllR => RuleKind::AllR,
-        Kind::ExL => RuleKind::ExL,
-        Kind::Cut => RuleKind::Cut,
-        Kind::Cases => RuleKind::Cases,
-        Kind::EqRefl => RuleKind::EqRefl,
-        Kind::EqGoal => RuleKind::EqGoal,
-        Kind::EqHyp => RuleKind::EqHyp,
-        Kind::BoolCases => RuleKind::BoolCases,
-        Kind::BoolDiff => RuleKind::BoolDiff,
-        Kind::CardNat => RuleKind::CardNat,
-        Kind::FunIn => RuleKind::FunIn,
-        Kind::FunEq => RuleKind::FunEq,
-        Kind::OverOther => RuleKind::OverOther,
-        _ => RuleKind::Top,
+/// The number of a step's law.
+fn number_of(step: Step) -> Result<u8, Stop> {
+    match step.law {
+        Some(law) => Ok(law.number()),
+        None => Err(Stop::Spent),
     }
 }

@@ -15,21 +15,18 @@ impl Search {
     }
 
     /// What a law makes of a formula, or `NONE`.
-    pub fn by_law(&mut self, number: u8, id: Id) -> Result<Id, Stop> {
-        if let Some(known) = self.laws.get(id as usize) {
-            if known.0 == number {
+    pub fn by_law(&mut self, law: Law, id: Id) -> Result<Id, Stop> {
+        if let Some(Some(known)) = self.laws.get(id as usize) {
+            if known.0 == law {
                 return Ok(known.1);
             }
         }
-        let made = self.made_by_law(number, id)?;
-        self.note_law(number, id, made)?;
+        let made = self.made_by_law(law, id)?;
+        self.note_law(law, id, made)?;
         Ok(made)
     }
 
-    fn made_by_law(&mut self, number: u8, id: Id) -> Result<Id, Stop> {
-        let Some(law) = Law::of_number(number) else {
-            return Ok(NONE);
-        };
+    fn made_by_law(&mut self, law: Law, id: Id) -> Result<Id, Stop> {
         let f = self.formula(id)?;
         match right_side(self.alloc, law, &f)? {
             Some(right) => self.bank.add_formula(&right),
@@ -37,13 +34,13 @@ impl Search {
         }
     }
 
-    fn note_law(&mut self, number: u8, id: Id, made: Id) -> Result<(), Stop> {
+    fn note_law(&mut self, law: Law, id: Id, made: Id) -> Result<(), Stop> {
         let count = self.bank.len();
         for _ in self.laws.len()..count {
-            self.laws.push((0, NONE))?;
+            self.laws.push(None)?;
         }
         if (id as usize) < self.laws.len() {
-            self.laws[id as usize] = (number, made);
+            self.laws[id as usize] = Some((law, made));
         }
         Ok(())
     }

@@ -1,6 +1,7 @@
 //! What a search keeps.
 use crate::kind::Kind;
 use formula_core::{Env, Formula};
+use rule_table::Law;
 use sequent_core::Sequent;
 use std::alloc::Global;
 use term_bank::{Bank, Id, NONE, Span, Stop};
@@ -14,7 +15,7 @@ pub struct Step {
     pub names: Span,
     pub terms: Span,
     pub chosen: Id,
-    pub law: u8,
+    pub law: Option<Law>,
     pub place: Span,
     pub multipliers: Span,
     pub left: Span,
@@ -57,7 +58,7 @@ pub struct Search {
     pub(crate) proofs: Vec<Proof>,
     pub(crate) pool: Vec<u32>,
     pub(crate) numbers: Vec<i128>,
-    pub(crate) laws: Vec<(u8, Id)>,
+    pub(crate) laws: Vec<Option<(Law, Id)>>,
     pub(crate) steps_made: u32,
     pub(crate) looks: u32,
     pub(crate) most_steps: u32,
@@ -122,7 +123,7 @@ impl Search {
                 names: Span::EMPTY,
                 terms: Span::EMPTY,
                 chosen: NONE,
-                law: 0,
+                law: None,
                 place: Span::EMPTY,
                 multipliers: Span::EMPTY,
                 left: Span::EMPTY,

@@ -82,6 +82,23 @@ pub fn take_apart(bank: &mut Bank, f: Id) -> Result<Spread, Stop> {
     })
 }
 
+/// A quantifier with its identifiers as they are.
+pub fn left_whole(bank: &mut Bank, f: Id) -> Result<Spread, Stop> {
+    let types = bank.term(f).types;
+    let count = types.count;
+    let mut shapes = Vec::new(bank.alloc());
+    for i in 0..count {
+        let at = count.saturating_sub(1).saturating_sub(i);
+        let index = bank.add(Head::Bound(at), &[], &[], bank.at(types, i))?;
+        shapes.push(index)?;
+    }
+    Ok(Spread {
+        body: bank.part(f, 0),
+        count,
+        shapes,
+    })
+}
+
 /// A body with the shapes in the place of its identifiers.
 fn reshaped(bank: &mut Bank, id: Id, shapes: &[Id], depth: u32, levels: u32) -> Result<Id, Stop> {
     let term = bank.term(id);

@@ -61,6 +61,7 @@ pub struct Branch {
     pub has_new_bounds: bool,
     pub at_once: Id,
     pub turns: u32,
+    pub seen: usize,
     pub failed: Vec<(Id, usize)>,
     pub waiting: Vec<Instance>,
 }
@@ -94,6 +95,7 @@ impl Branch {
             has_new_bounds: false,
             at_once: NONE,
             turns: 0,
+            seen: 0,
             failed: Vec::new(alloc),
             waiting: Vec::new(alloc),
         }
@@ -113,6 +115,7 @@ impl Branch {
             has_new_bounds: self.has_new_bounds,
             at_once: self.at_once,
             turns: self.turns,
+            seen: self.seen,
             failed: Vec::from_slice(alloc, &self.failed)?,
             waiting: Vec::new(alloc),
         })

@@ -69,10 +69,26 @@ pub fn oriented(bank: &mut Bank, equation: Id, first_new: u32) -> Result<Option<
     if let Some(found) = of_name(bank, b, a, first_new) {
         return Ok(Some(found));
     }
+    if bank.is(a, Op::Maplet) != bank.is(b, Op::Maplet) {
+        return Ok(to_pair(bank, a, b));
+    }
     if is_same_sum(bank, equation)? && bank.size(a) != bank.size(b) {
         return Ok(of_sizes(bank, a, b));
     }
     Ok(of_terms(bank, a, b))
+}
+
+/// What isn't written as a pair gives way to the pair.
+fn to_pair(bank: &Bank, a: Id, b: Id) -> Option<(Id, Id)> {
+    let (value, pair) = if bank.is(a, Op::Maplet) {
+        (b, a)
+    } else {
+        (a, b)
+    };
+    if bank.contains(pair, value, LEVELS) {
+        return None;
+    }
+    Some((value, pair))
 }
 
 /// Whether the sides of an equation are the same sum.

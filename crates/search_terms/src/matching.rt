@@ -109,6 +109,23 @@ pub fn filled(bank: &mut Bank, f: Id, terms: &mut Vec<Id>) -> Result<bool, Stop>
     filled_by(bank, right, left, terms)
 }
 
+/// Fills an identifier by a bound that a comparison with a side without missing ones gives. Whether it did.
+pub fn bounded(bank: &mut Bank, f: Id, terms: &mut Vec<Id>) -> Result<bool, Stop> {
+    let (left, right) = bank.two(f);
+    match bank.operator(f) {
+        Some(Op::LessOrEqual) => {
+            Ok(filled_by(bank, right, left, terms)? || filled_by(bank, left, right, terms)?)
+        }
+        Some(Op::Less) => {
+            let one = bank.int(1)?;
+            let above = bank.like_first(Op::Plus, left, one)?;
+            let below = bank.like_first(Op::Minus, right, one)?;
+            Ok(filled_by(bank, right, above, terms)? || filled_by(bank, left, below, terms)?)
+        }
+        _ => Ok(false),
+    }
+}
+
 fn filled_by(bank: &mut Bank, name: Id, by: Id, terms: &mut Vec<Id>) -> Result<bool, Stop> {
     let Head::Bound(at) = bank.term(name).head else {
         return Ok(false);

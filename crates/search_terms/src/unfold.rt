@@ -1,82 +1,110 @@
 //! Which law opens a formula at its root.
 use formula_core::{Binder, Op};
+use rule_table::Law;
 use term_bank::{Bank, Head, Id, NONE, Stop, TypeHead};
 
 /// Whether a law brings no quantifier.
-pub fn is_plain(law: u8) -> bool {
+pub fn is_plain(law: Law) -> bool {
     match law {
-        8 | 9 | 11 | 12 | 13 | 14 | 15 | 16 | 22 | 25 | 26 | 27 | 28 | 29 | 30 | 33 | 34 => true,
-        51 | 52 | 53 | 54 | 55 | 56 | 57 | 58 | 59 | 61 | 62 | 63 | 64 | 65 => true,
+        Law::BoolIsTrue | Law::BoolIsFalse => true,
+        Law::MemberOfProduct | Law::MemberOfUnion | Law::MemberOfIntersection => true,
+        Law::MemberOfDifference | Law::MemberOfExtension | Law::MemberOfEmpty => true,
+        Law::MemberOfNonEmptyPowerSet => true,
+        Law::MemberOfConverse | Law::MemberOfDomainRestriction => true,
+        Law::MemberOfDomainSubtraction | Law::MemberOfRangeRestriction => true,
+        Law::MemberOfRangeSubtraction | Law::MemberOfOverriding => true,
+        Law::MemberOfDirectProduct | Law::MemberOfParallelProduct => true,
+        Law::MemberOfIdentity | Law::MemberOfFirstProjection => true,
+        Law::MemberOfSecondProjection | Law::EqualPairs | Law::MemberOfWhole => true,
+        Law::FiniteEmpty | Law::FiniteExtension | Law::FiniteUnion | Law::FiniteInterval => true,
+        _ => is_of_integers(law),
+    }
+}
+
+/// Whether a law opens a membership in a set of integers.
+pub fn is_of_integers(law: Law) -> bool {
+    match law {
+        Law::MemberOfNaturals | Law::MemberOfPositiveNaturals | Law::MemberOfInterval => true,
+        Law::MemberOfSuccessor | Law::MemberOfPredecessor => true,
+        _ => false,
+    }
+}
+
+/// Whether a law says of what relates an element to another: it brings an `∃`.
+pub fn is_of_partner(law: Law) -> bool {
+    match law {
+        Law::MemberOfDomain | Law::MemberOfRange | Law::MemberOfImage => true,
+        Law::MemberOfComposition => true,
         _ => false,
     }
 }
 
 /// The law of a negation, by what is negated.
-pub fn negation_law(op: Op) -> u8 {
+pub fn negation_law(op: Op) -> Option<Law> {
     match op {
-        Op::Not => 1,
-        Op::And => 2,
-        Op::Or => 3,
-        Op::Implies => 4,
-        Op::Equivalent => 5,
-        Op::Less => 66,
-        Op::LessOrEqual => 67,
-        _ => 0,
+        Op::Not => Some(Law::DoubleNegation),
+        Op::And => Some(Law::NegatedAnd),
+        Op::Or => Some(Law::NegatedOr),
+        Op::Implies => Some(Law::NegatedImplies),
+        Op::Equivalent => Some(Law::NegatedEquivalent),
+        Op::Less => Some(Law::NegatedLess),
+        Op::LessOrEqual => Some(Law::NegatedAtMost),
+        _ => None,
     }
 }
 
-fn law_of_set(op: Op) -> u8 {
+fn law_of_set(op: Op) -> Option<Law> {
     match op {
-        Op::Union => 12,
-        Op::Intersection => 13,
-        Op::Difference => 14,
-        Op::SetExtension => 15,
-        Op::EmptySet => 16,
-        Op::Naturals => 61,
-        Op::PositiveNaturals => 62,
-        Op::Interval => 63,
-        Op::PowerSet => 21,
-        Op::NonEmptyPowerSet => 22,
-        Op::Domain => 23,
-        Op::Range => 24,
-        Op::Image => 31,
-        Op::GeneralUnion => 47,
-        Op::GeneralIntersection => 48,
+        Op::Union => Some(Law::MemberOfUnion),
+        Op::Intersection => Some(Law::MemberOfIntersection),
+        Op::Difference => Some(Law::MemberOfDifference),
+        Op::SetExtension => Some(Law::MemberOfExtension),
+        Op::EmptySet => Some(Law::MemberOfEmpty),
+        Op::Naturals => Some(Law::MemberOfNaturals),
+        Op::PositiveNaturals => Some(Law::MemberOfPositiveNaturals),
+        Op::Interval => Some(Law::MemberOfInterval),
+        Op::PowerSet => Some(Law::MemberOfPowerSet),
+        Op::NonEmptyPowerSet => Some(Law::MemberOfNonEmptyPowerSet),
+        Op::Domain => Some(Law::MemberOfDomain),
+        Op::Range => Some(Law::MemberOfRange),
+        Op::Image => Some(Law::MemberOfImage),
+        Op::GeneralUnion => Some(Law::MemberOfGeneralUnion),
+        Op::GeneralIntersection => Some(Law::MemberOfGeneralIntersection),
         _ => law_of_arrow(op),
     }
 }
 
-fn law_of_arrow(op: Op) -> u8 {
+fn law_of_arrow(op: Op) -> Option<Law> {
     match op {
-        Op::Relations => 35,
-        Op::TotalRelations => 36,
-        Op::SurjectiveRelations => 37,
-        Op::TotalSurjectiveRelations => 38,
-        Op::PartialFunctions => 39,
-        Op::TotalFunctions => 40,
-        Op::PartialInjections => 41,
-        Op::TotalInjections => 42,
-        Op::PartialSurjections => 43,
-        Op::TotalSurjections => 44,
-        Op::Bijections => 45,
-        _ => 0,
+        Op::Relations => Some(Law::MemberOfRelations),
+        Op::TotalRelations => Some(Law::MemberOfTotalRelations),
+        Op::SurjectiveRelations => Some(Law::MemberOfSurjectiveRelations),
+        Op::TotalSurjectiveRelations => Some(Law::MemberOfTotalSurjectiveRelations),
+        Op::PartialFunctions => Some(Law::MemberOfPartialFunctions),
+        Op::TotalFunctions => Some(Law::MemberOfTotalFunctions),
+        Op::PartialInjections => Some(Law::MemberOfPartialInjections),
+        Op::TotalInjections => Some(Law::MemberOfTotalInjections),
+        Op::PartialSurjections => Some(Law::MemberOfPartialSurjections),
+        Op::TotalSurjections => Some(Law::MemberOfTotalSurjections),
+        Op::Bijections => Some(Law::MemberOfBijections),
+        _ => None,
     }
 }
 
-fn law_of_pair(op: Op) -> u8 {
+fn law_of_pair(op: Op) -> Option<Law> {
     match op {
-        Op::Product => 11,
-        Op::Converse => 25,
-        Op::DomainRestriction => 26,
-        Op::DomainSubtraction => 27,
-        Op::RangeRestriction => 28,
-        Op::RangeSubtraction => 29,
-        Op::Overriding => 30,
-        Op::Identity => 51,
-        Op::Predecessor => 65,
-        Op::Successor => 64,
-        Op::Composition => 32,
-        _ => 0,
+        Op::Product => Some(Law::MemberOfProduct),
+        Op::Converse => Some(Law::MemberOfConverse),
+        Op::DomainRestriction => Some(Law::MemberOfDomainRestriction),
+        Op::DomainSubtraction => Some(Law::MemberOfDomainSubtraction),
+        Op::RangeRestriction => Some(Law::MemberOfRangeRestriction),
+        Op::RangeSubtraction => Some(Law::MemberOfRangeSubtraction),
+        Op::Overriding => Some(Law::MemberOfOverriding),
+        Op::Identity => Some(Law::MemberOfIdentity),
+        Op::Predecessor => Some(Law::MemberOfPredecessor),
+        Op::Successor => Some(Law::MemberOfSuccessor),
+        Op::Composition => Some(Law::MemberOfComposition),
+        _ => None,
     }
 }
 
@@ -100,99 +128,99 @@ pub fn is_whole(bank: &mut Bank, set: Id) -> Result<bool, Stop> {
     Ok(whole == set)
 }
 
-/// The number of the law that opens a formula at its root, or 0.
-pub fn law_for(bank: &mut Bank, f: Id) -> Result<u8, Stop> {
+/// The law that opens a formula at its root.
+pub fn law_for(bank: &mut Bank, f: Id) -> Result<Option<Law>, Stop> {
     let Some(op) = bank.operator(f) else {
-        return Ok(0);
+        return Ok(None);
     };
     match op {
         Op::Member => law_for_member(bank, f),
-        Op::Subset => Ok(17),
-        Op::ProperSubset => Ok(18),
+        Op::Subset => Ok(Some(Law::Inclusion)),
+        Op::ProperSubset => Ok(Some(Law::ProperInclusion)),
         Op::Equal => Ok(law_for_equal(bank, f)),
         Op::Finite => Ok(law_for_finite(bank, f)),
-        _ => Ok(0),
+        _ => Ok(None),
     }
 }
 
-fn law_for_member(bank: &mut Bank, f: Id) -> Result<u8, Stop> {
+fn law_for_member(bank: &mut Bank, f: Id) -> Result<Option<Law>, Stop> {
     let (element, set) = bank.two(f);
     if is_whole(bank, set)? {
-        return Ok(55);
+        return Ok(Some(Law::MemberOfWhole));
     }
     match bank.term(set).head {
         Head::Bind(binder) => Ok(law_of_binder(binder)),
         Head::Node(op) => {
             let law = law_of_set(op);
-            if law != 0 {
+            if law.is_some() {
                 return Ok(law);
             }
             Ok(law_for_pair(bank, element, op))
         }
-        _ => Ok(0),
+        _ => Ok(None),
     }
 }
 
-fn law_for_pair(bank: &Bank, element: Id, op: Op) -> u8 {
+fn law_for_pair(bank: &Bank, element: Id, op: Op) -> Option<Law> {
     if !bank.is(element, Op::Maplet) {
-        return 0;
+        return None;
     }
     let (left, right) = bank.two(element);
     let is_left = bank.is(left, Op::Maplet);
     let is_right = bank.is(right, Op::Maplet);
     match op {
-        Op::DirectProduct if is_right => 33,
-        Op::ParallelProduct if is_left && is_right => 34,
-        Op::FirstProjection if is_left => 52,
-        Op::SecondProjection if is_left => 53,
+        Op::DirectProduct if is_right => Some(Law::MemberOfDirectProduct),
+        Op::ParallelProduct if is_left && is_right => Some(Law::MemberOfParallelProduct),
+        Op::FirstProjection if is_left => Some(Law::MemberOfFirstProjection),
+        Op::SecondProjection if is_left => Some(Law::MemberOfSecondProjection),
         _ => law_of_pair(op),
     }
 }
 
-fn law_for_equal(bank: &Bank, f: Id) -> u8 {
+fn law_for_equal(bank: &Bank, f: Id) -> Option<Law> {
     let (left, right) = bank.two(f);
     if bank.is(left, Op::BoolOf) {
         if bank.is(right, Op::TrueValue) {
-            return 8;
+            return Some(Law::BoolIsTrue);
         }
         if bank.is(right, Op::FalseValue) {
-            return 9;
+            return Some(Law::BoolIsFalse);
         }
     }
     if bank.is(left, Op::Maplet) && bank.is(right, Op::Maplet) {
-        return 54;
+        return Some(Law::EqualPairs);
     }
     match bank.type_head(bank.ty(left)) {
         TypeHead::Pow(_) => law_for_equal_sets(bank, left, right),
-        _ => 0,
+        _ => None,
     }
 }
 
-fn law_for_equal_sets(bank: &Bank, left: Id, right: Id) -> u8 {
+fn law_for_equal_sets(bank: &Bank, left: Id, right: Id) -> Option<Law> {
     if bank.is(right, Op::EmptySet) {
-        20
+        Some(Law::EqualToEmpty)
     } else if bank.is(left, Op::EmptySet) {
-        10
+        Some(Law::EqualTurned)
     } else {
-        19
+        Some(Law::EqualSets)
     }
 }
 
-fn law_for_finite(bank: &Bank, f: Id) -> u8 {
+fn law_for_finite(bank: &Bank, f: Id) -> Option<Law> {
     match bank.operator(bank.part(f, 0)) {
-        Some(Op::EmptySet) => 56,
-        Some(Op::SetExtension) => 57,
-        Some(Op::Union) => 58,
-        Some(Op::Interval) => 59,
-        _ => 0,
+        Some(Op::EmptySet) => Some(Law::FiniteEmpty),
+        Some(Op::SetExtension) => Some(Law::FiniteExtension),
+        Some(Op::Union) => Some(Law::FiniteUnion),
+        Some(Op::Interval) => Some(Law::FiniteInterval),
+        _ => None,
     }
 }
 
-fn law_of_binder(binder: Binder) -> u8 {
+fn law_of_binder(binder: Binder) -> Option<Law> {
     match binder {
-        Binder::Comprehension => 46,
-        Binder::QuantifiedUnion => 49,
-        Binder::QuantifiedIntersection => 50,
-        _ => 0,
+        Binder::Comprehension => Some(Law::MemberOfComprehension),
+        Binder::QuantifiedUnion => Some(Law::MemberOfQuantifiedUnion),
+        Binder::QuantifiedIntersection => Some(Law::MemberOfQuantifiedIntersection),
+        _ => None,
     }
 }
