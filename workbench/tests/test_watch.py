@@ -138,6 +138,8 @@ class Warnings(Room):
             folder = texts.Folder(self.room)
             folder.look()
             for warn in lint.warnings(folder):
+                if not warn.text.startswith('no rule closes '):
+                    continue
                 part = max((part for _, part in folder.components().values() if part.line <= warn.line), key=lambda part: part.line)
                 label = warn.text.split('@')[1].split(' ')[0]
                 self.assertTrue([po for po in opened if re.fullmatch(f'{part.name}/.*/{label}/INV', po)], (name, warn))
