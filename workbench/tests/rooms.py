@@ -18,7 +18,7 @@ PROGRAM = os.environ.get('RODIN', 'rodin')
 EXAMPLES = os.path.join(TOP, 'examples')
 needs_program = unittest.skipUnless(shutil.which(PROGRAM), 'RODIN names no program')
 
-BOOM = 'context boom constants up axioms @axm1 10 ≤ up theorem @thm1 ∃k·0 < k ∧ k < up theorem @thm2 0 < up end\n'
+BOOM = 'context boom constants up axioms @axm1 10 ≤ up theorem @thm1 ∃k·0 < k ∧ k ∗ k < up theorem @thm2 0 < up end\n'
 SETS = '''context rel
 sets S
 constants r s a

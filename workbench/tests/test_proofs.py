@@ -34,7 +34,7 @@ class Proving(Room):
         proof = self.by_hand(self.project(boom=BOOM))
         self.assertIsNone(proof.leaf)
         sequent, line = proof.inside('0.1')
-        self.assertEqual((sequent.hypotheses, sequent.goal, line), (['10 ≤ up'], '1 < up', 'step boom/thm1/THM 0.1 linear h 1 1'))
+        self.assertEqual((sequent.hypotheses, sequent.goal, line), (['10 ≤ up'], '1 ∗ 1 < up', 'step boom/thm1/THM 0.1 linear h 1 1'))
         proof.undo()
         self.assertEqual(proof.leaf, '0.1')
         proof.redo()
@@ -86,7 +86,7 @@ class Proving(Room):
         proof = self.by_hand(project)
         self.assertIsNone(proof.misfit())
         project.save('boom', BOOM.replace('∃k·0 < k', '∃k·1 < k'))
-        self.assertEqual(proof.misfit(), ('-', 'exR', 'the goal ∃x1⦂ℤ·0 < x1 ∧ x1 < up'))
+        self.assertEqual(proof.misfit(), ('-', 'exR', 'the goal ∃x1⦂ℤ·0 < x1 ∧ x1 ∗ x1 < up'))
 
 
 @needs_program
