@@ -149,7 +149,9 @@ class Crashes(Talking):
         killer = threading.Thread(target=kill)
         killer.start()
         try:
-            for n in range(150):
+            n = 0
+            while n < 150 or self.engine.starts <= 5 and n < 20000:
+                n += 1
                 name, number = f'c{n % 7}', str(n)
                 try:
                     said = self.engine.send([edit(name, f'context {name} constants x axioms @a x = {number} theorem @t x = {number} end'), 'build',
@@ -162,7 +164,7 @@ class Crashes(Talking):
         finally:
             stop.set()
             killer.join()
-        self.assertGreater(self.engine.starts, 1)
+        self.assertGreater(self.engine.starts, 5)
         self.engine.close()
         again = Engine(self.room, 0, PROGRAM)
         self.addCleanup(again.close)
