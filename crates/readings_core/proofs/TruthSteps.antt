@@ -15,7 +15,7 @@ use Rattle.formula_readings.specs.Forms.{negates, joins_two, compares, are_integ
 use Rattle.formula_readings.specs.Readings.{AtomValues, nullary_truth, unary_truth, binary_truth, truth_step, truth_in, number_by, compared, comparison, comparison_at}
 use Rattle.formula_readings.proofs.Truths.{compared-two}
 use Rattle.readings_core.specs.declared.values.ValueFault.{ValueFault}
-use Rattle.readings_core.specs.Private.{checked_number, checked_truth, checked_comparison, denied, joined, node_truth, told}
+use Rattle.readings_core.specs.Private.{checked_number, checked_truth, checked_comparison, truth_negated, truths_joined, node_truth, numbers_compared}
 use Rattle.readings_core.specs.Values.{unless_wide}
 use Rattle.readings_core.specs.Widths.{wide_in_number, wide_compared, wide_truth_step, wide_in_truth}
 use Rattle.readings_core.proofs.Wide.{Operands, none_wide, still_wide, wide_still}
@@ -53,10 +53,10 @@ module _ (v : AtomValues) where
 
   -- ¬, or an atom
   module _ (p : Formula) (a : Bool) where
-    one : (o : Op) → unless_wide (if negates o then wide p else []) (unary_truth o a (truth_in v p)) ≡ (if negates o then denied (checked p) else Ok a)
+    one : (o : Op) → unless_wide (if negates o then wide p else []) (unary_truth o a (truth_in v p)) ≡ (if negates o then truth_negated (checked p) else Ok a)
     one op.Not = go (checked p) refl
       where
-        go : (r : Result Bool ValueFault) → checked p ≡ r → unless_wide (wide p) (not (truth_in v p)) ≡ denied r
+        go : (r : Result Bool ValueFault) → checked p ≡ r → unless_wide (wide p) (not (truth_in v p)) ≡ truth_negated r
         go (Ok b) is = let found = none_wide (wide p) (truth_in v p) b is in λ i. unless_wide (found.0 i) (not (found.1 i))
         go (Err fault) is = wide_still Bool Bool (wide p) (truth_in v p) (not (truth_in v p)) fault is
     one _ = refl
@@ -67,7 +67,7 @@ module _ (v : AtomValues) where
     whole o = compared o (are_integers e g) (v.truth f) (number_by v.number e) (number_by v.number g)
 
     seen : (o : Op) (t : Bool) → ((m n : ℤ) → number_by v.number e ≡ m → number_by v.number g ≡ n → t ≡ compared o true false m n) → (r s : Result ℤ ValueFault) → number e ≡ r → number g ≡ s
-        → unless_wide (wide_in_number v.number e ++ wide_in_number v.number g) t ≡ told o r s
+        → unless_wide (wide_in_number v.number e ++ wide_in_number v.number g) t ≡ numbers_compared o r s
     seen o t so (Ok m) (Ok n) is at =
         let left = none_wide (wide_in_number v.number e) (number_by v.number e) m is in
         let right = none_wide (wide_in_number v.number g) (number_by v.number g) n at in
@@ -78,7 +78,7 @@ module _ (v : AtomValues) where
     seen o t so (Err fault) s is at = still_wide ℤ Bool (wide_in_number v.number e) (wide_in_number v.number g) (number_by v.number e) t fault is
 
     compares_two : (o : Op) (integers a : Bool) → unless_wide (if compares o integers then wide_in_number v.number e ++ wide_in_number v.number g else []) (compared o integers a (number_by v.number e) (number_by v.number g))
-        ≡ (if compares o integers then told o (number e) (number g) else Ok a)
+        ≡ (if compares o integers then numbers_compared o (number e) (number g) else Ok a)
     compares_two op.Equal true a = seen op.Equal (compared op.Equal true a (number_by v.number e) (number_by v.number g)) (λ m n is at i. compared op.Equal true false (is i) (at i)) (number e) (number g) refl refl
     compares_two op.Equal false a = refl
     compares_two op.Less integers a = seen op.Less (compared op.Less integers a (number_by v.number e) (number_by v.number g)) (λ m n is at i. compared op.Less true false (is i) (at i)) (number e) (number g) refl refl
@@ -91,7 +91,7 @@ module _ (v : AtomValues) where
 
   -- a connective on two
   module _ (p q : Formula) where
-    connects : (o : Op) (r s : Result Bool ValueFault) → checked p ≡ r → checked q ≡ s → unless_wide (wide p ++ wide q) (binary_truth o false (truth_in v p) (truth_in v q)) ≡ joined o r s
+    connects : (o : Op) (r s : Result Bool ValueFault) → checked p ≡ r → checked q ≡ s → unless_wide (wide p ++ wide q) (binary_truth o false (truth_in v p) (truth_in v q)) ≡ truths_joined o r s
     connects o (Ok b) (Ok c) is at =
         let left = none_wide (wide p) (truth_in v p) b is in
         let right = none_wide (wide q) (truth_in v q) c at in
@@ -103,7 +103,7 @@ module _ (v : AtomValues) where
     connects o (Err fault) s is at = still_wide Bool Bool (wide p) (wide q) (truth_in v p) (binary_truth o false (truth_in v p) (truth_in v q)) fault is
 
     two : (o : Op) (a : Bool) (ws : Operands) (r : Result Bool ValueFault) → unless_wide ws a ≡ r
-        → unless_wide (if joins_two o then wide p ++ wide q else ws) (binary_truth o a (truth_in v p) (truth_in v q)) ≡ (if joins_two o then joined o (checked p) (checked q) else r)
+        → unless_wide (if joins_two o then wide p ++ wide q else ws) (binary_truth o a (truth_in v p) (truth_in v q)) ≡ (if joins_two o then truths_joined o (checked p) (checked q) else r)
     two op.And a ws r is = connects op.And (checked p) (checked q) refl refl
     two op.Or a ws r is = connects op.Or (checked p) (checked q) refl refl
     two op.Implies a ws r is = connects op.Implies (checked p) (checked q) refl refl
@@ -142,11 +142,11 @@ module _ (v : AtomValues) (f : Formula) where
           let d = is (BindF b types parts t) (Bind b types parts t) k (rolls-Bind b types parts t) in
           ap (checked_truth v) d ∙ checked-Bind v b types parts t ∙ ap (λ g. Ok (v.truth g)) (sym d)
 
-  pub one_is : (o : Op) (parts : List Formula) (p : Formula) → parts ≡ p ∷ [] → negates o ≡ true → denied (checked_truth v p) ≡ node_truth v o f parts
-  one_is o parts p one h = sym (ap (node_truth v o f) one ∙ ap (λ b. if b then denied (checked_truth v p) else Ok (v.truth f)) h)
+  pub one_is : (o : Op) (parts : List Formula) (p : Formula) → parts ≡ p ∷ [] → negates o ≡ true → truth_negated (checked_truth v p) ≡ node_truth v o f parts
+  one_is o parts p one h = sym (ap (node_truth v o f) one ∙ ap (λ b. if b then truth_negated (checked_truth v p) else Ok (v.truth f)) h)
 
-  pub two_is : (o : Op) (parts : List Formula) (p q : Formula) → parts ≡ p ∷ q ∷ [] → joins_two o ≡ true → joined o (checked_truth v p) (checked_truth v q) ≡ node_truth v o f parts
-  two_is o parts p q two h = sym (ap (node_truth v o f) two ∙ ap (λ b. if b then joined o (checked_truth v p) (checked_truth v q) else checked_comparison v o f p q) h)
+  pub two_is : (o : Op) (parts : List Formula) (p q : Formula) → parts ≡ p ∷ q ∷ [] → joins_two o ≡ true → truths_joined o (checked_truth v p) (checked_truth v q) ≡ node_truth v o f parts
+  two_is o parts p q two h = sym (ap (node_truth v o f) two ∙ ap (λ b. if b then truths_joined o (checked_truth v p) (checked_truth v q) else checked_comparison v o f p q) h)
 
   pub compared_is : (o : Op) (parts : List Formula) (p q : Formula) → parts ≡ p ∷ q ∷ [] → joins_two o ≡ false → checked_comparison v o f p q ≡ node_truth v o f parts
-  compared_is o parts p q two h = sym (ap (node_truth v o f) two ∙ ap (λ b. if b then joined o (checked_truth v p) (checked_truth v q) else checked_comparison v o f p q) h)
+  compared_is o parts p q two h = sym (ap (node_truth v o f) two ∙ ap (λ b. if b then truths_joined o (checked_truth v p) (checked_truth v q) else checked_comparison v o f p q) h)

@@ -12,10 +12,10 @@ use Rattle.readings_core.specs.Values.{value_in}
 
 -- NotDerived: the tree doesn't derive the sequent. NotPlain: it does, and the first rule that isn't plain stands at this
 -- path. Yes: it does by plain rules alone.
-abbrev pub IsAnswer : Tree → Sequent → Follows → Type 0
-IsAnswer tree s NotDerived = ¬ Derives tree s
-IsAnswer tree s (NotPlain path) = Derives tree s × (not_plain tree ≡ Some path)
-IsAnswer tree s Yes = Derives tree s × (not_plain tree ≡ None)
+abbrev pub IsFollowsAnswer : Tree → Sequent → Follows → Type 0
+IsFollowsAnswer tree s NotDerived = ¬ Derives tree s
+IsFollowsAnswer tree s (NotPlain path) = Derives tree s × (not_plain tree ≡ Some path)
+IsFollowsAnswer tree s Yes = Derives tree s × (not_plain tree ≡ None)
 
 -- where a sequent is true in each reading and its hypotheses are true by their values, so is its goal, if its value fits
 abbrev pub ValuesFollow : Type 0

@@ -36,29 +36,29 @@ node_number number o f (e ∷ g ∷ []) =
 node_number number o f _ = Ok (number f)
 
 -- the same of truth values
-abbrev pub denied : Result Bool ValueFault → Result Bool ValueFault
-denied (Ok p) = Ok (not p)
-denied (Err fault) = Err fault
+abbrev pub truth_negated : Result Bool ValueFault → Result Bool ValueFault
+truth_negated (Ok p) = Ok (not p)
+truth_negated (Err fault) = Err fault
 
-abbrev pub joined : Op → Result Bool ValueFault → Result Bool ValueFault → Result Bool ValueFault
-joined o (Ok p) (Ok q) = Ok (binary_truth o false p q)
-joined o (Ok p) (Err fault) = Err fault
-joined o (Err fault) q = Err fault
+abbrev pub truths_joined : Op → Result Bool ValueFault → Result Bool ValueFault → Result Bool ValueFault
+truths_joined o (Ok p) (Ok q) = Ok (binary_truth o false p q)
+truths_joined o (Ok p) (Err fault) = Err fault
+truths_joined o (Err fault) q = Err fault
 
-abbrev pub told : Op → Result ℤ ValueFault → Result ℤ ValueFault → Result Bool ValueFault
-told o (Ok m) (Ok n) = Ok (compared o true false m n)
-told o (Ok m) (Err fault) = Err fault
-told o (Err fault) n = Err fault
+abbrev pub numbers_compared : Op → Result ℤ ValueFault → Result ℤ ValueFault → Result Bool ValueFault
+numbers_compared o (Ok m) (Ok n) = Ok (compared o true false m n)
+numbers_compared o (Ok m) (Err fault) = Err fault
+numbers_compared o (Err fault) n = Err fault
 
 abbrev pub checked_comparison : AtomValues → Op → Formula → Formula → Formula → Result Bool ValueFault
 checked_comparison v o f e g =
-    if compares o (are_integers e g) then told o (checked_number v.number e) (checked_number v.number g) else Ok (v.truth f)
+    if compares o (are_integers e g) then numbers_compared o (checked_number v.number e) (checked_number v.number g) else Ok (v.truth f)
 
 abbrev pub node_truth : AtomValues → Op → Formula → List Formula → Result Bool ValueFault
 node_truth v o f [] = Ok (nullary_truth o (v.truth f))
-node_truth v o f (p ∷ []) = if negates o then denied (checked_truth v p) else Ok (v.truth f)
+node_truth v o f (p ∷ []) = if negates o then truth_negated (checked_truth v p) else Ok (v.truth f)
 node_truth v o f (p ∷ q ∷ []) =
-    if joins_two o then joined o (checked_truth v p) (checked_truth v q) else checked_comparison v o f p q
+    if joins_two o then truths_joined o (checked_truth v p) (checked_truth v q) else checked_comparison v o f p q
 node_truth v o f _ = Ok (v.truth f)
 
 -- whether a rule was found below, and the path to it behind the path so far

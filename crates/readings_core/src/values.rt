@@ -1,7 +1,7 @@
 //! The truth of a predicate in a reading.
 ghost use Rattle.std.specs.Prelude.{◌≡◌, false, true};
 ghost use Rattle.formula_readings.specs.Readings.{binary_truth, compared, nullary_truth, values_of};
-ghost use Rattle.readings_core.specs.Private.{checked_comparison, checked_truth, denied, joined, node_truth, told};
+ghost use Rattle.readings_core.specs.Private.{checked_comparison, checked_truth, truth_negated, truths_joined, node_truth, numbers_compared};
 ghost use Rattle.readings_core.specs.Values.{value_in};
 
 use crate::atoms::truth_of_atom;
@@ -49,14 +49,14 @@ fn truth_of_node(
         [] => Ok(constant(op, f, reading)),
         [p] => {
             if negates(op) {
-                denied(truth(p, reading))
+                truth_negated(truth(p, reading))
             } else {
                 Ok(truth_of_atom(f, reading))
             }
         }
         [p, q] => {
             if joins_two(op) {
-                joined(op, truth(p, reading), truth(q, reading))
+                truths_joined(op, truth(p, reading), truth(q, reading))
             } else {
                 comparison(op, f, p, q, reading)
             }
@@ -76,8 +76,8 @@ fn constant(op: Op, f: &Formula, reading: &Reading) -> bool
     }
 }
 
-fn denied(p: Result<bool, ValueFault>) -> Result<bool, ValueFault>
-    ensures { result ≡ denied p }
+fn truth_negated(p: Result<bool, ValueFault>) -> Result<bool, ValueFault>
+    ensures { result ≡ truth_negated p }
 {
     match p {
         Ok(p) => Ok(!p),
@@ -86,12 +86,12 @@ fn denied(p: Result<bool, ValueFault>) -> Result<bool, ValueFault>
 }
 
 /// A connective on what was computed, of which the left operand was the first.
-fn joined(
+fn truths_joined(
     op: Op,
     p: Result<bool, ValueFault>,
     q: Result<bool, ValueFault>,
 ) -> Result<bool, ValueFault>
-    ensures { result ≡ joined op p q }
+    ensures { result ≡ truths_joined op p q }
 {
     match p {
         Ok(p) => match q {
@@ -137,7 +137,7 @@ fn compared(
     m: Result<i128, ValueFault>,
     n: Result<i128, ValueFault>,
 ) -> Result<bool, ValueFault>
-    ensures { result ≡ told op m n }
+    ensures { result ≡ numbers_compared op m n }
 {
     match m {
         Ok(m) => match n {
