@@ -292,7 +292,9 @@ class Doors(Asked):
             os.write(leader, b'po boom/thm1/T\t\n')
             until('⊢ ∃x1⦂ℤ·0 < x1 ∧ x1 ∗ x1 < up')
             until('THM -> ')
-            os.write(leader, b'nonsense\x03')
+            os.write(leader, b'nonsense')
+            until('nonsense')  # a Ctrl-C that comes while readline takes a key waits for the next key
+            os.write(leader, b'\x03')
             until('THM -> ')
             os.write(leader, b'// ' + b'x' * 5000 + b'\n')
             until('THM -> ')
