@@ -1,11 +1,14 @@
-//! The automatic prover: short proofs, and else what the search finds.
-ghost use Rattle.std.specs.Prelude.{◌≡◌, ◌≤◌, ◌<◌, ◌^◌, ◌↔◌, IsSome, IfOk, IfSome};
+//! The automatic prover: short proofs, and else what the search finds, or what is found by cases.
+ghost use Rattle.std.specs.Prelude.{◌≡◌, ◌≤◌, ◌<◌, ◌^◌, ◌↔◌, IsSome, IsNone, IfOk, IfSome};
+ghost use Rattle.case_proofs.specs.Cases.{IsSureByCases};
 ghost use Rattle.sequent_core.specs.Members.{members_of};
-ghost use Rattle.sequent_core.specs.Provers.{AnswersWithin, IsGood};
+ghost use Rattle.sequent_core.specs.Provers.{AnswersWithin, IsGood, IsGoodTree};
 ghost use Rattle.sequent_core.specs.Sequents.{IsSequent};
+ghost use Rattle.sequent_core.specs.Trees.{rule_count};
 ghost use Rattle.short_proofs.specs.Short.{IsShortIfFound, IsShortProof};
-ghost use Rattle.strategy_core.specs.Sure.{IsSure};
+ghost use Rattle.strategy_core.specs.Sure.{IsSure, IsSureAtOnce};
 
+use case_proofs::proof_by_cases;
 use checked_search::{Passes, proof_within};
 use formula_core::OutOfMemory;
 use sequent_core::{Attempt, Prover, Sequent, Tree};
@@ -17,6 +20,9 @@ const ALL_PASSES: Passes = Passes {
     unfolds: true,
     reckons: true,
 };
+
+/// The most nodes of a proof that may be stored.
+const MOST_NODES: u64 = 2048;
 
 /// A prover of logic, sets and arithmetic, whose proofs have at most `budget` rules.
 #[derive(Debug, Clone, Copy)]
@@ -34,25 +40,12 @@ impl AutoProver {
     {
         AutoProver { budget }
     }
-
-    /// What the search finds for a sequent that isn't sure.
-    fn searched(&self, alloc: Global, sequent: &Sequent) -> Attempt
-        requires unsure { ¬ IsSure sequent.now }
-        ensures allowed { AnswersWithin self.now.budget (IsSure sequent.now) sequent.now result }
-        ensures few { members_of result < 2 ^ 32 }
-    {
-        match proof_within(alloc, sequent, self.budget, ALL_PASSES) {
-            Ok(Some(tree)) => Attempt::found(tree),
-            Ok(None) => Attempt::NoProof,
-            Err(_) => Attempt::NoMemory,
-        }
-    }
 }
 
-/// A short proof, where the sequent is sure.
+/// A short proof, where the sequent is sure at once.
 fn short_proof(alloc: Global, sequent: &Sequent) -> Result<Option<Tree>, OutOfMemory>
     requires sequent { IsSequent sequent.now }
-    ensures sure { IfOk result (λ o. IsSome o ↔ IsSure sequent.now) }
+    ensures sure { IfOk result (λ o. IsSome o ↔ IsSureAtOnce sequent.now) }
     ensures short { IfOk result (λ o. IfSome o (λ tree. IsShortProof tree sequent.now)) }
 {
     if let Some(tree) = proof_by_logic(alloc, sequent)? {
@@ -61,21 +54,52 @@ fn short_proof(alloc: Global, sequent: &Sequent) -> Result<Option<Tree>, OutOfMe
     proof_by_arithmetic(alloc, sequent)
 }
 
-impl Prover for AutoProver {
-    ghost sure = { λ _ s. IsSure s };
+/// What the search finds. A proof has no leaf and so as many nodes as rules: none that is found is too large to be stored.
+fn searched(alloc: Global, sequent: &Sequent, budget: u32) -> Result<Option<Tree>, OutOfMemory>
+    ensures good { IfOk result (λ o. IfSome o (λ tree. IsGoodTree tree sequent.now)) }
+    ensures few { IfOk result (λ o. IfSome o (λ tree. rule_count tree ≤ budget)) }
+{
+    if let Some(tree) = proof_within(alloc, sequent, budget, ALL_PASSES)? {
+        if tree.node_count() <= MOST_NODES {
+            return Ok(Some(tree));
+        }
+    }
+    Ok(None)
+}
 
-    ghost answers = { λ p s attempt. AnswersWithin p.budget (IsSure s) s attempt };
+/// What the search finds, or else what is found by cases: the search goes first, since its proofs are shorter.
+fn long_proof(alloc: Global, sequent: &Sequent, budget: u32) -> Result<Option<Tree>, OutOfMemory>
+    requires sequent { IsSequent sequent.now }
+    requires most { budget ≤ 2000 }
+    ensures sure { IfOk result (λ o. IsNone o → ¬ IsSureByCases budget sequent.now) }
+    ensures good { IfOk result (λ o. IfSome o (λ tree. IsGoodTree tree sequent.now)) }
+    ensures few { IfOk result (λ o. IfSome o (λ tree. rule_count tree ≤ budget)) }
+{
+    if let Some(tree) = searched(alloc, sequent, budget)? {
+        return Ok(Some(tree));
+    }
+    proof_by_cases(alloc, sequent, budget)
+}
+
+impl Prover for AutoProver {
+    ghost sure = { λ p s. IsSure p.budget s };
+
+    ghost answers = { λ p s attempt. AnswersWithin p.budget (IsSure p.budget s) s attempt };
 
     fn attempt(&self, alloc: Global, sequent: &Sequent) -> Attempt
         requires { IsSequent sequent.now }
-        ensures allowed { AnswersWithin self.now.budget (IsSure sequent.now) sequent.now result }
-        ensures sure { IsSure sequent.now → IsGood result sequent.now }
+        ensures allowed { AnswersWithin self.now.budget (IsSure self.now.budget sequent.now) sequent.now result }
+        ensures sure { IsSure self.now.budget sequent.now → IsGood result sequent.now }
         ensures few { members_of result < 2 ^ 32 }
-        ensures short { IsSure sequent.now → IsShortIfFound result sequent.now }
+        ensures short { IsSureAtOnce sequent.now → IsShortIfFound result sequent.now }
     {
         match short_proof(alloc, sequent) {
             Ok(Some(short)) => Attempt::found(short),
-            Ok(None) => self.searched(alloc, sequent),
+            Ok(None) => match long_proof(alloc, sequent, self.budget) {
+                Ok(Some(long)) => Attempt::found(long),
+                Ok(None) => Attempt::NoProof,
+                Err(_) => Attempt::NoMemory,
+            },
             Err(_) => Attempt::NoMemory,
         }
     }
