@@ -2,17 +2,9 @@
 from __future__ import annotations
 
 import glob
-from typing import Callable
 
-from . import formulas, replies, rules, shell_words
+from . import formulas, replies, rule_words, rules, shell_words
 from .shell import Shell
-
-FITS: dict[str, Callable[[formulas.Formula], bool]] = {
-    'bot': lambda f: f.op == '⊥', 'andL': lambda f: f.op == '∧', 'orL': lambda f: f.op == '∨', 'impL': lambda f: f.op == '⇒', 'mp': lambda f: f.op == '⇒',
-    'iffL': lambda f: f.op == '⇔', 'notL': lambda f: f.op == '¬', 'allL': lambda f: f.op == '∀', 'exL': lambda f: f.op == '∃', 'eqGoal': lambda f: f.op == '=',
-    'eqHyp': lambda f: f.op == '=', 'boolDiff': lambda f: f.op == '=', 'linear': lambda f: f.op in ('≤', '<', '='), 'funIn': lambda f: f.op == '∈',
-    'funEq': lambda f: f.op == '∈', 'overOther': lambda f: f.op == '¬'}
-"""Which first hypothesis fits a rule, by shape; any other rule takes all."""
 
 FILES, NAMED, PATHS = ('load', 'bring', 'replay', 'proofs'), ('po', 'show', 'tree', 'ls', 'open', 'step'), ('leaf', 'prune')
 
@@ -62,9 +54,10 @@ class Completer:
 
     def hypotheses(self, before: list[str], sequent: replies.Sequent) -> list[str]:
         """The hypotheses that fit the rule's first item; for a later one all."""
-        fits = FITS.get(before[0]) if ';;' not in before or before[0] == 'linear' else None
+        kind = rule_words.KINDS.get(before[0]) if ';;' not in before or before[0] == 'linear' else None
+        heads = kind.heads.split() if kind else []
         for n, text in enumerate(sequent.hypotheses, 1):
             tree = formulas.try_read(text)
-            if fits is None or tree is None or fits(tree):
+            if not heads or tree is None or tree.op in heads:
                 self.shown[str(n)] = f'{n}: {text}'
         return list(self.shown)

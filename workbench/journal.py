@@ -11,11 +11,11 @@ import sys
 import threading
 from typing import Callable, NamedTuple, Optional, TypeVar
 
+from . import rule_words
 from .core_text import Core, Type
 
 MAGIC = b'RODINJ1\n'
-KINDS = ('hyp top bot contr andR andL orR orL impR impL mp iffR iffL notR notL contra allR allL exR exL cut cases review eqRefl eqGoal eqHyp boolCases '
-         'boolDiff rwGoal rwHyp linear cardNat funIn funEq overOther').split()
+KINDS = [*rule_words.NUMBERED]
 """The kinds of rules by their numbers, from 1."""
 
 sys.setrecursionlimit(max(sys.getrecursionlimit(), 60_000))  # a formula may be 4,096 high, a tree 2,048

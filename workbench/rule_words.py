@@ -1,25 +1,60 @@
 """What each kind of rule and each law is, in a line, for `help` and for buttons. docs/PROOFS.md has an example of each."""
 from __future__ import annotations
 
-KINDS = {
-    'hyp': ('h', 'the goal is hypothesis N'), 'top': ('', 'the goal is ⊤'), 'bot': ('h', 'hypothesis N is ⊥'),
-    'contr': ('h h', 'the second hypothesis denies the first one'), 'andR': ('', 'prove both sides of a goal P ∧ Q'),
-    'andL': ('h', 'take both sides of P ∧ Q'), 'orR': ('', 'of a goal P ∨ Q deny P and prove Q'), 'orL': ('h', 'of P ∨ Q a case for each side'),
-    'impR': ('', 'of a goal P ⇒ Q assume P and prove Q'), 'impL': ('h', 'of P ⇒ Q prove P, and go on with Q'),
-    'mp': ('h h', 'of P ⇒ Q and P take Q'), 'iffR': ('', 'of a goal P ⇔ Q prove both directions'), 'iffL': ('h', 'of P ⇔ Q take both directions'),
-    'notR': ('', 'of a goal ¬P assume P and prove ⊥'), 'notL': ('h', 'of ¬P prove P'), 'contra': ('', 'assume that the goal is false and prove ⊥'),
-    'allR': ('n*', 'of a goal ∀x·P take any x, by a new name for each'), 'allL': ('h e*', 'of ∀x·P take P for a value of each name'),
-    'exR': ('e*', 'of a goal ∃x·P say which value of each name'), 'exL': ('h n*', 'of ∃x·P take P, by a new name for each'),
-    'cut': ('p', 'prove a lemma, and go on with it'), 'cases': ('p', 'a case where P holds and one where it does not'),
-    'eqRefl': ('', 'the goal is E = E'), 'eqGoal': ('h', 'of E = F put F for each E in the goal'),
-    'eqHyp': ('h h', 'of E = F put F for each E in another hypothesis'), 'boolCases': ('e', 'a case where E is TRUE and one where it is FALSE'),
-    'boolDiff': ('h', 'hypothesis N is TRUE = FALSE'), 'rwGoal': ('w', 'rewrite a part of the goal by a law'),
-    'rwHyp': ('h w', 'rewrite a part of a hypothesis by a law'),
-    'linear': ('hk*', 'the denied goal and the hypotheses, each times its multiplier, add up to what can not be; without items they are looked for'),
-    'cardNat': ('e', 'of a finite set S take 0 ≤ card(S)'), 'funIn': ('h e', 'of f ∈ S → T and a value E of dom(f) take f(E) ∈ T'),
-    'funEq': ('h h', 'of E ↦ F ∈ f and f ∈ S → T take f(E) = F'),
-    'overOther': ('h', 'of z ≠ x put f(z) for (f <+ {x ↦ y})(z) in the goal')}
-"""Kinds that `step` makes: the items that each takes (`*` for as many as are needed), and what it does. `review` is a command of its own."""
+from typing import NamedTuple
+
+
+class Kind(NamedTuple):
+    """A kind of rule: the items that it takes (`*` for as many as are needed), what it does, the same in a few words, and the
+    operators of the hypotheses that its first item may name, where not all may be."""
+    items: str
+    says: str
+    short: str
+    heads: str = ''
+
+
+NUMBERED = {
+    'hyp': Kind('h', 'the goal is hypothesis N', 'the goal is a hypothesis'),
+    'top': Kind('', 'the goal is ⊤', 'the goal is ⊤'),
+    'bot': Kind('h', 'hypothesis N is ⊥', 'a hypothesis is ⊥', '⊥'),
+    'contr': Kind('h h', 'the second hypothesis denies the first one', 'two hypotheses deny each other'),
+    'andR': Kind('', 'prove both sides of a goal P ∧ Q', 'both sides'),
+    'andL': Kind('h', 'take both sides of P ∧ Q', 'take both sides', '∧'),
+    'orR': Kind('', 'of a goal P ∨ Q deny P and prove Q', 'deny one side, prove the other'),
+    'orL': Kind('h', 'of P ∨ Q a case for each side', 'a case for each side', '∨'),
+    'impR': Kind('', 'of a goal P ⇒ Q assume P and prove Q', 'assume the left side'),
+    'impL': Kind('h', 'of P ⇒ Q prove P, and go on with Q', 'prove the left side, take the right one', '⇒'),
+    'mp': Kind('h h', 'of P ⇒ Q and P take Q', 'the left side is there', '⇒'),
+    'iffR': Kind('', 'of a goal P ⇔ Q prove both directions', 'both directions'),
+    'iffL': Kind('h', 'of P ⇔ Q take both directions', 'take both directions', '⇔'),
+    'notR': Kind('', 'of a goal ¬P assume P and prove ⊥', 'assume it, prove ⊥'),
+    'notL': Kind('h', 'of ¬P prove P', 'prove what it denies', '¬'),
+    'contra': Kind('', 'assume that the goal is false and prove ⊥', 'assume the denial, prove ⊥'),
+    'allR': Kind('n*', 'of a goal ∀x·P take any x, by a new name for each', 'take any'),
+    'allL': Kind('h e*', 'of ∀x·P take P for a value of each name', 'say for which', '∀'),
+    'exR': Kind('e*', 'of a goal ∃x·P say which value of each name', 'say which'),
+    'exL': Kind('h n*', 'of ∃x·P take P, by a new name for each', 'give it a name', '∃'),
+    'cut': Kind('p', 'prove a lemma, and go on with it', 'a lemma'),
+    'cases': Kind('p', 'a case where P holds and one where it does not', 'two cases'),
+    'review': Kind('', 'take the goal for proved', 'taken for proved'),
+    'eqRefl': Kind('', 'the goal is E = E', 'both sides are the same'),
+    'eqGoal': Kind('h', 'of E = F put F for each E in the goal', 'replace in the goal', '='),
+    'eqHyp': Kind('h h', 'of E = F put F for each E in another hypothesis', 'replace in a hypothesis', '='),
+    'boolCases': Kind('e', 'a case where E is TRUE and one where it is FALSE', 'TRUE or FALSE'),
+    'boolDiff': Kind('h', 'hypothesis N is TRUE = FALSE', 'TRUE is not FALSE', '='),
+    'rwGoal': Kind('w', 'rewrite a part of the goal by a law', 'rewrite the goal'),
+    'rwHyp': Kind('h w', 'rewrite a part of a hypothesis by a law', 'rewrite a hypothesis'),
+    'linear': Kind('hk*', 'the denied goal and the hypotheses, each times its multiplier, add up to what can not be; without items they are looked for',
+                   'linear arithmetic', '≤ < ='),
+    'cardNat': Kind('e', 'of a finite set S take 0 ≤ card(S)', '0 ≤ card'),
+    'funIn': Kind('h e', 'of f ∈ S → T and a value E of dom(f) take f(E) ∈ T', 'the value of a function', '∈'),
+    'funEq': Kind('h h', 'of E ↦ F ∈ f and f ∈ S → T take f(E) = F', 'the function at a pair', '∈'),
+    'overOther': Kind('h', 'of z ≠ x put f(z) for (f <+ {x ↦ y})(z) in the goal', 'f <+ elsewhere', '¬'),
+}
+"""The kinds in the order of their numbers, from 1."""
+
+KINDS = {kind: row for kind, row in NUMBERED.items() if kind != 'review'}
+"""Kinds that `step` makes. `review` is a command of its own."""
 
 ITEMS = {'h': 'h N', 'hk': 'h N K', 'n': 'n NAME', 'e': 'e EXPRESSION', 'p': 'p PREDICATE', 'w': 'w LAW PLACE'}
 
@@ -40,7 +75,7 @@ LAWS = {
 def form(kind: str) -> str:
     """How a rule is typed, with its items."""
     found = []
-    for item in KINDS[kind][0].split():
+    for item in KINDS[kind].items.split():
         letter = item.rstrip('*')
         found.append(ITEMS[letter] + (' ;; ..' if item.endswith('*') else ''))
     return ' '.join([kind, ' ;; '.join(found)]).rstrip()

@@ -6,7 +6,7 @@ from typing import Collection, NamedTuple, Optional, Sequence
 from . import formulas, linear, rule_words
 from .formulas import Formula
 
-KINDS = {kind: items for kind, (items, _) in rule_words.KINDS.items()}
+KINDS = {kind: row.items for kind, row in rule_words.KINDS.items()}
 """Kinds that `step` makes, with the items that each takes; `*` for as many as are needed. `review` is a command of its own."""
 
 LAW_SAYS = rule_words.LAWS

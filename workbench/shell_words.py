@@ -64,7 +64,7 @@ def long(word: str) -> Iterator[str]:
         if more:
             yield more
     elif word in rule_words.KINDS:
-        yield f'{rule_words.form(word)}: {rule_words.KINDS[word][1]}'
+        yield f'{rule_words.form(word)}: {rule_words.KINDS[word].says}'
     elif word.isdigit() and int(word) in rule_words.LAWS:
         yield f'rwGoal w {word} PLACE, rwHyp h N ;; w {word} PLACE: {rule_words.LAWS[int(word)]}'
     elif word in RAW:

@@ -13,12 +13,13 @@ _ESCAPE = re.compile(r'\\u\{([0-9a-f]+)\}|\\(.)')
 
 class Tables(NamedTuple):
     """`signs`: each form with its sign's number; `classes`: of each sign by its number; `words`: of formulas, with their classes;
-    `structure`: of components; `rules`: of proofs."""
+    `structure`: of components; `rules`: of proofs; `commands`: of sessions, but for `edit`."""
     signs: list[tuple[str, int]]
     classes: list[str]
     words: list[tuple[str, str]]
     structure: list[str]
     rules: list[str]
+    commands: list[str]
 
     def forms(self, *names: str) -> list[str]:
         """The forms of the signs of some classes, the longest ones first."""
@@ -44,4 +45,5 @@ def read(top: str) -> Tables:
     signs = [(_text(form), int(number)) for form, number in re.findall(r'\("((?:[^"\\]|\\.)*)",\s*(\d+)\)', _constant(top, 'SIGNS'))]
     classes = re.findall(r'^\s*Symbol::(\w+)', _constant(top, 'SYMBOLS'), re.M)
     words = [(_text(word), kind) for word, kind in re.findall(r'\(\s*"((?:[^"\\]|\\.)*)",\s*Symbol::(\w+)', _constant(top, 'WORDS'))]
-    return Tables(signs, classes, words, _STRING.findall(_constant(top, 'STRUCTURAL')), _STRING.findall(_constant(top, 'RULE_WORDS')))
+    structure, rules, commands = (_STRING.findall(_constant(top, name)) for name in ('STRUCTURAL', 'RULE_WORDS', 'VERBS'))
+    return Tables(signs, classes, words, structure, rules, commands)

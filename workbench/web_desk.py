@@ -17,7 +17,7 @@ import time
 import zipfile
 from typing import Any, Callable, Collection, Mapping, Optional, Sequence
 
-from . import bring, formulas, lint, proofs, replies, rules, scan, spell
+from . import bring, formulas, lint, proofs, replies, rule_words, rules, scan, spell
 from .commands import Refused, raw, word
 from .project import Project
 from .proving import Proof
@@ -42,15 +42,7 @@ CALM = 10.0
 KEPT_LOG, SENT, LINES = 300, 2000, 100
 """Entries of the log that a page begins with, and how much of a command and of a reply an entry has at first."""
 
-KIND_SAYS = {
-    'hyp': 'the goal is a hypothesis', 'top': 'the goal is ⊤', 'bot': 'a hypothesis is ⊥', 'contr': 'two hypotheses deny each other', 'andR': 'both sides',
-    'andL': 'take both sides', 'orR': 'deny one side, prove the other', 'orL': 'a case for each side', 'impR': 'assume the left side',
-    'impL': 'prove the left side, take the right one', 'mp': 'the left side is there', 'iffR': 'both directions', 'iffL': 'take both directions',
-    'notR': 'assume it, prove ⊥', 'notL': 'prove what it denies', 'contra': 'assume the denial, prove ⊥', 'allR': 'take any', 'allL': 'say for which',
-    'exR': 'say which', 'exL': 'give it a name', 'cut': 'a lemma', 'cases': 'two cases', 'eqRefl': 'both sides are the same', 'eqGoal': 'replace in the goal',
-    'eqHyp': 'replace in a hypothesis', 'boolCases': 'TRUE or FALSE', 'boolDiff': 'TRUE is not FALSE', 'rwGoal': 'rewrite the goal',
-    'rwHyp': 'rewrite a hypothesis', 'linear': 'linear arithmetic', 'cardNat': '0 ≤ card', 'funIn': 'the value of a function', 'funEq': 'the function at a pair',
-    'overOther': 'f <+ elsewhere'}
+KIND_SAYS = {kind: row.short for kind, row in rule_words.KINDS.items()}
 """What the rules do, in a few words: shown beside their names, and the names that the page completes."""
 
 

@@ -13,7 +13,7 @@ import unittest
 from typing import Any, Iterator
 
 from rooms import EXAMPLES, TOP
-from workbench import bring, core_text, formulas, journal, rule_words, scan, spell, syntax, tables, texts
+from workbench import bring, core_text, formulas, journal, rule_words, scan, shell_words, spell, syntax, tables, texts
 
 TABLES = tables.read(TOP)
 EDITORS = os.path.join(TOP, 'workbench', 'editors')
@@ -51,6 +51,11 @@ class Ours(unittest.TestCase):
         kinds = document.split('## The kinds')[1].split('\n## ')[0]
         self.assertEqual(re.findall(r'^\| \d+ \| (\w+) \|', kinds, re.M), TABLES.rules)
 
+    def test_commands(self) -> None:
+        """The prompt has a word for each command of a session."""
+        self.assertEqual([it for it in TABLES.commands if it not in shell_words.WORDS and it not in shell_words.RAW], [])
+        self.assertEqual([it for it in shell_words.RAW if it not in TABLES.commands], [])
+
     def test_operators(self) -> None:
         """Each operator of printed formulas is a sign or a word of the program, or one of the four that have no sign."""
         known = {form for form, _ in TABLES.signs} | {word for word, _ in TABLES.words} | {'app', 'img', 'set'}
@@ -74,7 +79,7 @@ class Editors(unittest.TestCase):
         self.assertEqual((done.returncode, done.stdout), (0, ''))
         with tempfile.TemporaryDirectory() as room:
             shutil.copytree(os.path.join(TOP, 'workbench'), os.path.join(room, 'workbench'), ignore=shutil.ignore_patterns('tests', '__pycache__'))
-            for name in ('math_tokens', 'math_grammar', 'component_text', 'rule_words'):
+            for name in ('math_tokens', 'math_grammar', 'component_text', 'rule_words', 'session_words'):
                 shutil.copytree(os.path.join(TOP, 'crates', name, 'src'), os.path.join(room, 'crates', name, 'src'))
             words = os.path.join(room, 'crates', 'component_text', 'src', 'words.rt')
             texts.write(words, texts.read(words).replace('"sees"', '"looks"'))
