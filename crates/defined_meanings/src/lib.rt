@@ -1,0 +1,6 @@
+//! Where formulas are well-defined, what they denote doesn't depend on the choices of a classical universe. The calls do nothing.
+#![tactic(auto)]
+
+mod laws;
+
+pub use laws::{defined_formulas_denote_one, defined_sequents_agree};
