@@ -12,4 +12,3 @@ pub mod LeastRows
 pub mod GreatestRows
 pub mod FiniteRows
 pub mod LogicRows
-pub mod FactRows

@@ -1,23 +1,15 @@
 -- Closed formulas in a short form, with sorts for types.
-use Rattle.std.specs.Prelude.{ℕ, ℤ, pos, Bool, List, [], ◌∷◌, map, IsTrue, IsFalse}
+use Rattle.std.specs.Prelude.{ℕ, ℤ, pos, List, [], ◌∷◌, map, IsTrue, IsFalse}
 use Rattle.formula_core.specs.declared.Binder.{Binder}
 use Rattle.formula_core.specs.declared.Formula.{Formula}
 use Rattle.formula_core.specs.declared.Formula.TheVariants.{Int, Bound, Node, Bind}
 use Rattle.formula_core.specs.declared.Op.{Op}
 use Rattle.formula_core.specs.declared.Op.TheVariants as op
-use Rattle.formula_core.specs.declared.Ty.{Ty}
 use Rattle.formula_core.specs.declared.Ty.TheVariants as ty
 use Rattle.meanings.specs.Denotations.{holds}
 use Rattle.meanings.specs.Universes.{Universe, Valuation}
-use Rattle.meanings.specs.Values.{Sort, integer_sort, boolean_sort, carrier_sort, power_sort, pair_sort}
-
--- the type of values of a sort
-abbrev pub type : Sort → Ty
-type integer_sort = ty.Int
-type boolean_sort = ty.Bool
-type (carrier_sort name) = ty.Given name
-type (power_sort s) = ty.Pow (type s)
-type (pair_sort s t) = ty.Pair (type s) (type t)
+use Rattle.meanings.specs.Values.{Sort, integer_sort, power_sort, pair_sort}
+use Rattle.true_facts.proofs.Types.{type}
 
 pub data Short : Type 0 where
   plain : Op → Short

@@ -6,19 +6,13 @@ use Rattle.formula_core.specs.declared.Ty.TheVariants as ty
 use Rattle.meanings.specs.Denotations.{Assignment, bound_value, of_binder, denotation, holds}
 use Rattle.meanings.specs.Operations.{truth_value, of_list}
 use Rattle.meanings.specs.Universes.{Universe, Valuation, some, every, cast}
-use Rattle.meanings.specs.Values.{Sort, integer_sort, boolean_sort, carrier_sort, power_sort, pair_sort, Value, Denotation, sort}
+use Rattle.meanings.specs.Values.{Sort, integer_sort, boolean_sort, Value, Denotation, sort}
 use Rattle.meanings.proofs.Casts.{cast_own}
-use Rattle.meanings.proofs.Denotations.{sort-Int, sort-Bool, sort-Truth, sort-Given, sort-Pow, sort-Pair, denotation-Int, denotation-Bound}
+use Rattle.meanings.proofs.Denotations.{sort-Truth, denotation-Int, denotation-Bound}
 use Rattle.meanings.proofs.Quantifiers.{every_tells}
 use Rattle.meanings.proofs.Truths.{at_node, at_binder}
-use Rattle.meaning_rows.proofs.Short.{type, Short, plain, claim_of, claim, quantified, number, bound, none, one, two, binder, formula, relation}
-
-pub sort_type : (s : Sort) → sort (type s) ≡ s
-sort_type integer_sort = sort-Int
-sort_type boolean_sort = sort-Bool
-sort_type (carrier_sort name) = sort-Given name
-sort_type (power_sort s) = sort-Pow (type s) ∙ ap power_sort (sort_type s)
-sort_type (pair_sort s t) = sort-Pair (type s) (type t) ∙ (λ i. pair_sort (sort_type s i) (sort_type t i))
+use Rattle.true_facts.proofs.Types.{type, sort_type}
+use Rattle.meaning_rows.proofs.Short.{Short, plain, claim_of, claim, quantified, number, bound, none, one, two, binder, formula, relation}
 
 pub sort_types : (own : List Sort) → map sort (map type own) ≡ own
 sort_types [] = refl
