@@ -7,6 +7,7 @@ pub mod Entries
 pub mod PartitionParts
 pub mod InARow
 pub mod Named
+pub mod NeededNames
 pub mod Places
 pub mod Retyped
 pub mod Settled

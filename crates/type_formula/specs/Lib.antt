@@ -5,6 +5,7 @@ pub mod Laws
 pub mod Partition
 pub mod PrivateClosed
 pub mod PrivateGenerated
+pub mod PrivateOccurring
 pub mod PrivateViews
 pub mod Scopes
 pub mod TypeExpressions

@@ -7,6 +7,7 @@ mod denote;
 mod forms;
 mod free;
 mod laws;
+mod occurring;
 mod partition;
 mod predicate;
 mod reading;

@@ -17,6 +17,7 @@ ghost use Rattle.std.specs.Option.{option_copied};
 
 use crate::build::{BuildFault, build};
 use crate::collect::{Surroundings, System, collect};
+use crate::occurring::occurring_names;
 use crate::reading::read;
 use crate::tree::Tree;
 use crate::unknown::search;
@@ -172,6 +173,28 @@ pub fn type_tree(
         → HasTwoFormulas env.now wanted.now (bare_of tree.now) (option_copied expected.entry) }
     ensures standing { HasCarriers env.now → IsExpectedOver env.now (option_copied expected.entry)
         → IfOk result (λ f. StandsAfter env.now wanted.now f) }
+    ensures unknown { (name : List ℕ) (place : ℕ) → IsErrOf result (TypeFault.Unknown name place) → ⊥ }
+{
+    let names = occurring_names(alloc, env, wanted, tree)?;
+    type_over(alloc, env, &names, tree, expected)
+}
+
+/// Types a formula in core form, with a variable for each wanted name.
+fn type_over(
+    alloc: Global,
+    env: &Env,
+    wanted: &[Name],
+    tree: &Tree,
+    expected: Option<&Ty>,
+) -> Result<Formula, TypeFault>
+    ensures typed { IfOk result (λ f.
+        IsTheFormula env.now wanted.now (bare_of tree.now) (option_copied expected.entry) f) }
+    ensures well { IfOk result (λ f. IsTrue (is_well f)) }
+    ensures is_of_type { IfOk result (λ f. IsExpected (option_copied expected.entry) (type_of f)) }
+    ensures clash { IsErrOf result TypeFault.Clash
+        → HasNoFormula env.now wanted.now (bare_of tree.now) (option_copied expected.entry) }
+    ensures untyped { IsErrOf result TypeFault.Untyped
+        → HasTwoFormulas env.now wanted.now (bare_of tree.now) (option_copied expected.entry) }
     ensures unknown { (name : List ℕ) (place : ℕ) → IsErrOf result (TypeFault.Unknown name place) → ⊥ }
 {
     if wanted.len() >= u32::MAX as usize {

@@ -1,5 +1,5 @@
 -- From the types of the places to those of the variables.
-use Rattle.std.proofs.Common.{◌≡◌, ℕ, zero, suc, ◌<◌, ◌≤◌, true, List, [], ◌∷◌, ◌⊎◌, inl, inr, length, take, replicate, Option, None, refl, sym, ap, ◌∙◌, subst, arith, length-take}
+use Rattle.std.proofs.Common.{◌≡◌, ℕ, ◌<◌, ◌≤◌, true, List, [], ◌∷◌, ◌⊎◌, inl, inr, length, replicate, Option, refl, sym, ap, ◌∙◌, subst, arith}
 use Rattle.std.proofs.lemmas.Bool.{cases_lt}
 use Rattle.std.proofs.lemmas.List.{get_or-replicate, length-replicate}
 use Rattle.formula_core.specs.declared.ty.Ty.{Ty}
@@ -49,15 +49,6 @@ free_extension v n = record {
   holds = λ k. subst (λ m. v k ≡ value v (form_of k m)) (sym (all_free n k)) refl;
   same = λ k e. refl;
 }
-
-type_at-take : (n : ℕ) (ts : List (Option Ty)) (i : ℕ) → i < n → type_at (take n ts) i ≡ type_at ts i
-type_at-take zero ts i h = absurd (omega arith)
-type_at-take (suc n) [] i h = refl
-type_at-take (suc n) (t ∷ ts) zero h = refl
-type_at-take (suc n) (t ∷ ts) (suc i) h = type_at-take n ts i (omega arith)
-
-type_at-cut : (n : ℕ) (ts : List (Option Ty)) (i : ℕ) → n ≤ i → type_at (take n ts) i ≡ None
-type_at-cut n ts i h = let l = length-take n ts in type_at-past (take n ts) i (omega arith)
 
 -- one type below `n`, and another from there on
 abbrev choose : {P Q : Type 0} → P ⊎ Q → Ty → Ty → Ty
@@ -132,16 +123,14 @@ module _ (es : List Equality) (n : ℕ) (room : variables_in es ≤ n) (start pl
           let a = merges.added (models d).types (models d).holds in
           solves_agrees (models d).types (solution d) n (λ k h. sym (below d k h)) es room ((built.same (models d).types a.0).0 a.1)
 
-      pub known : (ts cut : List (Option Ty)) → ((k : ℕ) → k < length merged → TypeFits merged k (type_at ts k)) → cut ≡ take n ts → AreKnown es cut
-      known ts cut fits is =
-          let l = merges.long in
-          let inside = places_inside in
-          subst (AreKnown es) (sym is) (record {
+      pub known : (ts : List (Option Ty)) → length ts ≡ n → ((k : ℕ) → k < n → TypeFits merged k (type_at ts k)) → AreKnown es ts
+      known ts long fits =
+          record {
             given = λ v h s i t e. elim (cases_lt i n) [
               | inl lt ↦
-                  let fit = subst (TypeFits merged i) (sym (type_at-take n ts i lt) ∙ e) (fits i (omega arith)) in
+                  let fit = subst (TypeFits merged i) e (fits i lt) in
                   same_below v i lt ∙ fit (extended v).types (held v s)
-              | inr le ↦ let none = type_at-cut n ts i le in cc
+              | inr le ↦ let none = type_at-past ts i (omega arith) in cc
             ];
             solutions = record {
               one = solution ty.Int;
@@ -153,10 +142,10 @@ module _ (es : List Equality) (n : ℕ) (room : variables_in es ≤ n) (start pl
             };
             differ = λ i e q. elim (cases_lt i n) [
               | inl lt ↦
-                  let fit = subst (TypeFits merged i) (sym (type_at-take n ts i lt) ∙ e) (fits i (omega arith)) in
+                  let fit = subst (TypeFits merged i) e (fits i lt) in
                   fit (models ty.Int).types (models ty.Bool).types (models ty.Int).holds (models ty.Bool).holds
                   (λ k free same. let a = (models ty.Int).free k free in let b = (models ty.Bool).free k free in cc)
                   (sym (below ty.Int i lt) ∙ q ∙ below ty.Bool i lt)
               | inr le ↦ let a = above ty.Int i le in let b = above ty.Bool i le in cc
             ];
-          })
+          }

@@ -1,17 +1,15 @@
 -- An order of the places of a list of forms, each after those of its parts.
 use Rattle.std.specs.Prelude.{◌≡◌, ◌≢◌, ℕ, suc, ◌<◌, ◌≤◌, max, Bool, true, false, ◌&&◌, List, length, slice_index_or, Option, Some, None, ◌⊎◌}
 use Rattle.formula_core.specs.declared.ty.Ty.{Ty}
-use Rattle.formula_core.specs.declared.ty.Ty.TheVariants as ty
 use Rattle.formula_core.specs.declared.ty.Ty.TheOpen.{Ty-F, Pow as PowF, Pair as PairF}
 use Rattle.formula_core.specs.declared.ty.Ty.TheFolds.{fold-Ty}
 use Rattle.formula_core.specs.Types.{is_value_type}
 use Rattle.unification.specs.declared.graph.Node.{Node}
-use Rattle.unification.specs.declared.graph.Node.TheVariants.{Free, Int, Bool as BoolN, Truth, Given, Pow, Pair, Same}
+use Rattle.unification.specs.declared.graph.Node.TheVariants.{Free, Truth, Pow, Pair, Same}
 use Rattle.unification.specs.declared.ordering.Mark.{Mark}
 use Rattle.unification.specs.declared.ordering.Mark.TheVariants.{New, Open, Done}
 use Rattle.unification.specs.PrivateGraph.{node_at, form_of, node_parts, AllParts, Holds}
 use Rattle.unification.specs.Terms.{value}
-use Rattle.unification.specs.Known.{type_at, powerset_of, product_of}
 
 -- how deep a type is
 abbrev pub depth_step : Ty-F ℕ → ℕ
@@ -100,17 +98,6 @@ HasSorts ns n = (u : ℕ → Ty) → IsFine u ns → (k : ℕ) → k < n → is_
 
 abbrev pub HasWrongSort : List Node → ℕ → Type 0
 HasWrongSort ns n = (u : ℕ → Ty) → IsFine u ns → ((k : ℕ) → k < n → is_value_type (u k) ≡ true) → ⊥
-
--- the type of a form, where all its parts have one
-abbrev pub closed_form : List (Option Ty) → Node → Option Ty
-closed_form ts Free = None
-closed_form ts Int = Some ty.Int
-closed_form ts BoolN = Some ty.Bool
-closed_form ts Truth = Some ty.Truth
-closed_form ts (Given name) = Some (ty.Given name)
-closed_form ts (Pow a) = powerset_of (type_at ts a)
-closed_form ts (Pair a b) = product_of (type_at ts a) (type_at ts b)
-closed_form ts (Same a) = type_at ts a
 
 abbrev pub DifferWhereFree : List Node → (ℕ → Ty) → (ℕ → Ty) → Type 0
 DifferWhereFree ns u w = (k : ℕ) → node_at ns k ≡ Free → u k ≢ w k

@@ -1,8 +1,8 @@
-ghost use Rattle.std.specs.Prelude.{◌≡◌, ℕ, ◌<◌, ◌==◌, if◌then◌else◌, IfOk, OnOk, Some, length, vec_len};
+ghost use Rattle.std.specs.Prelude.{◌≡◌, ℕ, ◌<◌, ◌≤◌, IfOk, Some, length};
 ghost use Rattle.std.specs.Option.{option_copied};
 ghost use Rattle.unification.specs.Terms.{term_of};
 ghost use Rattle.unification.specs.Known.{type_at, closed_type};
-ghost use Rattle.unification.specs.PrivateOrder.{closed_form, IsOrder, TypeFits};
+ghost use Rattle.unification.specs.PrivateOrder.{IsOrder, TypeFits};
 
 use crate::graph::Node;
 use crate::term::Term;
@@ -53,87 +53,53 @@ fn pair_type(alloc: Global, left: Ty, right: Ty) -> Result<Option<Ty>, OutOfMemo
     Ok(Some(Ty::Pair(left, Boxed::new(alloc, right)?)))
 }
 
-/// Room for the place `i`, of which nothing is known.
-fn grow(types: &mut Vec<Option<Ty>>, i: usize) -> Result<(), OutOfMemory>
-    ensures known { OnOk result ((j : ℕ) → type_at types.new.items j ≡ type_at types.old.items j) }
-    ensures room { OnOk result (i < vec_len types.new) }
+/// The type that a place has in all solutions, if there is one. It is found, since each place comes after its parts in the order.
+fn type_at_place(
+    alloc: Global,
+    nodes: &[Node],
+    order: &[usize],
+    place: usize,
+) -> Result<Option<Ty>, OutOfMemory>
+    requires order { IsOrder nodes.now order.now }
+    requires inside { place < length nodes.now }
+    ensures { IfOk result (λ t. TypeFits nodes.now place t) }
 {
-    while types.len() <= i {
-        types.push(None)?;
-    }
-    Ok(())
-}
-
-fn put(types: &mut Vec<Option<Ty>>, i: usize, ty: Option<Ty>) -> Result<(), OutOfMemory>
-    ensures { OnOk result ((j : ℕ) → type_at types.new.items j ≡ (if j == i then ty else type_at types.old.items j)) }
-{
-    grow(types, i)?;
-    types[i] = ty;
-    Ok(())
-}
-
-/// The type of a form, where all its parts have one.
-fn close_node(alloc: Global, types: &[Option<Ty>], node: &Node) -> Result<Option<Ty>, OutOfMemory>
-    ensures { IfOk result (λ t. t ≡ closed_form types.now node.now) }
-{
-    match node {
+    match &nodes[place] {
         Node::Free => Ok(None),
         Node::Int => Ok(Some(Ty::Int)),
         Node::Bool => Ok(Some(Ty::Bool)),
         Node::Truth => Ok(Some(Ty::Truth)),
         Node::Given(name) => Ok(Some(Ty::Given(name.copy(alloc)?))),
-        Node::Pow(part) => match copy_at(alloc, types, *part)? {
+        Node::Pow(part) => match type_at_place(alloc, nodes, order, *part)? {
             Some(part) => Ok(Some(Ty::Pow(Boxed::new(alloc, part)?))),
             None => Ok(None),
         },
-        Node::Pair(left, right) => match copy_at(alloc, types, *left)? {
-            Some(left) => match copy_at(alloc, types, *right)? {
+        Node::Pair(left, right) => match type_at_place(alloc, nodes, order, *left)? {
+            Some(left) => match type_at_place(alloc, nodes, order, *right)? {
                 Some(right) => pair_type(alloc, left, right),
                 None => Ok(None),
             },
             None => Ok(None),
         },
-        Node::Same(place) => copy_at(alloc, types, *place),
+        Node::Same(other) => type_at_place(alloc, nodes, order, *other),
     }
 }
 
-fn copy_at(alloc: Global, types: &[Option<Ty>], place: usize) -> Result<Option<Ty>, OutOfMemory>
-    ensures { IfOk result (λ t. t ≡ type_at types.now place) }
-{
-    match types.get(place) {
-        Some(found) => match found {
-            Some(ty) => Ok(Some(ty.copy(alloc)?)),
-            None => Ok(None),
-        },
-        None => Ok(None),
-    }
-}
-
-fn write_one(
-    alloc: Global,
-    types: &mut Vec<Option<Ty>>,
-    at: usize,
-    node: &Node,
-) -> Result<(), OutOfMemory>
-    ensures { OnOk result ((j : ℕ) → type_at types.new.items j
-        ≡ (if j == at then closed_form types.old.items node.now else type_at types.old.items j)) }
-{
-    let ty = close_node(alloc, types, node)?;
-    put(types, at, ty)
-}
-
-/// The type of each place that has one in all solutions.
+/// The type of each of the first places that has one in all solutions.
 pub(crate) fn write_types(
     alloc: Global,
     nodes: &[Node],
     order: &[usize],
+    count: usize,
 ) -> Result<Vec<Option<Ty>>, OutOfMemory>
-    requires { IsOrder nodes.now order.now }
-    ensures { IfOk result (λ types. (k : ℕ) → k < length nodes.now → TypeFits nodes.now k (type_at types.items k)) }
+    requires order { IsOrder nodes.now order.now }
+    requires count { count ≤ length nodes.now }
+    ensures long { IfOk result (λ types. length types.items ≡ count) }
+    ensures types { IfOk result (λ types. (k : ℕ) → k < count → TypeFits nodes.now k (type_at types.items k)) }
 {
     let mut types = Vec::new(alloc);
-    for at in order {
-        write_one(alloc, &mut types, *at, &nodes[*at])?;
+    for place in 0..count {
+        types.push(type_at_place(alloc, nodes, order, place)?)?;
     }
     Ok(types)
 }

@@ -57,7 +57,6 @@ pub fn solve(alloc: Global, equations: Vec<Equation>) -> Result<Vec<Option<Ty>>,
     merge(&mut nodes, &mut pairs)?;
     let order = order_places(alloc, &nodes)?;
     check_sorts(alloc, &nodes, &order, count)?;
-    let mut types = write_types(alloc, &nodes, &order)?;
-    types.truncate(count);
+    let types = write_types(alloc, &nodes, &order, count)?;
     Ok(types)
 }

@@ -1,4 +1,4 @@
-use Rattle.std.proofs.Common.{◌≤◌, ◌<◌, ℕ, length, subst, arith}
+use Rattle.std.proofs.Common.{◌≤◌, ◌<◌, ℕ, subst, arith}
 use Rattle.std.proofs.lemmas.Result.{err_from_is_err_and}
 use Rattle.unification.specs.Solutions.{equations_of}
 use Rattle.unification.specs.Known.{type_at}
@@ -37,6 +37,5 @@ returns-clause-known c =
     known _ c.count_variables-count.result (subst (λ xs. variables_in (equations_of xs) ≤ c.count_variables-count.result) c.deref.ensures.value (omega (arith, c.count_variables-count.ensures))) _ _ _ c.in_ok-nodes.ensures c.in_ok-pairs.ensures _ c.in_ok-merge.ensures.merged
     (subst HasModels c.deref-2.ensures.value c.in_ok-order.ensures.models)
     (subst (λ ns. HasSorts ns n) c.deref-3.ensures.value c.in_ok-check_sorts.ensures.sorts)
-    types _
-    (subst (λ ns. (k : ℕ) → k < length ns → TypeFits ns k (type_at types k)) c.deref-5.ensures.value c.in_ok-types.ensures)
-    c.truncate.ensures.items
+    types c.in_ok-types.ensures.long
+    (subst (λ ns. (k : ℕ) → k < n → TypeFits ns k (type_at types k)) c.deref-5.ensures.value c.in_ok-types.ensures.types)
