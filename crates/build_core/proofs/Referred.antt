@@ -16,6 +16,7 @@ use Rattle.model_core.specs.declared.checked.Checked.{Checked}
 use Rattle.model_core.specs.declared.checked.Checked.TheVariants.{Context, Machine}
 use Rattle.model_core.specs.declared.checked.CheckedContext.{CheckedContext}
 use Rattle.model_core.specs.declared.checked.CheckedMachine.{CheckedMachine}
+use Rattle.check_rules.specs.Components.{AreByName}
 use Rattle.check_rules.specs.Contexts.{Outcome}
 use Rattle.static_check.specs.Parts.{ArePartsOf}
 use Rattle.build_core.specs.Projects.{wanting, wanted_references, reference_row, reference_faults, checked_in}
@@ -73,18 +74,28 @@ context_there component r (Some (Err fault)) e = not_empty _ [] e
 context_there component r (Some (Ok (Context c))) e = (c, refl)
 context_there component r (Some (Ok (Machine m))) e = not_empty _ [] e
 
+-- the context with which a component ends
+abbrev ended_in : Option Outcome → Option CheckedContext
+ended_in (Some (Ok (Context c))) = Some c
+ended_in _ = None
+
 -- contexts, at references that want them
-contexts_there : (outcomes : Outcomes) (component : List ℕ) (refs : List Ref) → faults_at outcomes component (wanting true refs) ≡ [] →
-    (contexts : List CheckedContext) × (parts_at outcomes (wanting true refs) ≡ map (λ c. Context c) contexts) × (length contexts ≡ length refs)
-contexts_there outcomes component [] e = ([], refl, refl)
-contexts_there outcomes component (r ∷ refs) e =
+contexts_found : (outcomes : Outcomes) (component : List ℕ) (refs : List Ref) → faults_at outcomes component (wanting true refs) ≡ [] →
+    (contexts : List CheckedContext) × (parts_at outcomes (wanting true refs) ≡ map (λ c. Context c) contexts) × (map Some contexts ≡ map (λ r. ended_in (found outcomes r.name)) refs)
+contexts_found outcomes component [] e = ([], refl, refl)
+contexts_found outcomes component (r ∷ refs) e =
     let both = both_empty (reference_row component (r, true) (found outcomes r.name)) (faults_at outcomes component (wanting true refs)) e in
     let here = context_there component r (found outcomes r.name) both.0 in
-    let rest = contexts_there outcomes component refs both.1 in (
+    let rest = contexts_found outcomes component refs both.1 in (
       here.0 ∷ rest.0,
       ap (λ o. filter_map checked_in (o ∷ outcomes_at outcomes (wanting true refs))) here.1 ∙ ap (λ ps. Context here.0 ∷ ps) rest.1,
-      ap suc rest.2,
+      (λ i. sym (ap ended_in here.1) i ∷ rest.2 i),
     )
+
+contexts_there : (outcomes : Outcomes) (component : List ℕ) (refs : List Ref) → faults_at outcomes component (wanting true refs) ≡ [] →
+    (contexts : List CheckedContext) × (parts_at outcomes (wanting true refs) ≡ map (λ c. Context c) contexts) × AreByName refs contexts
+contexts_there outcomes component refs e =
+    let there = contexts_found outcomes component refs e in (there.0, there.1, ((λ name. ended_in (found outcomes name)), there.2))
 
 -- parts without fault are those that are wanted
 pub parts_wanted : (outcomes : Outcomes) (component : List ℕ) (c : RawComponent) → faults_at outcomes component (wanted_references c) ≡ [] → ArePartsOf c (parts_at outcomes (wanted_references c))

@@ -1,5 +1,5 @@
 -- What a component checks to, beside the components that it references.
-use Rattle.std.specs.Prelude.{◌≡◌, List, [], ◌∷◌, map, length, Option, Some, None, Bool, true, false, Result}
+use Rattle.std.specs.Prelude.{◌≡◌, ℕ, List, [], ◌∷◌, map, Option, Some, None, Bool, true, false, Result}
 use Rattle.std.specs.List.{filter_map}
 use Rattle.formula_core.specs.declared.raw.Ref.{Ref}
 use Rattle.model_core.specs.declared.component.RawComponent.{RawComponent}
@@ -42,10 +42,15 @@ abbrev pub context_references : RawComponent → List Ref
 context_references (raw.Context name extends sets constants axioms) = extends
 context_references (raw.Machine name refines sees variables invariants variant events) = sees
 
--- The parts are contexts, one for each reference to a context.
+-- one context for each reference, and the same one for references of the same name
+abbrev pub AreByName : List Ref → List CheckedContext → Type 0
+AreByName references contexts =
+    (named : List ℕ → Option CheckedContext) × (map Some contexts ≡ map (λ r. named r.name) references)
+
+-- The parts are contexts, one for each reference to a context, by their names.
 abbrev pub AreContextsOf : RawComponent → List Checked → Type 0
 AreContextsOf component parts =
-    (contexts : List CheckedContext) × (parts ≡ map (λ c. Context c) contexts) × (length contexts ≡ length (context_references component))
+    (contexts : List CheckedContext) × (parts ≡ map (λ c. Context c) contexts) × AreByName (context_references component) contexts
 
 -- Kinds 10 to 24, beside the parts: the components that it references, in the order of its references.
 abbrev pub ChecksBeside : RawComponent → List Checked → Outcome → Type 0

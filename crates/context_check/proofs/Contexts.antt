@@ -19,7 +19,7 @@ use Rattle.check_rules.specs.Visible.{Visible, nothing, seen_from, entries, name
 use Rattle.check_rules.specs.Declarations.{brings_clash, declared_twice, labelled_twice}
 use Rattle.check_rules.specs.Typed.{Entries, AreTyped, never_typed, in_order}
 use Rattle.check_rules.specs.Contexts.{Outcome, ChecksAxioms, ChecksContext, context_env, checked_context_of, names_of, labels_of}
-use Rattle.check_rules.specs.Components.{AreContextsOf, ChecksBeside, context_in, contexts_in, context_references}
+use Rattle.check_rules.specs.Components.{AreByName, AreContextsOf, ChecksBeside, context_in, contexts_in, context_references}
 use Rattle.context_check.specs.declared.fault.CheckFault.{CheckFault}
 use Rattle.context_check.specs.declared.fault.CheckFault.TheVariants as why
 use Rattle.context_check.specs.Typings.{AreTypedSoFar}
@@ -78,8 +78,8 @@ pub contexts_of : (contexts : List CheckedContext) → contexts_in (map (λ c. C
 contexts_of [] = refl
 contexts_of (c ∷ contexts) = ap (λ cs. c ∷ cs) (contexts_of contexts)
 
-pub as_many : (component : RawComponent) (parts : List Checked) → AreContextsOf component parts → length (context_references component) ≡ length (contexts_in parts)
-as_many component parts h = sym (ap length (ap contexts_in h.1 ∙ contexts_of h.0) ∙ h.2)
+pub by_name : (component : RawComponent) (parts : List Checked) → AreContextsOf component parts → AreByName (context_references component) (contexts_in parts)
+by_name component parts h = subst (AreByName (context_references component)) (sym (ap contexts_in h.1 ∙ contexts_of h.0)) h.2
 
 pub beside : (component : RawComponent) (parts : List Checked) (name : Ref) (extends sets constants : List Ref) (axioms : List RawLabelled) (e s k : List Ref) (a : List RawLabelled)
     (contexts : List CheckedContext) (outcome : Outcome) → component ≡ raw.Context name extends sets constants axioms → e ≡ extends → s ≡ sets → k ≡ constants → a ≡ axioms → contexts ≡ contexts_in parts →

@@ -1,3 +1,4 @@
+pub mod Brought
 pub mod Private
 pub mod Texts
 pub mod Typings

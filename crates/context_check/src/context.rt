@@ -10,7 +10,7 @@ ghost use Rattle.check_rules.specs.Visible.{entries, origins};
 ghost use Rattle.check_rules.specs.Declarations.{declared_twice, labelled_twice};
 ghost use Rattle.check_rules.specs.Typed.{in_order};
 ghost use Rattle.check_rules.specs.Contexts.{ChecksAxioms, ChecksContext, carrier_set, checked_context_of, labels_of, names_of};
-ghost use Rattle.check_rules.specs.Components.{AreContextsOf, ChecksBeside, contexts_in, is_context};
+ghost use Rattle.check_rules.specs.Components.{AreByName, AreContextsOf, ChecksBeside, contexts_in, is_context};
 ghost use Rattle.model_core.specs.Borrowed.{has};
 ghost use Rattle.context_check.specs.Views.{placed, visible};
 ghost use Rattle.context_check.specs.Private.{AreDeclaredOnce, placed_names};
@@ -272,7 +272,7 @@ fn check_beside(
     axioms: &[RawLabelled],
     parents: &[&CheckedContext],
 ) -> Result<Result<Checked, Fault>, OutOfMemory>
-    requires { length extends.now ≡ length parents.now }
+    requires { AreByName extends.now (map (λ p. p.now) parents.now) }
     ensures { IfOk result (λ outcome.
         ChecksContext name.now extends.now sets.now constants.now axioms.now (map (λ p. p.now) parents.now) outcome) }
 {

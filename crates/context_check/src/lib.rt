@@ -1,6 +1,7 @@
 //! Checks contexts, and what the checks of contexts and machines share.
 #![tactic(auto)]
 
+mod brought;
 pub mod context;
 pub mod copies;
 pub mod declarations;

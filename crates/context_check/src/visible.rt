@@ -1,19 +1,22 @@
 //! What a component sees of others.
 
 ghost use Rattle.std.specs.Prelude.{◌≡◌, ◌++◌, ◌∷◌, [], ◌||◌, ◌&&◌, ℕ, List, Some, None, IfOk, OnOk};
-ghost use Rattle.std.specs.Prelude.{bytes_eq, length, map, not};
+ghost use Rattle.std.specs.Prelude.{bytes_eq, map, not};
 ghost use Rattle.std.specs.List.{filter, zip};
 ghost use Rattle.std.specs.Option.{option_copied, option_map, option_to_list};
 ghost use Rattle.formula_core.specs.Env.{HasDistinctNames};
 ghost use Rattle.model_core.specs.Each.{is_among};
 ghost use Rattle.model_core.specs.Faults.{fault_at, first_by_place};
+ghost use Rattle.check_rules.specs.Components.{AreByName};
 ghost use Rattle.check_rules.specs.Declarations.{brings_clash};
-ghost use Rattle.check_rules.specs.Visible.{clashing, entries, all_visible, nothing, of_context, origins};
+ghost use Rattle.check_rules.specs.Visible.{entries, nothing, origins};
 ghost use Rattle.check_rules.specs.Visible.{seen_from, with_context, with_new};
 ghost use Rattle.model_core.specs.Borrowed.{texts, has};
 ghost use Rattle.context_check.specs.Views.{placed, differs, clashes, clashes_with, visible, IsIndexed};
 ghost use Rattle.context_check.specs.Private.{first_clashing};
+ghost use Rattle.context_check.specs.Brought.{clash_in};
 
+use crate::brought::{add_once, clash_of, nothing_brought};
 use crate::declarations::{Texts, has, put};
 use formula_core::{Name, OutOfMemory, Ref, Ty};
 use model_core::{CheckedContext, Fault, FaultKind, Labelled, earlier, fault_at};
@@ -371,25 +374,20 @@ fn clash_told(
 }
 
 /// The first name of a context that another component has.
-pub fn clash_at(
+pub(crate) fn clash_name<'a>(
     alloc: Global,
-    component: &Name,
     view: &View<'_>,
-    place: u32,
-    context: &CheckedContext,
-) -> Result<Option<Fault>, OutOfMemory>
+    context: &'a CheckedContext,
+) -> Result<Option<&'a Name>, OutOfMemory>
     requires { IsIndexed view.now }
-    ensures { IfOk result (λ here. here ≡ first_by_place
-        (map (λ n. fault_at component.now FaultKind.DeclaredTwice place n.0.0)
-        (clashing (all_visible (visible view.now)) (of_context context.now)))) }
+    ensures { IfOk result (λ found. option_map (λ n. n.now) found ≡ clash_in (visible view.now) context.entry.now) }
 {
     let pairs = pairs(alloc, context.env.entries(), context.env_of.items())?;
-    let found = first_clash(&view.names, &pairs);
-    let here = clash_told(alloc, component, place, found)?;
-    Ok(here)
+    Ok(first_clash(&view.names, &pairs))
 }
 
-/// Adds the contexts. The answer is the first clash that a reference to one of them brings.
+/// Adds the contexts. The answer is the first clash that a reference to one of them brings. A reference that is repeated
+/// costs no more than two look-ups, but for the first one after something new was seen.
 pub fn add_referenced<'a>(
     alloc: Global,
     component: &Name,
@@ -398,7 +396,7 @@ pub fn add_referenced<'a>(
     contexts: &[&'a CheckedContext],
 ) -> Result<Option<Fault>, OutOfMemory>
     requires indexed { IsIndexed view.now }
-    requires each { length references.now ≡ length contexts.now }
+    requires each { AreByName references.now (map (λ c. c.now) contexts.now) }
     ensures first { IfOk result (λ first. first ≡ first_by_place
         (brings_clash component.now (visible view.old) (zip references.now (map (λ c. c.now) contexts.now)))) }
     ensures seen { OnOk result (visible view.new ≡ seen_from (visible view.old) (map (λ c. c.now) contexts.now)) }
@@ -407,10 +405,13 @@ pub fn add_referenced<'a>(
         first ≡ None → HasDistinctNames (entries (visible view.new).constants)) }
 {
     let mut first = None;
+    let mut brought = nothing_brought(alloc);
     for (at, context) in contexts.iter().enumerate() {
-        let here = clash_at(alloc, component, view, references[at].place, context)?;
+        let reference = &references[at];
+        let found = clash_of(alloc, view, &mut brought.clashes, reference, context)?;
+        let here = clash_told(alloc, component, reference.place, found)?;
         first = earlier(first, here);
-        add_context(alloc, view, context)?;
+        add_once(alloc, view, &mut brought, reference, context)?;
     }
     Ok(first)
 }

@@ -1,12 +1,12 @@
 //! Checks a machine by itself.
 
-ghost use Rattle.std.specs.Prelude.{◌≡◌, false, Ok, Err, IsErrOf, IfOk, length, map};
+ghost use Rattle.std.specs.Prelude.{◌≡◌, false, Ok, Err, IsErrOf, IfOk, map};
 ghost use Rattle.std.specs.List.{zip};
 ghost use Rattle.std.specs.Option.{option_copied};
 ghost use Rattle.model_core.specs.declared.fault.Fault.{Fault as Told};
 ghost use Rattle.model_core.specs.Faults.{first_by_place};
 ghost use Rattle.check_rules.specs.Assignments.{assignment_faults};
-ghost use Rattle.check_rules.specs.Components.{AreContextsOf, ChecksApart, is_context};
+ghost use Rattle.check_rules.specs.Components.{AreByName, AreContextsOf, ChecksApart, is_context};
 ghost use Rattle.check_rules.specs.Contexts.{names_of};
 ghost use Rattle.check_rules.specs.Machines.{ChecksFormulasApart, ChecksMachineApart, abstract_events, abstract_view, all_variables};
 ghost use Rattle.machine_check.specs.PrivateEvents.{both_of};
@@ -169,7 +169,7 @@ fn check_apart<'a>(
     written: &WrittenMachine<'_>,
     seen: &[&'a CheckedContext],
 ) -> Result<Result<(CheckedMachine, Option<Fault>), Fault>, OutOfMemory>
-    requires { length written.now.sees.now ≡ length seen.now }
+    requires { AreByName written.now.sees.now (map (λ c. c.now) seen.now) }
     ensures { IfOk result (λ answer. ChecksMachineApart (option_copied abstraction.entry) (written_of written.now)
         (map (λ c. c.now) seen.now) answer) }
 {

@@ -9,7 +9,7 @@ use Rattle.model_core.specs.declared.checked.CheckedMachine.{CheckedMachine}
 use Rattle.check_rules.specs.Components.{AreContextsOf}
 
 -- One part for each reference, in their order, each of the sort that is wanted: the machine that a machine refines, and the contexts that a component
--- sees or extends.
+-- sees or extends, the same one where a name is repeated.
 abbrev pub ArePartsOf : RawComponent → List Checked → Type 0
 ArePartsOf (raw.Context name extends sets constants axioms) parts = AreContextsOf (raw.Context name extends sets constants axioms) parts
 ArePartsOf (raw.Machine name refines sees variables invariants variant events) parts =

@@ -60,8 +60,8 @@ fn check_beside(
 }
 
 /// Checks a component beside those that it references, one part for each reference and in their order: first the machine
-/// that it refines, if it refines one, and then the contexts that it sees or extends. The answer is the component without
-/// fault, or its first fault of kinds 10 to 24. A call is one step of the counter.
+/// that it refines, if it refines one, and then the contexts that it sees or extends, the same one where a name is repeated.
+/// The answer is the component without fault, or its first fault of kinds 10 to 24. A call is one step of the counter.
 pub fn check<L: Ledger>(
     alloc: Global,
     raw: &RawComponent,

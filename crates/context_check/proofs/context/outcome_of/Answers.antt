@@ -1,12 +1,13 @@
-use Rattle.std.proofs.Common.{◌∙◌, sym, ap, map, length}
-use Rattle.check_rules.specs.Components.{context_references}
-use Rattle.context_check.proofs.Contexts.{as_many, beside, length_map}
+use Rattle.std.proofs.Common.{◌∙◌, sym, ap, map, subst}
+use Rattle.check_rules.specs.Components.{AreByName, context_references}
+use Rattle.context_check.proofs.Contexts.{by_name, beside}
 use Rattle.context_check.proofs.context.outcome_of.Goals as goal
 
 pub check_beside-requires : goal.check_beside-requires
 check_beside-requires c =
-    ap length c.items.ensures ∙ sym (ap (λ r. length (context_references r)) c.in-Context.is) ∙ as_many c.args.raw.now (map (λ p. p.now) c.args.parents.now) c.requires.parents
-    ∙ ap length (sym c.in_ok-parents.ensures) ∙ length_map (λ p. p.now) c.in_ok-parents.parents.items ∙ ap length (sym c.deref.ensures.value)
+    subst (λ rs. AreByName rs (map (λ p. p.now) c.deref.result.now)) (sym (c.items.ensures ∙ sym (ap context_references c.in-Context.is)))
+    (subst (AreByName (context_references c.args.raw.now)) (sym c.in_ok-parents.ensures ∙ ap (map (λ p. p.now)) (sym c.deref.ensures.value))
+    (by_name c.args.raw.now (map (λ p. p.now) c.args.parents.now) c.requires.parents))
 
 pub returns : goal.returns
 returns c =

@@ -1,14 +1,15 @@
-use Rattle.std.proofs.Common.{◌∙◌, sym, ap, map, length}
+use Rattle.std.proofs.Common.{◌∙◌, sym, ap, map, subst}
 use Rattle.std.specs.Option.{option_copied}
-use Rattle.check_rules.specs.Components.{context_references}
-use Rattle.context_check.proofs.Contexts.{as_many, length_map}
+use Rattle.check_rules.specs.Components.{AreByName, context_references}
+use Rattle.context_check.proofs.Contexts.{by_name}
 use Rattle.machine_check.proofs.Machines.{apart}
 use Rattle.machine_check.proofs.machine.outcome_of.Goals as goal
 
 pub check_apart-requires : goal.check_apart-requires
 check_apart-requires c =
-    ap length c.items.ensures ∙ sym (ap (λ r. length (context_references r)) c.in-Machine.is) ∙ as_many c.args.raw.now (map (λ p. p.now) c.args.seen.now) c.requires.seen
-    ∙ ap length (sym c.in_ok-seen.ensures) ∙ length_map (λ p. p.now) c.in_ok-seen.seen.items ∙ ap length (sym c.deref.ensures.value)
+    subst (λ rs. AreByName rs (map (λ p. p.now) c.deref.result.now)) (sym (c.items.ensures ∙ sym (ap context_references c.in-Machine.is)))
+    (subst (AreByName (context_references c.args.raw.now)) (sym c.in_ok-seen.ensures ∙ ap (map (λ p. p.now)) (sym c.deref.ensures.value))
+    (by_name c.args.raw.now (map (λ p. p.now) c.args.seen.now) c.requires.seen))
 
 pub returns : goal.returns
 returns c =
