@@ -1,6 +1,6 @@
 //! Attempts to prove a sequent, each with more fuel.
 use crate::finder::Finder;
-use search_facts::{Counts, Facts, Limits};
+use search_facts::{Counts, Facts, Limits, Normals};
 use search_instances::tells_pairs;
 use search_steps::{Id, Search, Stop};
 use search_terms::{Branch, Comparisons};
@@ -118,6 +118,7 @@ fn found(
             search,
             comparisons: Comparisons::new(alloc),
             counts: Counts::new(alloc),
+            normals: Normals::new(alloc),
             near,
             unfolds: passes.unfolds,
             reckons: passes.reckons,

@@ -2,7 +2,7 @@
 use crate::finder::Finder;
 use formula_core::Op;
 use search_facts::{Limits, Next, Plan, Turn, Way};
-use search_instances::{best_instance, pair_of_value};
+use search_instances::{Others, best_instance, other_instance, pair_of_value};
 use search_passes::{
     application, bounds_of_values, cardinality, equal_arguments, equal_bounds, goal_step,
     nearest_clause, propagate, saturate, split, truth_value,
@@ -111,8 +111,9 @@ impl Finder {
 
     fn next_instance(&mut self, b: &mut Branch, limits: &mut Limits) -> Result<Next, Stop> {
         let may_turn = b.turns <= self.rounds.saturating_mul(32);
+        let mut others = Others::new(self.facts.search.alloc());
         if limits.rounds > 0 && may_turn {
-            let next = best_instance(&mut self.facts, b, 1)?;
+            let next = best_instance(&mut self.facts, b, &mut others)?;
             if !is_still(next) {
                 b.turns = b.turns.saturating_add(1);
                 return Ok(next);
@@ -132,7 +133,7 @@ impl Finder {
                 return Ok(next);
             }
         }
-        self.next_split(b, limits, may_turn)
+        self.next_split(b, limits, may_turn, others)
     }
 
     fn next_split(
@@ -140,6 +141,7 @@ impl Finder {
         b: &mut Branch,
         limits: &mut Limits,
         may_turn: bool,
+        others: Others,
     ) -> Result<Next, Stop> {
         if limits.splits > 0 {
             let next = bounds_of_values(&mut self.facts, b)?;
@@ -151,7 +153,7 @@ impl Finder {
             }
         }
         if limits.rounds > 0 && may_turn {
-            let next = best_instance(&mut self.facts, b, 3)?;
+            let next = other_instance(&mut self.facts, b, others)?;
             if !is_still(next) {
                 limits.rounds = limits.rounds.saturating_sub(1);
                 return Ok(next);

@@ -1,5 +1,6 @@
 //! What a search for a proof keeps, and which passes it makes.
 use crate::fourier::Counts;
+use crate::rewriting::Normals;
 use formula_core::Op;
 use rule_table::Law;
 use search_steps::{Bank, Id, Search, Span, Stop};
@@ -16,6 +17,7 @@ pub struct Facts {
     pub search: Search,
     pub comparisons: Comparisons,
     pub counts: Counts,
+    pub normals: Normals,
     pub near: Span,
     pub unfolds: bool,
     pub reckons: bool,

@@ -14,4 +14,5 @@ mod witness;
 pub use facts::Facts;
 pub use fourier::Counts;
 pub use plan::{Limits, Next, Plan, Turn, Way};
+pub use rewriting::Normals;
 pub use triggers::{Trigger, is_in};

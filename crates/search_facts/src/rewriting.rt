@@ -4,6 +4,58 @@ use formula_core::Op;
 use rule_table::Law;
 use search_steps::{Id, Kind, Link, NONE, Stop};
 use search_terms::{Branch, Equation, State};
+use std::alloc::Global;
+
+/// What a formula is by the equations of one version, and the looks that it took to find it.
+#[derive(Clone, Copy)]
+struct Normal {
+    version: u32,
+    form: Id,
+    looks: u32,
+}
+
+/// What formulas are by the equations of branches: of each formula what was found last.
+#[derive(Drop)]
+pub struct Normals {
+    found: Vec<Normal>,
+    versions: u32,
+}
+
+impl Normals {
+    pub fn new(alloc: Global) -> Normals {
+        Normals {
+            found: Vec::new(alloc),
+            versions: 0,
+        }
+    }
+
+    fn of(&self, f: Id, version: u32) -> Option<Normal> {
+        match self.found.get(f as usize) {
+            Some(normal) if normal.version == version => Some(*normal),
+            _ => None,
+        }
+    }
+
+    fn note(&mut self, count: usize, f: Id, normal: Normal) -> Result<(), Stop> {
+        for _ in self.found.len()..count {
+            self.found.push(Normal {
+                version: 0,
+                form: NONE,
+                looks: 0,
+            })?;
+        }
+        if (f as usize) < self.found.len() {
+            self.found[f as usize] = normal;
+        }
+        Ok(())
+    }
+
+    /// The version of equations that were never there.
+    fn next(&mut self) -> u32 {
+        self.versions = self.versions.saturating_add(1);
+        self.versions
+    }
+}
 
 impl Facts {
     /// Has an equation among the hypotheses as it rewrites, and gives it.
@@ -71,6 +123,7 @@ impl Facts {
             right,
             hyp: h,
         })?;
+        b.version = self.normals.next();
         for i in 0..b.order.len() {
             let f = b.at(i);
             if f != h && self.is_to_renew(b, f) && self.search.bank.contains(f, left, LEVELS) {
@@ -108,21 +161,42 @@ impl Facts {
 
     /// A formula rewritten by the equations of the branch, on paper.
     pub fn normal(&mut self, b: &Branch, f: Id) -> Result<Id, Stop> {
+        if b.equations.is_empty() {
+            return Ok(f);
+        }
+        if let Some(normal) = self.normals.of(f, b.version) {
+            self.search.look_again(normal.looks)?;
+            return Ok(normal.form);
+        }
+        let mut looks: u32 = 0;
         let mut now = f;
         for _ in 0..12u32 {
             let before = now;
-            for i in 0..b.equations.len() {
-                let equation = self.equation_at(b, i);
-                if self.search.bank.may_contain(now, equation.left) {
-                    self.search.look()?;
-                    now = self
-                        .search
-                        .bank
-                        .replaced(now, equation.left, equation.right, 4096)?;
-                }
-            }
+            now = self.once_rewritten(b, now, &mut looks)?;
             if now == before {
-                return Ok(now);
+                break;
+            }
+        }
+        let normal = Normal {
+            version: b.version,
+            form: now,
+            looks,
+        };
+        self.normals.note(self.search.bank.len(), f, normal)?;
+        Ok(now)
+    }
+
+    /// A formula rewritten by each equation of the branch, and so many looks more.
+    fn once_rewritten(&mut self, b: &Branch, f: Id, looks: &mut u32) -> Result<Id, Stop> {
+        let mut now = f;
+        for equation in &b.equations {
+            if self.search.bank.may_contain(now, equation.left) {
+                self.search.look()?;
+                *looks = looks.saturating_add(1);
+                now = self
+                    .search
+                    .bank
+                    .replaced(now, equation.left, equation.right, 4096)?;
             }
         }
         Ok(now)

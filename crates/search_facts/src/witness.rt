@@ -4,8 +4,7 @@ use formula_core::Op;
 use rule_table::Law;
 use search_steps::{Id, NONE, Stop};
 use search_terms::{
-    Branch, bounded, filled, is_full, is_of_integers, is_plain, matches, may_match, misses,
-    unfilled,
+    Branch, bounded, filled, is_full, is_of_integers, is_plain, matches, misses, unfilled,
 };
 
 /// The most candidates.
@@ -115,9 +114,13 @@ impl Facts {
             return Ok(());
         }
         self.search.look_over(b.order.len())?;
+        let set = self.search.bank.part(atom, 1);
+        let is_closed = self.search.bank.is_closed(set);
         for i in 0..b.order.len() {
             let h = b.at(i);
-            if may_match(&self.search.bank, atom, h) {
+            if self.search.bank.is(h, Op::Member)
+                && (!is_closed || self.search.bank.part(h, 1) == set)
+            {
                 self.search.look()?;
                 let mut more = Vec::from_slice(self.search.alloc(), terms)?;
                 if matches(&self.search.bank, atom, h, 0, &mut more, 32) {

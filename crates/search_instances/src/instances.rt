@@ -7,6 +7,7 @@ use search_terms::{
     Branch, Instance, Spread, assembled, filled, is_full, is_plain, left_whole, matches, may_match,
     misses, take_apart, unfilled,
 };
+use std::alloc::Global;
 
 /// The most candidates of one formula, and the most matches of one trigger.
 const MOST: usize = 100;
@@ -34,24 +35,49 @@ impl Ground {
     }
 }
 
-/// Triggers, and what they are matched against.
-#[derive(Clone, Copy)]
-struct Matching<'a> {
-    triggers: &'a [Trigger],
-    ground: &'a Ground,
+/// A trigger, the ground formulas that are like it at a glance, and how many there are in all.
+#[derive(Drop)]
+struct Target {
+    trigger: Trigger,
+    like: Vec<Id>,
+    count: usize,
 }
 
-/// Which alternatives an instance may leave.
-#[derive(Clone, Copy)]
-struct Allowed {
-    most: u32,
-    is_bare: bool,
+/// The most alternatives that an instance may leave.
+const MOST_ALTERNATIVES: u32 = 3;
+
+/// Instances that leave more alternatives than the best, and the looks that it took to find all.
+#[derive(Drop)]
+pub struct Others {
+    found: Vec<Instance>,
+    looks: u32,
 }
 
-impl Allowed {
-    /// Whether an instance may leave so many. What a bare formula tells is worth no alternative.
-    fn allows(self, cost: u32) -> bool {
-        cost <= self.most && (cost != 1 || !self.is_bare || self.most != 1)
+impl Others {
+    pub fn new(alloc: Global) -> Others {
+        Others {
+            found: Vec::new(alloc),
+            looks: 0,
+        }
+    }
+}
+
+/// Instances by how many alternatives they leave: at most one, or more. What a bare formula tells is worth none.
+#[derive(Drop)]
+struct Instances {
+    best: Vec<Instance>,
+    others: Vec<Instance>,
+}
+
+impl Instances {
+    fn add(&mut self, instance: Instance, is_bare: bool) -> Result<(), Stop> {
+        let cost = instance.rank.0;
+        if cost == 0 || cost == 1 && !is_bare {
+            self.best.push(instance)?;
+        } else if cost <= MOST_ALTERNATIVES {
+            self.others.push(instance)?;
+        }
+        Ok(())
     }
 }
 
@@ -207,18 +233,12 @@ fn candidates(
     }
     let mut found = Vec::new(facts.search.alloc());
     let terms = unfilled(facts.search.alloc(), spread.count)?;
-    let matching = Matching {
-        triggers: &triggers,
-        ground,
-    };
-    join(facts, matching, 0, &terms, &mut found, 9)?;
+    let targets = targets_of(facts, &triggers, ground)?;
+    join(facts, &targets, 0, &terms, &mut found, 9)?;
     if found.is_empty() && spread.count > 1 && spread.count <= 4 && triggers.len() <= 12 {
         let back = reversed(facts, &triggers)?;
-        let matching = Matching {
-            triggers: &back,
-            ground,
-        };
-        join(facts, matching, 0, &terms, &mut found, 9)?;
+        let targets = targets_of(facts, &back, ground)?;
+        join(facts, &targets, 0, &terms, &mut found, 9)?;
     }
     Ok(found)
 }
@@ -307,11 +327,30 @@ fn reversed(facts: &Facts, triggers: &[Trigger]) -> Result<Vec<Trigger>, Stop> {
     Ok(back)
 }
 
+fn targets_of(facts: &Facts, triggers: &[Trigger], ground: &Ground) -> Result<Vec<Target>, Stop> {
+    let mut targets = Vec::new(facts.search.alloc());
+    for trigger in triggers {
+        let pool = ground.pool(!facts.is_predicate(trigger.formula));
+        let mut like = Vec::new(facts.search.alloc());
+        for other in pool {
+            if may_match(&facts.search.bank, trigger.formula, *other) {
+                like.push(*other)?;
+            }
+        }
+        targets.push(Target {
+            trigger: *trigger,
+            like,
+            count: pool.len(),
+        })?;
+    }
+    Ok(targets)
+}
+
 /// Goes on with the triggers from a place.
 #[cycle(join)]
 fn join(
     facts: &mut Facts,
-    matching: Matching<'_>,
+    targets: &[Target],
     from: usize,
     terms: &[Id],
     found: &mut Vec<Vec<Id>>,
@@ -321,14 +360,13 @@ fn join(
         return Ok(());
     }
     if is_full(terms) {
-        let whole = Vec::from_slice(facts.search.alloc(), terms)?;
-        return add_once(found, whole);
+        return add_once(found, terms);
     }
     if is_begun(terms) {
-        add_filled(facts, matching.triggers, terms, found)?;
+        add_filled(facts, targets, terms, found)?;
     }
-    for i in from..matching.triggers.len() {
-        let trigger = matching.triggers[i];
+    for i in from..targets.len() {
+        let trigger = targets[i].trigger;
         if misses(
             &facts.search.bank,
             trigger.formula,
@@ -336,7 +374,7 @@ fn join(
             terms,
             64,
         ) {
-            join_matches(facts, matching, i, terms, found, levels - 1)?;
+            join_matches(facts, targets, i, terms, found, levels - 1)?;
         }
     }
     Ok(())
@@ -345,73 +383,115 @@ fn join(
 #[cycle(join)]
 fn join_matches(
     facts: &mut Facts,
-    matching: Matching<'_>,
+    targets: &[Target],
     at: usize,
     terms: &[Id],
     found: &mut Vec<Vec<Id>>,
     levels: u32,
 ) -> Result<(), Stop> {
-    if levels == 0 || at >= matching.triggers.len() {
+    if levels == 0 || at >= targets.len() {
         return Ok(());
     }
-    let matches = matches_of(facts, matching.triggers[at], terms, matching.ground)?;
+    let matches = matches_of(facts, &targets[at], terms)?;
     for more in &matches {
-        join(facts, matching, at + 1, more, found, levels - 1)?;
+        join(facts, targets, at + 1, more, found, levels - 1)?;
     }
     Ok(())
 }
 
 /// Terms with which a trigger is one of the ground formulas.
-fn matches_of(
-    facts: &mut Facts,
-    trigger: Trigger,
-    terms: &[Id],
-    ground: &Ground,
-) -> Result<Vec<Vec<Id>>, Stop> {
+fn matches_of(facts: &mut Facts, target: &Target, terms: &[Id]) -> Result<Vec<Vec<Id>>, Stop> {
     let mut found = Vec::new(facts.search.alloc());
-    let f = trigger.formula;
-    if trigger.depth == 0 {
-        let mut more = Vec::from_slice(facts.search.alloc(), terms)?;
-        if filled(&mut facts.search.bank, f, &mut more)? {
-            add_once(&mut found, more)?;
-        }
+    let mut more = Vec::from_slice(facts.search.alloc(), terms)?;
+    let trigger = target.trigger;
+    if trigger.depth == 0 && filled(&mut facts.search.bank, trigger.formula, &mut more)? {
+        add_once(&mut found, &more)?;
     }
-    let is_term = !facts.is_predicate(f);
-    let pool = ground.pool(is_term);
-    facts.search.look_over(pool.len())?;
-    for other in pool {
-        if found.len() < MOST_MATCHES && may_match(&facts.search.bank, f, *other) {
-            facts.search.look()?;
-            add_match(facts, trigger, *other, terms, &mut found)?;
-            if facts.search.bank.is(f, Op::Equal) && facts.search.bank.is(*other, Op::Equal) {
-                let turned = facts.search.bank.turned(*other)?;
-                add_match(facts, trigger, turned, terms, &mut found)?;
-            }
+    let is_equation = facts.search.bank.is(trigger.formula, Op::Equal);
+    facts.search.look_over(target.count)?;
+    for other in &target.like {
+        if found.len() >= MOST_MATCHES {
+            return Ok(found);
+        }
+        facts.search.look()?;
+        if is_equation {
+            add_equation(
+                &facts.search.bank,
+                trigger,
+                *other,
+                terms,
+                &mut more,
+                &mut found,
+            )?;
+        } else {
+            add_match(
+                &facts.search.bank,
+                trigger,
+                *other,
+                terms,
+                &mut more,
+                &mut found,
+            )?;
         }
     }
     Ok(found)
 }
 
+/// Adds the terms with which a trigger is a ground formula, if there are such. `more` is where they are tried.
 fn add_match(
-    facts: &Facts,
+    bank: &Bank,
     trigger: Trigger,
     other: Id,
     terms: &[Id],
+    more: &mut Vec<Id>,
     found: &mut Vec<Vec<Id>>,
 ) -> Result<(), Stop> {
-    let mut more = Vec::from_slice(facts.search.alloc(), terms)?;
-    if matches(
-        &facts.search.bank,
-        trigger.formula,
-        other,
-        trigger.depth,
-        &mut more,
-        32,
-    ) && more.as_slice() != terms
-    {
-        return add_once(found, more);
+    put_back(more, terms);
+    if matches(bank, trigger.formula, other, trigger.depth, more, 32) {
+        return add_more(found, more, terms);
     }
     Ok(())
+}
+
+/// The same for two equations, of which one may be turned round.
+fn add_equation(
+    bank: &Bank,
+    trigger: Trigger,
+    other: Id,
+    terms: &[Id],
+    more: &mut Vec<Id>,
+    found: &mut Vec<Vec<Id>>,
+) -> Result<(), Stop> {
+    let (left, right) = bank.two(trigger.formula);
+    let (first, second) = bank.two(other);
+    if bank.ty(left) != bank.ty(first) {
+        return Ok(());
+    }
+    add_match(bank, trigger, other, terms, more, found)?;
+    put_back(more, terms);
+    if matches(bank, left, second, trigger.depth, more, 31)
+        && matches(bank, right, first, trigger.depth, more, 31)
+    {
+        return add_more(found, more, terms);
+    }
+    Ok(())
+}
+
+/// Terms become others again, of which there are as many.
+fn put_back(terms: &mut Vec<Id>, before: &[Id]) {
+    for i in 0..before.len() {
+        if i < terms.len() {
+            terms[i] = before[i];
+        }
+    }
+}
+
+/// Adds terms that have more than those before.
+fn add_more(found: &mut Vec<Vec<Id>>, more: &[Id], before: &[Id]) -> Result<(), Stop> {
+    if is_same(more, before) {
+        return Ok(());
+    }
+    add_once(found, more)
 }
 
 /// Whether an identifier has a term.
@@ -427,21 +507,22 @@ fn is_begun(terms: &[Id]) -> bool {
 /// Adds the terms with those that equations of the body give, if these are all.
 fn add_filled(
     facts: &mut Facts,
-    triggers: &[Trigger],
+    targets: &[Target],
     terms: &[Id],
     found: &mut Vec<Vec<Id>>,
 ) -> Result<(), Stop> {
     let mut full = Vec::from_slice(facts.search.alloc(), terms)?;
-    fill_all(facts, triggers, &mut full)?;
+    fill_all(facts, targets, &mut full)?;
     if is_full(&full) {
-        return add_once(found, full);
+        return add_once(found, &full);
     }
     Ok(())
 }
 
 /// Fills identifiers by equations of the body.
-fn fill_all(facts: &mut Facts, triggers: &[Trigger], terms: &mut Vec<Id>) -> Result<(), Stop> {
-    for trigger in triggers {
+fn fill_all(facts: &mut Facts, targets: &[Target], terms: &mut Vec<Id>) -> Result<(), Stop> {
+    for target in targets {
+        let trigger = target.trigger;
         if trigger.depth == 0 {
             let _ = filled(&mut facts.search.bank, trigger.formula, terms)?;
         }
@@ -511,14 +592,13 @@ fn add_plain_term(facts: &mut Facts, ty: Id, out: &mut Vec<Id>) -> Result<(), St
     Ok(())
 }
 
-/// The instances of a hypothesis that leave at most so many alternatives.
+/// The instances of a hypothesis.
 fn add_instances(
     facts: &mut Facts,
     b: &Branch,
     f: Id,
     ground: &Ground,
-    most: u32,
-    out: &mut Vec<Instance>,
+    out: &mut Instances,
 ) -> Result<(), Stop> {
     let spread = take_apart(&mut facts.search.bank, f)?;
     let mut found = candidates(facts, f, &spread, ground)?;
@@ -527,13 +607,12 @@ fn add_instances(
         found = small_terms(facts, b, f)?;
     }
     let is_bare = is_bare(facts, f)?;
-    let allowed = Allowed { most, is_bare };
     for terms in &found {
         let whole = assembled(&mut facts.search.bank, &spread.shapes, terms)?;
-        add_instance(facts, b, f, whole, allowed, out)?;
+        add_instance(facts, b, f, whole, is_bare, out)?;
     }
     if !is_split {
-        add_named_pairs(facts, b, f, ground, allowed, out)?;
+        add_named_pairs(facts, b, f, ground, is_bare, out)?;
     }
     Ok(())
 }
@@ -544,15 +623,15 @@ fn add_named_pairs(
     b: &Branch,
     f: Id,
     ground: &Ground,
-    allowed: Allowed,
-    out: &mut Vec<Instance>,
+    is_bare: bool,
+    out: &mut Instances,
 ) -> Result<(), Stop> {
     let spread = left_whole(&mut facts.search.bank, f)?;
     let found = candidates(facts, f, &spread, ground)?;
     for terms in &found {
         if has_named_pair(&facts.search.bank, terms) {
             let terms = Vec::from_slice(facts.search.alloc(), terms)?;
-            add_instance(facts, b, f, terms, allowed, out)?;
+            add_instance(facts, b, f, terms, is_bare, out)?;
         }
     }
     Ok(())
@@ -573,8 +652,8 @@ fn add_instance(
     b: &Branch,
     f: Id,
     terms: Vec<Id>,
-    allowed: Allowed,
-    out: &mut Vec<Instance>,
+    is_bare: bool,
+    out: &mut Instances,
 ) -> Result<(), Stop> {
     let mut generation: u32 = 0;
     let mut size: u32 = 0;
@@ -602,16 +681,9 @@ fn add_instance(
     let Some(cost) = cost(facts, b, body, true, 24)? else {
         return Ok(());
     };
-    if !allowed.allows(cost) {
-        return Ok(());
-    }
     let far = if b.note(f).from_goal { 0 } else { 1 };
-    out.push(Instance {
-        of: f,
-        terms,
-        rank: (cost, far, facts.distance(body), size),
-    })?;
-    Ok(())
+    let rank = (cost, far, facts.distance(body), size);
+    out.add(Instance { of: f, terms, rank }, is_bare)
 }
 
 /// How many alternatives a formula leaves as a new hypothesis, or none where it tells nothing new.
@@ -677,24 +749,48 @@ fn opened_plainly(facts: &mut Facts, f: Id) -> Result<Id, Stop> {
     }
 }
 
-/// The best instance that leaves at most so many alternatives. Others as good wait for the next turns.
-pub fn best_instance(facts: &mut Facts, b: &mut Branch, most: u32) -> Result<Next, Stop> {
+/// The best instance that leaves at most one alternative. Others as good wait for the next turns; those that leave more
+/// are put aside.
+pub fn best_instance(facts: &mut Facts, b: &mut Branch, aside: &mut Others) -> Result<Next, Stop> {
     for _ in 0..b.waiting.len() {
         if let Some(waiting) = b.waiting.pop() {
-            if waiting.rank.0 <= most && is_still_good(facts, b, &waiting)? {
+            if waiting.rank.0 <= 1 && is_still_good(facts, b, &waiting)? {
                 return use_instance(facts, b, &waiting);
             }
         }
     }
-    let mut found: Vec<Instance> = Vec::new(facts.search.alloc());
+    let before = facts.search.looks();
+    let Instances { best, others } = instances_of(facts, b)?;
+    aside.found = others;
+    aside.looks = facts.search.looks().saturating_sub(before);
+    first_of(facts, b, best)
+}
+
+/// The best of the instances that were put aside, in the branch as it was then.
+pub fn other_instance(facts: &mut Facts, b: &mut Branch, aside: Others) -> Result<Next, Stop> {
+    facts.search.look_again(aside.looks)?;
+    first_of(facts, b, aside.found)
+}
+
+fn instances_of(facts: &mut Facts, b: &Branch) -> Result<Instances, Stop> {
+    let mut found = Instances {
+        best: Vec::new(facts.search.alloc()),
+        others: Vec::new(facts.search.alloc()),
+    };
     let ground = ground_of(facts, b)?;
     for i in 0..b.order.len() {
         let f = b.at(i);
         let is_universal = facts.search.bank.binds(f, Binder::ForAll);
         if b.is_live(f) && is_universal && !tells_pairs(&facts.search.bank, f) {
-            add_instances(facts, b, f, &ground, most, &mut found)?;
+            add_instances(facts, b, f, &ground, &mut found)?;
         }
     }
+    Ok(found)
+}
+
+/// The first of these is used, and those as good wait.
+fn first_of(facts: &mut Facts, b: &mut Branch, found: Vec<Instance>) -> Result<Next, Stop> {
+    let mut found = found;
     let Some(chosen) = take_best(&mut found) else {
         return Ok(Next::Turn(Turn::Still));
     };
@@ -757,14 +853,27 @@ pub(crate) fn instance_at(
     }))
 }
 
-fn add_once(found: &mut Vec<Vec<Id>>, terms: Vec<Id>) -> Result<(), Stop> {
+fn add_once(found: &mut Vec<Vec<Id>>, terms: &[Id]) -> Result<(), Stop> {
     for other in found.iter() {
-        if other.as_slice() == terms.as_slice() {
+        if is_same(other, terms) {
             return Ok(());
         }
     }
-    found.push(terms)?;
+    let copy = Vec::from_slice(*found.allocator(), terms)?;
+    found.push(copy)?;
     Ok(())
+}
+
+fn is_same(terms: &[Id], others: &[Id]) -> bool {
+    if terms.len() != others.len() {
+        return false;
+    }
+    for i in 0..terms.len() {
+        if terms[i] != others[i] {
+            return false;
+        }
+    }
+    true
 }
 
 fn least(a: Option<u32>, b: Option<u32>) -> Option<u32> {

@@ -4,5 +4,5 @@
 mod instances;
 mod pairs;
 
-pub use instances::best_instance;
+pub use instances::{Others, best_instance, other_instance};
 pub use pairs::{pair_of_value, tells_pairs};

@@ -56,20 +56,23 @@ impl Search {
     /// The step's number, where it has its kind's form.
     pub fn made(&mut self, step: Step) -> Result<Option<u32>, Stop> {
         self.tick()?;
-        match self.body(step)? {
-            Some(body) => {
-                let number = self.keep(step, &body)?;
-                Ok(Some(number))
+        let mut step = step;
+        match self.taken_apart(step)? {
+            Some(left) => step.left = left,
+            None => {
+                let Some(body) = self.body(step)? else {
+                    return Ok(None);
+                };
+                step.goal = self.goal_of(&body.goal)?;
+                step.hyps = self.formula_list(body.hyps.items())?;
+                step.left = self.keep_left(body.antecedents.items())?;
             }
-            None => Ok(None),
         }
+        let number = self.keep(step)?;
+        Ok(Some(number))
     }
 
-    fn keep(&mut self, step: Step, body: &Body) -> Result<u32, Stop> {
-        let mut step = step;
-        step.goal = self.goal_of(&body.goal)?;
-        step.hyps = self.formula_list(body.hyps.items())?;
-        step.left = self.keep_left(body.antecedents.items())?;
+    fn keep(&mut self, step: Step) -> Result<u32, Stop> {
         if self.steps.len() >= 1073741824 {
             return Err(Stop::Spent);
         }
@@ -95,17 +98,26 @@ impl Search {
     }
 
     fn keep_left(&mut self, antecedents: &[Antecedent]) -> Result<Span, Stop> {
-        if self.left.len() >= 1073741824 || antecedents.len() >= 1048576 {
+        let mut sequents = Vec::new(self.alloc);
+        for antecedent in antecedents {
+            let left = self.left_of(antecedent)?;
+            sequents.push(left)?;
+        }
+        self.leave(&sequents)
+    }
+
+    /// A new part of the list of sequents that are left.
+    pub(crate) fn leave(&mut self, sequents: &[Left]) -> Result<Span, Stop> {
+        if self.left.len() >= 1073741824 || sequents.len() >= 1048576 {
             return Err(Stop::Spent);
         }
         let start = self.left.len() as u32;
-        for antecedent in antecedents {
-            let left = self.left_of(antecedent)?;
-            self.left.push(left)?;
+        for left in sequents {
+            self.left.push(*left)?;
         }
         Ok(Span {
             start,
-            count: antecedents.len() as u32,
+            count: sequents.len() as u32,
         })
     }
 

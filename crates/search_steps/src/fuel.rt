@@ -26,6 +26,17 @@ impl Search {
         self.look_at(1)
     }
 
+    /// How many looks there were.
+    pub fn looks(&self) -> u32 {
+        self.looks
+    }
+
+    /// So many looks at what was found before.
+    pub fn look_again(&mut self, looks: u32) -> Result<(), Stop> {
+        let left = self.most_looks.saturating_sub(self.looks);
+        self.look_at(looks.min(left.saturating_add(1)))
+    }
+
     /// A short look at each of so many formulas: 32 of these count as one.
     pub fn look_over(&mut self, formulas: usize) -> Result<(), Stop> {
         let count = (formulas / 32).min(1048576) as u32;

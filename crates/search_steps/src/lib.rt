@@ -2,6 +2,7 @@
 #![tactic(auto)]
 
 mod antecedents;
+mod apart;
 mod fold;
 mod fuel;
 mod kind;

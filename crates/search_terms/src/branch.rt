@@ -47,7 +47,7 @@ struct Entry {
 }
 
 /// The entries stand in the order in which they came. The table has the places of them, counted from 1, by their
-/// formulas; 0 is no place.
+/// formulas; 0 is no place. Branches of a search with the same version have the same equations.
 #[derive(Drop)]
 pub struct Branch {
     entries: Vec<Entry>,
@@ -57,6 +57,7 @@ pub struct Branch {
     pub next: usize,
     pub goal: Id,
     pub equations: Vec<Equation>,
+    pub version: u32,
     pub bounds: Bounds,
     pub has_new_bounds: bool,
     pub at_once: Id,
@@ -91,6 +92,7 @@ impl Branch {
             next: 0,
             goal,
             equations: Vec::new(alloc),
+            version: 0,
             bounds: Bounds::new(alloc),
             has_new_bounds: false,
             at_once: NONE,
@@ -111,6 +113,7 @@ impl Branch {
             next: self.next,
             goal: self.goal,
             equations: Vec::from_slice(alloc, &self.equations)?,
+            version: self.version,
             bounds: self.bounds.copy(alloc)?,
             has_new_bounds: self.has_new_bounds,
             at_once: self.at_once,

@@ -34,6 +34,12 @@ impl Bank {
             return Ok(term_for(terms, at.saturating_sub(depth), id));
         }
         let inner = depth.saturating_add(term.types.count);
+        if term.parts.count == 2 {
+            let (left, right) = self.two(id);
+            let left = self.instantiated(left, terms, inner, levels - 1)?;
+            let right = self.instantiated(right, terms, inner, levels - 1)?;
+            return self.with_parts(id, &[left, right]);
+        }
         let parts = self.instantiated_parts(term.parts, terms, inner, levels - 1)?;
         self.with_parts(id, &parts)
     }
@@ -69,14 +75,26 @@ impl Bank {
         if levels == 0 {
             return Err(Stop::Spent);
         }
-        let parts = self.replaced_parts(self.term(id).parts, old, new, levels - 1)?;
-        self.with_parts(id, &parts)
+        let parts = self.term(id).parts;
+        for i in 0..parts.count {
+            let part = self.at(parts, i);
+            let changed = self.replaced(part, old, new, levels - 1)?;
+            if changed != part {
+                let made = self.replaced_after(parts, i, changed, old, new, levels - 1)?;
+                return self.with_parts(id, &made);
+            }
+        }
+        Ok(id)
     }
 
+    /// Parts of which those before a place stay and the one there is known; those after it have `new` in the place of
+    /// each outermost `old`.
     #[cycle(replacing)]
-    fn replaced_parts(
+    fn replaced_after(
         &mut self,
         parts: Span,
+        at: u32,
+        changed: Id,
         old: Id,
         new: Id,
         levels: u32,
@@ -84,9 +102,13 @@ impl Bank {
         let mut made = Vec::new(self.alloc);
         if levels > 0 {
             for i in 0..parts.count {
-                let part = self.at(parts, i);
-                let changed = self.replaced(part, old, new, levels - 1)?;
-                made.push(changed)?;
+                let mut part = self.at(parts, i);
+                if i == at {
+                    part = changed;
+                } else if i > at {
+                    part = self.replaced(part, old, new, levels - 1)?;
+                }
+                made.push(part)?;
             }
         }
         Ok(made)
