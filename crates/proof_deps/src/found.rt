@@ -9,7 +9,7 @@ ghost use Rattle.proof_deps.specs.Private.{antecedents_on, Allows, Narrows};
 
 use crate::print::print;
 use crate::way::Way;
-use formula_core::{Env, Formula, Name, OutOfMemory, Ty};
+use formula_core::{Env, EnvFault, Formula, Name, OutOfMemory, Ty};
 use sequent_core::Rule;
 use std::alloc::Global;
 use std::collections::BTreeMap;
@@ -204,11 +204,13 @@ impl Found {
 
 /// Adds a name that isn't there yet, so that only memory can be wanting.
 fn add_used(alloc: Global, used: &mut Env, name: &Name, ty: &Ty) -> Result<(), OutOfMemory>
+    requires { type_in used.old name.now ≡ None }
     ensures { OnOk result (used.new ≡ used.old ++ (name.now, ty.now) ∷ []) }
 {
     let name = name.copy(alloc)?;
     match used.add(name, ty.copy(alloc)?) {
         Ok(()) => Ok(()),
-        Err(_) => Err(OutOfMemory),
+        Err(EnvFault::OutOfMemory) => Err(OutOfMemory),
+        Err(EnvFault::Taken) => unreachable!(),
     }
 }

@@ -25,7 +25,7 @@ pub(crate) fn replaced_over(
     add_replaced_over(f, alloc, z, x, &mut out)?;
     match out.pop() {
         Some(g) => Ok(g),
-        None => Err(OutOfMemory),
+        None => unreachable!(),
     }
 }
 

@@ -19,7 +19,7 @@ pub fn replaced(
     add_replaced(f, alloc, old, new, &mut out)?;
     match out.pop() {
         Some(g) => Ok(g),
-        None => Err(OutOfMemory),
+        None => unreachable!(),
     }
 }
 
