@@ -26,15 +26,18 @@ use Rattle.proof_entries.specs.declared.Origin.{Origin}
 use Rattle.proof_entries.specs.declared.Proof.{Proof}
 use Rattle.proof_entries.specs.declared.Entry.{Entry}
 use Rattle.proof_entries.specs.declared.Entry.TheVariants.{SetProof, Build as BuildEntry}
+use Rattle.readings_core.specs.declared.Follows.{Follows}
+use Rattle.readings_core.specs.declared.Follows.TheVariants.{Yes, NotDerived, NotPlain}
+use Rattle.readings_core.specs.Follows.{IsFollowsAnswer}
 use Rattle.core_steps.specs.Durable.{text_cmp, ProjectMap}
 use Rattle.core_steps.specs.declared.events.Status.{Status}
 use Rattle.core_steps.specs.declared.events.Status.TheVariants.{Unattempted, Pending, Reviewed, Discharged, Broken}
 use Rattle.core_steps.specs.declared.events.Event.{Event}
 use Rattle.core_steps.specs.declared.events.Event.TheVariants.{Edit, Delete, Build, Step, Prune, Take, Finish, Purge, Ask}
 use Rattle.core_steps.specs.declared.events.Question.{Question}
-use Rattle.core_steps.specs.declared.events.Question.TheVariants.{Statuses as AskStatuses, Faults as AskFaults, Show, TreeOf, Digest as AskDigest, Idle as AskIdle}
+use Rattle.core_steps.specs.declared.events.Question.TheVariants.{Statuses as AskStatuses, Faults as AskFaults, Show, TreeOf, Follows as AskFollows, Digest as AskDigest, Idle as AskIdle}
 use Rattle.core_steps.specs.declared.events.Reply.{Reply}
-use Rattle.core_steps.specs.declared.events.Reply.TheVariants.{Built, TableFull, TreeFull, Now, Shown, NotOpen, NoTicket, Noted, NoMemory, Stored, Refused, Stale, Statuses, Faults}
+use Rattle.core_steps.specs.declared.events.Reply.TheVariants.{Built, TableFull, TreeFull, Now, Shown, NotOpen, NoTicket, Noted, NoMemory, Stored, Refused, Stale, Statuses, Faults, Followed}
 use Rattle.core_steps.specs.State.{State, entered}
 use Rattle.core_steps.specs.Status.{IsTreeStatus, IsStatus, Shows}
 use Rattle.po_rules.specs.Gathering.{table_limit}
@@ -44,7 +47,7 @@ use Rattle.core_steps.specs.Table.{IsTable, IsPresent}
 use Rattle.core_steps.specs.Faults.{AreFaults, AreWarnings}
 use Rattle.core_steps.specs.Outcomes.{StepOutcome, told, entering, Where, Unless}
 use Rattle.core_steps.specs.Editing.{Edits, Deletes, Builds, Purges}
-use Rattle.core_steps.specs.Proving.{OnObligation, stored_tree, Keeps, Puts, StepsAt, PrunesAt, ShowsOne, ShowsAt, ShowsTree}
+use Rattle.core_steps.specs.Proving.{OnObligation, stored_tree, Keeps, Puts, StepsAt, PrunesAt, ShowsOne, ShowsAt, ShowsTree, ShowsFollows}
 use Rattle.core_steps.specs.Tickets.{IsOpen, TakesFirst, TakesNamed, TellsNotOpen, taking, IsIdle, CanStore, IsPresentStatus, EndsTicket, Finishes, tried_with, by_prover}
 use Rattle.core_steps.specs.Step.{Tells, ComesBeside, Comes}
 use Rattle.core_steps.specs.Laws.{AreApart, IsOrderly}
@@ -235,6 +238,22 @@ shows_at s name (Some path) q x y =
 shows_tree : (s : State) (name : List ℕ) (q : Sequent) (x y : StepOutcome) → ShowsTree s name q x → ShowsTree s name q y → x ≡ y
 shows_tree s name q x y = where_one (join _) (join _)
 
+-- one answer is right of a tree and a sequent
+one_follows : (tree : Tree) (s : Sequent) (a b : Follows) → IsFollowsAnswer tree s a → IsFollowsAnswer tree s b → a ≡ b
+one_follows tree s NotDerived NotDerived x y = refl
+one_follows tree s NotDerived (NotPlain there) x y = absurd (x y.0)
+one_follows tree s NotDerived Yes x y = absurd (x y.0)
+one_follows tree s (NotPlain here) NotDerived x y = absurd (y x.0)
+one_follows tree s (NotPlain here) (NotPlain there) x y = ap (λ path. NotPlain path) (some_one here there (sym x.1 ∙ y.1))
+one_follows tree s (NotPlain here) Yes x y = absurd (none_some here (sym y.1 ∙ x.1))
+one_follows tree s Yes NotDerived x y = absurd (y x.0)
+one_follows tree s Yes (NotPlain there) x y = absurd (none_some there (sym x.1 ∙ y.1))
+one_follows tree s Yes Yes x y = refl
+
+shows_follows : (s : State) (name : List ℕ) (q : Sequent) (x y : StepOutcome) → ShowsFollows s name q x → ShowsFollows s name q y → x ≡ y
+shows_follows s name q x y a b =
+    a.2 ∙ ap (λ answer. told s (Followed name answer)) (one_follows (stored_tree s.durable.proofs name) q a.0 b.0 a.1 b.1) ∙ sym b.2
+
 takes_first : (s : State) (table : List Obligation) (x y : StepOutcome) → TakesFirst s table x → TakesFirst s table y → x ≡ y
 takes_first s table x y (inl a) (inl b) = join _ a.1 b.1
 takes_first s table x y (inl a) (inr b) = absurd (none_cut (IsOpen s) table b.0 b.2 b.1 b.3 a.0 b.5)
@@ -340,6 +359,7 @@ module _ (laws : Laws) where
       u.4 ∙ (λ i. told s (Faults (faults i) (warnings i))) ∙ sym v.4
   tells s table (Show name path) x y u v = on_obligation s table name x y _ _ (λ q. shows_at s name path q x y) u v
   tells s table (TreeOf name) x y u v = on_obligation s table name x y _ _ (λ q. shows_tree s name q x y) u v
+  tells s table (AskFollows name) x y u v = on_obligation s table name x y _ _ (λ q. shows_follows s name q x y) u v
   tells s table AskDigest x y u v = join _ u v
   tells s table AskIdle x y u v = where_one (join _) (join _) u v
 

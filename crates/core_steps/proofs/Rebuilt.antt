@@ -22,7 +22,7 @@ use Rattle.core_steps.specs.declared.events.Status.TheVariants.{Discharged}
 use Rattle.core_steps.specs.declared.events.Event.{Event}
 use Rattle.core_steps.specs.declared.events.Event.TheVariants.{Edit, Delete, Build, Step, Prune, Take, Finish, Purge, Ask}
 use Rattle.core_steps.specs.declared.events.Question.{Question}
-use Rattle.core_steps.specs.declared.events.Question.TheVariants.{Statuses as AskStatuses, Faults as AskFaults, Show, TreeOf, Digest as AskDigest, Idle as AskIdle}
+use Rattle.core_steps.specs.declared.events.Question.TheVariants.{Statuses as AskStatuses, Faults as AskFaults, Show, TreeOf, Follows as AskFollows, Digest as AskDigest, Idle as AskIdle}
 use Rattle.core_steps.specs.State.{State, entered}
 use Rattle.core_steps.specs.Status.{IsStatus}
 use Rattle.core_steps.specs.Table.{IsTable, IsPresent}
@@ -92,6 +92,7 @@ module _ (s : State) (x : StepOutcome) (table : List Obligation) (is : IsTable s
   question_right AskFaults a = right _ tt a.4
   question_right (Show name path) a = on_obligation s x table is name _ (λ q present. shows_at s x table is name path q present) a
   question_right (TreeOf name) a = on_obligation s x table is name _ (λ q present. where_any (right _ tt) (right _ tt)) a
+  question_right (AskFollows name) a = on_obligation s x table is name _ (λ q present b. right _ (table, q, is, present, b.1) b.2) a
   question_right AskDigest a = right _ tt a
   question_right AskIdle a = where_any (right _ tt) (right _ tt) a
 

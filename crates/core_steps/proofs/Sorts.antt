@@ -19,7 +19,7 @@ use Rattle.core_steps.specs.Durable.{text_cmp}
 use Rattle.core_steps.specs.declared.events.Event.{Event}
 use Rattle.core_steps.specs.declared.events.Event.TheVariants.{Edit, Delete, Build, Step, Prune, Take, Finish, Purge, Ask}
 use Rattle.core_steps.specs.declared.events.Question.{Question}
-use Rattle.core_steps.specs.declared.events.Question.TheVariants.{Statuses as AskStatuses, Faults as AskFaults, Show, TreeOf, Digest as AskDigest, Idle as AskIdle}
+use Rattle.core_steps.specs.declared.events.Question.TheVariants.{Statuses as AskStatuses, Faults as AskFaults, Show, TreeOf, Follows as AskFollows, Digest as AskDigest, Idle as AskIdle}
 use Rattle.core_steps.specs.declared.events.Reply.{Reply}
 use Rattle.core_steps.specs.State.{State, entered_if}
 use Rattle.core_steps.specs.Outcomes.{StepOutcome, told, entering, Where, Unless}
@@ -92,6 +92,7 @@ module _ (s : State) (x : StepOutcome) where
   question_sort table AskFaults a = tells _ a.4
   question_sort table (Show name path) a = on_obligation table name _ (λ q. shows_at name path q) a
   question_sort table (TreeOf name) a = on_obligation table name _ (λ q. where_any (tells _) (tells _)) a
+  question_sort table (AskFollows name) a = on_obligation table name _ (λ q b. tells _ b.2) a
   question_sort table AskDigest a = tells _ a
   question_sort table AskIdle a = where_any (tells _) (tells _) a
 

@@ -12,17 +12,20 @@ use Rattle.sequent_core.specs.Trees.{Derives}
 use Rattle.proof_entries.specs.declared.Entry.{Entry}
 use Rattle.proof_entries.specs.declared.Entry.TheVariants.{Put}
 use Rattle.proof_entries.specs.declared.Proof.{Proof}
+use Rattle.readings_core.specs.declared.Follows.{Follows}
+use Rattle.readings_core.specs.Follows.{IsFollowsAnswer}
 use Rattle.core_steps.specs.declared.durable.Durable.{Durable}
 use Rattle.core_steps.specs.declared.events.Status.{Status}
 use Rattle.core_steps.specs.declared.events.Status.TheVariants.{Discharged}
 use Rattle.core_steps.specs.declared.events.Event.{Event}
 use Rattle.core_steps.specs.declared.events.Event.TheVariants.{Build, Finish}
 use Rattle.core_steps.specs.declared.events.Reply.{Reply}
-use Rattle.core_steps.specs.declared.events.Reply.TheVariants.{Now, NotOpen, Noted, NoMemory, Stored, Refused, Stale, Statuses, Shown}
+use Rattle.core_steps.specs.declared.events.Reply.TheVariants.{Now, NotOpen, Noted, NoMemory, Stored, Refused, Stale, Statuses, Shown, Followed}
 use Rattle.core_steps.specs.Status.{IsRebuilt, IsStatus}
 use Rattle.core_steps.specs.Table.{IsTable, IsPresent}
 use Rattle.core_steps.specs.State.{State, opened, entered, entered_if}
 use Rattle.core_steps.specs.Outcomes.{StepOutcome}
+use Rattle.core_steps.specs.Proving.{stored_tree}
 use Rattle.core_steps.specs.Tickets.{CanStore, by_prover}
 use Rattle.core_steps.specs.Step.{Comes, Does}
 
@@ -69,7 +72,13 @@ abbrev pub IsRebuiltIf : Durable → List ℕ → Option Status → Type 0
 IsRebuiltIf d name None = (table : List Obligation) × IsTable d.built table × IsPresent table name None
 IsRebuiltIf d name (Some status) = IsRebuiltAs d name status
 
--- the statuses in a reply are those of the clean rebuild
+-- the clean rebuild has the name, and this is said of the tree that is stored under it
+abbrev pub IsRebuiltSaying : Durable → List ℕ → Follows → Type 0
+IsRebuiltSaying d name answer =
+    (table : List Obligation) × (sequent : Sequent) × IsTable d.built table × IsPresent table name (Some sequent)
+    × IsFollowsAnswer (stored_tree d.proofs name) sequent answer
+
+-- the statuses in a reply, and what it says of a tree, are those of the clean rebuild
 abbrev pub TellsRebuilt : Durable → Reply → Type 0
 TellsRebuilt d (Now name status) = IsRebuiltAs d name status
 TellsRebuilt d (NotOpen name status) = IsRebuiltAs d name status
@@ -80,6 +89,7 @@ TellsRebuilt d (Refused name status) = IsRebuiltIf d name status
 TellsRebuilt d (Stale name status) = IsRebuiltIf d name status
 TellsRebuilt d (Statuses shown) = IsRebuilt d shown
 TellsRebuilt d (Shown name status sequent) = IsRebuiltAs d name status
+TellsRebuilt d (Followed name answer) = IsRebuiltSaying d name answer
 TellsRebuilt d reply = ⊤
 
 -- each status in a reply is that of the clean rebuild of the new durable

@@ -21,10 +21,12 @@ use Rattle.rule_making.specs.Make.{Answers}
 use Rattle.proof_entries.specs.declared.Origin.TheVariants.{User}
 use Rattle.proof_entries.specs.declared.Proof.{Proof}
 use Rattle.proof_entries.specs.declared.Entry.TheVariants.{SetProof}
+use Rattle.readings_core.specs.declared.Follows.{Follows}
+use Rattle.readings_core.specs.Follows.{IsFollowsAnswer}
 use Rattle.core_steps.specs.Durable.{text_cmp}
 use Rattle.core_steps.specs.declared.events.Status.{Status}
 use Rattle.core_steps.specs.declared.events.NodeLine.{NodeLine}
-use Rattle.core_steps.specs.declared.events.Reply.TheVariants.{NoObligation, Broken, NoLeaf, NoNode, Rule as RuleReply, TreeFull, Now, Shown, Nodes}
+use Rattle.core_steps.specs.declared.events.Reply.TheVariants.{NoObligation, Broken, NoLeaf, NoNode, Rule as RuleReply, TreeFull, Now, Shown, Nodes, Followed}
 use Rattle.core_steps.specs.Status.{IsStatus, IsTreeStatus}
 use Rattle.core_steps.specs.Table.{IsPresent}
 use Rattle.core_steps.specs.State.{State}
@@ -116,3 +118,8 @@ abbrev pub ShowsTree : State → List ℕ → Sequent → StepOutcome → Type 0
 ShowsTree s name sequent x =
     let tree = stored_tree s.durable.proofs name in
     Where (Applies tree sequent) (x ≡ told s (Nodes (node_lines tree [] (Some sequent.goal)))) (x ≡ told s (Nodes (node_lines tree [] None)))
+
+-- whether the sequent follows by the stored tree
+abbrev pub ShowsFollows : State → List ℕ → Sequent → StepOutcome → Type 0
+ShowsFollows s name sequent x =
+    (answer : Follows) × IsFollowsAnswer (stored_tree s.durable.proofs name) sequent answer × (x ≡ told s (Followed name answer))

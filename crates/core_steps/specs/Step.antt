@@ -7,7 +7,7 @@ use Rattle.proof_entries.specs.declared.Entry.{Entry}
 use Rattle.proof_entries.specs.declared.Origin.{Origin}
 use Rattle.core_steps.specs.declared.events.Status.{Status}
 use Rattle.core_steps.specs.declared.events.Question.{Question}
-use Rattle.core_steps.specs.declared.events.Question.TheVariants.{Statuses as AskStatuses, Faults as AskFaults, Show, TreeOf, Digest as AskDigest, Idle as AskIdle}
+use Rattle.core_steps.specs.declared.events.Question.TheVariants.{Statuses as AskStatuses, Faults as AskFaults, Show, TreeOf, Follows as AskFollows, Digest as AskDigest, Idle as AskIdle}
 use Rattle.core_steps.specs.declared.events.Event.{Event}
 use Rattle.core_steps.specs.declared.events.Event.TheVariants.{Edit, Delete, Build, Step, Prune, Take, Finish, Purge, Ask}
 use Rattle.core_steps.specs.declared.events.Reply.{Reply}
@@ -19,7 +19,7 @@ use Rattle.core_steps.specs.State.{State}
 use Rattle.core_steps.specs.StateDigest.{state_digest}
 use Rattle.core_steps.specs.Outcomes.{StepOutcome, told, Where}
 use Rattle.core_steps.specs.Editing.{Edits, Deletes, Builds, Purges}
-use Rattle.core_steps.specs.Proving.{OnObligation, StepsAt, PrunesAt, ShowsAt, ShowsTree}
+use Rattle.core_steps.specs.Proving.{OnObligation, StepsAt, PrunesAt, ShowsAt, ShowsTree, ShowsFollows}
 use Rattle.core_steps.specs.Tickets.{TakesFirst, TakesNamed, IsIdle, Finishes}
 
 -- what comes of a question, beside the table of the built texts: nothing changes
@@ -30,6 +30,7 @@ Tells s table AskFaults x =
     × (x ≡ told s (Faults faults warnings))
 Tells s table (Show name path) x = OnObligation s table name (λ sequent. ShowsAt s name path sequent x) x
 Tells s table (TreeOf name) x = OnObligation s table name (λ sequent. ShowsTree s name sequent x) x
+Tells s table (AskFollows name) x = OnObligation s table name (λ sequent. ShowsFollows s name sequent x) x
 Tells s table AskDigest x = x ≡ told s (Digest (state_digest s.durable))
 Tells s table AskIdle x = Where (IsIdle s table) (x ≡ told s (Idle true)) (x ≡ told s (Idle false))
 

@@ -2,6 +2,7 @@
 use build_core::FaultLine;
 use formula_core::{Formula, List, Name, PoName, Text};
 use proof_entries::Origin;
+use readings_core::Follows;
 use rule_making::RuleFault;
 use sequent_core::{Attempt, Hint, Path, Sequent, Ticket};
 
@@ -31,6 +32,8 @@ pub enum Question {
     Show(PoName, Option<Path>),
     /// The nodes of an obligation's tree.
     TreeOf(PoName),
+    /// Whether an obligation follows by its tree, which is so where plain rules alone derive it.
+    Follows(PoName),
     /// The digest of what lasts.
     Digest,
     /// Whether nothing is left to take and no ticket is out.
@@ -109,6 +112,8 @@ pub enum Reply {
     Faults(List<FaultLine>, List<(Name, Name)>),
     Shown(PoName, Status, Sequent),
     Nodes(List<NodeLine>),
+    /// What is said of the stored tree beside the present sequent.
+    Followed(PoName, Follows),
     /// SHA-256 of the bytes of the state's entries.
     Digest([u8; 32]),
     Idle(bool),

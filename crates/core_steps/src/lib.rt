@@ -22,6 +22,7 @@ pub use maps::PoMap;
 pub use model_core::Fault;
 pub use project::Project;
 pub use proof_entries::{Entry, Origin, Proof};
+pub use readings_core::Follows;
 pub use room::{Room, push_in};
 pub use stored::{Facts, StoredProof, applies, facts_of, is_unsettled, status_by};
 pub use texts::Texts;

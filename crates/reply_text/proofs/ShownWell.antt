@@ -265,6 +265,7 @@ module _ (s : State) (x : StepOutcome) (table : List Obligation) (sequents : Are
   told_well ask.Faults a = right _ tt a.4
   told_well (ask.Show name path) a = on_obligation name _ (λ q w. shows_at name path q w) a
   told_well (ask.TreeOf name) a = on_obligation name _ (λ q w. shows_tree name q w) a
+  told_well (ask.Follows name) a = on_obligation name _ (λ q w b. right _ tt b.2) a
   told_well ask.Digest a = right _ tt a
   told_well ask.Idle a = where_any (right _ tt) (right _ tt) a
 

@@ -7,13 +7,15 @@ use Rattle.formula_core.specs.declared.formula.Formula.{Formula}
 use Rattle.sequent_core.specs.declared.Sequent.{Sequent}
 use Rattle.rule_making.specs.declared.fault.RuleFault.{RuleFault}
 use Rattle.rule_making.specs.declared.fault.RuleFault.TheVariants as fault
+use Rattle.readings_core.specs.declared.Follows.{Follows}
+use Rattle.readings_core.specs.declared.Follows.TheVariants.{Yes, NotDerived, NotPlain}
 use Rattle.core_steps.specs.declared.NodeLine.{NodeLine}
 use Rattle.core_steps.specs.declared.Status.{Status}
 use Rattle.core_steps.specs.declared.Reply.{Reply}
 use Rattle.core_steps.specs.declared.Reply.TheVariants as reply
 use Rattle.reply_text.specs.Digests.{hex_text}
 use Rattle.reply_text.specs.Faults.{faults_text}
-use Rattle.reply_text.specs.Printing.{sequent_text, tree_line}
+use Rattle.reply_text.specs.Printing.{sequent_text, path_text, tree_line}
 use Rattle.reply_text.specs.Statuses.{line, status_word, named_status, statuses_text}
 
 abbrev pub refused : List ℕ → List ℕ
@@ -37,6 +39,12 @@ status_or_gone None = codes "gone"
 -- what became of an attempt, and the obligation's status
 abbrev pub attempt_line : List ℕ → List ℕ → Option Status → List ℕ
 attempt_line word name status = line (word ++ 32 ∷ name ++ 32 ∷ status_or_gone status)
+
+-- what is said of an obligation's tree, behind the obligation's name
+abbrev pub follows_words : Follows → List ℕ
+follows_words Yes = codes " follows"
+follows_words NotDerived = codes " not derived"
+follows_words (NotPlain path) = codes " not plain at " ++ path_text path
 
 -- the printed text of a reply
 abbrev pub reply_text : Reply → List ℕ
@@ -71,6 +79,7 @@ reply_text (reply.Statuses shown) = statuses_text shown
 reply_text (reply.Faults told warned) = faults_text told warned
 reply_text (reply.Shown name status sequent) = line (named_status name status) ++ sequent_text sequent
 reply_text (reply.Nodes nodes) = flat_map tree_line nodes
+reply_text (reply.Followed name answer) = line (name ++ follows_words answer)
 reply_text (reply.Digest digest) = line (hex_text digest)
 reply_text (reply.Idle true) = line (codes "idle")
 reply_text (reply.Idle false) = []

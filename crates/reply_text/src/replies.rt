@@ -2,15 +2,15 @@
 ghost use Rattle.std.specs.Prelude.{◌≡◌, ◌++◌, OnOk, IfOk, string_bytes, codes, [], if◌then◌else◌};
 ghost use Rattle.std.specs.Fmt.{decimal};
 ghost use Rattle.formula_core.specs.Substitution.{AreWell};
-ghost use Rattle.reply_text.specs.Replies.{refused, rule_fault_words, status_or_gone, attempt_line, reply_text, shown_formulas};
+ghost use Rattle.reply_text.specs.Replies.{refused, rule_fault_words, status_or_gone, attempt_line, follows_words, reply_text, shown_formulas};
 ghost use Rattle.reply_text.specs.Statuses.{line, named_status};
 
 use crate::digests::add_digest;
 use crate::faults::add_all_faults;
 use crate::pieces::{add_line, add_number, add_words};
-use crate::sequents::{add_nodes, add_sequent};
+use crate::sequents::{add_nodes, add_path, add_sequent};
 use crate::statuses::{add_named_status, add_statuses, status_word};
-use core_steps::{Reply, Status};
+use core_steps::{Follows, Reply, Status};
 use formula_core::{OutOfMemory, PoName};
 use rule_making::RuleFault;
 use std::alloc::Global;
@@ -133,6 +133,29 @@ fn add_finished(
     add_line(out, status_or_gone(status))
 }
 
+/// Adds what is said of an obligation's tree.
+fn add_answer(out: &mut String, answer: &Follows) -> Result<(), OutOfMemory>
+    ensures { OnOk result (string_bytes out.new ≡ string_bytes out.old ++ follows_words answer.now) }
+{
+    match answer {
+        Follows::Yes => add_words(out, " follows"),
+        Follows::NotDerived => add_words(out, " not derived"),
+        Follows::NotPlain(path) => {
+            add_words(out, " not plain at ")?;
+            add_path(out, path.items())
+        }
+    }
+}
+
+/// Adds the same behind the obligation's name.
+fn add_followed(out: &mut String, name: &PoName, answer: &Follows) -> Result<(), OutOfMemory>
+    ensures { OnOk result (string_bytes out.new ≡ string_bytes out.old ++ line (name.now ++ follows_words answer.now)) }
+{
+    add_words(out, name.as_text())?;
+    add_answer(out, answer)?;
+    add_words(out, "\n")
+}
+
 fn add_idle(out: &mut String, is_idle: bool) -> Result<(), OutOfMemory>
     ensures { OnOk result (string_bytes out.new ≡ string_bytes out.old
         ++ (if is_idle then line (codes "idle") else [])) }
@@ -182,6 +205,7 @@ fn add_reply(alloc: Global, out: &mut String, reply: &Reply) -> Result<(), OutOf
             add_sequent(alloc, out, sequent)
         }
         Reply::Nodes(nodes) => add_nodes(alloc, out, nodes.items()),
+        Reply::Followed(name, answer) => add_followed(out, name, answer),
         Reply::Digest(digest) => add_digest(out, digest),
         Reply::Idle(is_idle) => add_idle(out, *is_idle),
     }

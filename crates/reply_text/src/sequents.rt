@@ -82,7 +82,7 @@ fn add_dotted(out: &mut String, path: &[u32]) -> Result<(), OutOfMemory>
 }
 
 /// Adds a path as a step names it.
-fn add_path(out: &mut String, path: &[u32]) -> Result<(), OutOfMemory>
+pub fn add_path(out: &mut String, path: &[u32]) -> Result<(), OutOfMemory>
     ensures { OnOk result (string_bytes out.new ≡ string_bytes out.old ++ path_text path.now) }
 {
     match path {

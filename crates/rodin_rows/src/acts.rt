@@ -22,7 +22,7 @@ fn start_counted<L: Ledger>(
     alloc: Global,
     disk: MemoryDisk,
     blank: Blank,
-) -> Result<Store<MemoryDisk>, (MemoryDisk, OpenFault)>
+) -> Result<Store<MemoryDisk, ()>, (MemoryDisk, OpenFault)>
     requires name { blank.name ≡ L.name }
     requires parts { blank.parts ≡ L.parts }
     requires some { 0 < blank.parts }
@@ -32,7 +32,7 @@ fn start_counted<L: Ledger>(
 }
 
 fn apply_counted<L: Ledger>(
-    store: &mut Store<MemoryDisk>,
+    store: &mut Store<MemoryDisk, ()>,
     event: Event,
     blank: Blank,
 ) -> Result<Reply, StoreFault>
@@ -44,7 +44,7 @@ fn apply_counted<L: Ledger>(
     store.apply(0, event, &mut steps)
 }
 
-fn apply(store: &mut Store<MemoryDisk>, event: Event) -> Result<Reply, StoreFault> {
+fn apply(store: &mut Store<MemoryDisk, ()>, event: Event) -> Result<Reply, StoreFault> {
     apply_counted::<Brand>(store, event, Blank::new(1))
 }
 
@@ -65,7 +65,7 @@ fn keep(tickets: &mut Vec<Ticket>, reply: Reply) -> Result<(), AllocError> {
 // Does an event, and adds its reply.
 fn act(
     alloc: Global,
-    store: &mut Store<MemoryDisk>,
+    store: &mut Store<MemoryDisk, ()>,
     tickets: &mut Vec<Ticket>,
     event: Event,
     out: &mut String,
@@ -108,7 +108,7 @@ fn next_event(commands: &mut Commands) -> Result<Option<Event>, AllocError> {
 // Reads a line of a session, and does the event that it ends.
 fn act_on_line(
     alloc: Global,
-    store: &mut Store<MemoryDisk>,
+    store: &mut Store<MemoryDisk, ()>,
     tickets: &mut Vec<Ticket>,
     commands: &mut Commands,
     line: &str,
@@ -125,7 +125,7 @@ fn act_on_line(
 
 fn act_all(
     alloc: Global,
-    store: &mut Store<MemoryDisk>,
+    store: &mut Store<MemoryDisk, ()>,
     tickets: &mut Vec<Ticket>,
     commands: &mut Commands,
     text: &str,
@@ -143,7 +143,7 @@ fn act_all(
 // Does the events of a row one after another, with the tickets that they take.
 fn play(
     alloc: Global,
-    store: &mut Store<MemoryDisk>,
+    store: &mut Store<MemoryDisk, ()>,
     text: &str,
     out: &mut String,
 ) -> Result<(), AllocError> {
@@ -181,7 +181,7 @@ fn add_last(out: &mut String, faults: u64, durable: &Durable) -> Result<(), Allo
 // Does the events of a row on a store, and the same acts on a core. Adds the replies of each.
 fn acts_on(
     alloc: Global,
-    store: Store<MemoryDisk>,
+    store: Store<MemoryDisk, ()>,
     text: &str,
     told: &mut String,
     by_core: &mut String,

@@ -1,7 +1,7 @@
 //! Replies as they are printed.
 
 use crate::printing::{add_count, add_number, add_two};
-use core_steps::{FaultLine, NodeLine, Origin, Reply, Status};
+use core_steps::{FaultLine, Follows, NodeLine, Origin, Reply, Status};
 use formula_core::{Name, OutOfMemory, PoName};
 use reply_text::reply_text;
 use rule_making::RuleFault;
@@ -135,6 +135,18 @@ fn add_nodes(out: &mut String, nodes: &[NodeLine]) -> Result<(), AllocError> {
     Ok(())
 }
 
+// What is said of an obligation's tree.
+fn add_followed(out: &mut String, name: &PoName, answer: &Follows) -> Result<(), AllocError> {
+    match answer {
+        Follows::Yes => add_two(out, "true in each reading ", name.as_text()),
+        Follows::NotDerived => add_two(out, "underived ", name.as_text()),
+        Follows::NotPlain(path) => {
+            add_two(out, "by more than plain rules ", name.as_text())?;
+            add_path(out, path.items())
+        }
+    }
+}
+
 fn add_digest(out: &mut String, digest: &[u8]) -> Result<(), AllocError> {
     out.push_str("digest ")?;
     for byte in digest {
@@ -188,6 +200,7 @@ fn add_reply(out: &mut String, reply: &Reply) -> Result<(), AllocError> {
         Reply::Faults(faults, warnings) => add_faults(out, faults.items(), warnings.items()),
         Reply::Shown(name, status, sequent) => add_shown(out, name, *status, sequent),
         Reply::Nodes(nodes) => add_nodes(out, nodes.items()),
+        Reply::Followed(name, answer) => add_followed(out, name, answer),
         Reply::Digest(digest) => add_digest(out, digest),
         Reply::Idle(is_idle) => out.push_str(if *is_idle { "idle true" } else { "idle false" }),
     }

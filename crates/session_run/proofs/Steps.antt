@@ -19,7 +19,7 @@ use Rattle.proof_entries.specs.declared.Entry.{Entry}
 use Rattle.core_steps.specs.declared.Event.{Event}
 use Rattle.core_steps.specs.declared.Event.TheVariants.{Edit, Delete, Build, Step, Prune, Take, Finish, Purge, Ask}
 use Rattle.core_steps.specs.declared.Question.{Question}
-use Rattle.core_steps.specs.declared.Question.TheVariants.{Statuses as AskStatuses, Faults as AskFaults, Show, TreeOf, Digest as AskDigest, Idle as AskIdle}
+use Rattle.core_steps.specs.declared.Question.TheVariants.{Statuses as AskStatuses, Faults as AskFaults, Show, TreeOf, Follows as AskFollows, Digest as AskDigest, Idle as AskIdle}
 use Rattle.core_steps.specs.declared.Reply.{Reply}
 use Rattle.core_steps.specs.declared.Reply.TheVariants.{Taken, NoTicket}
 use Rattle.core_steps.specs.State.{State}
@@ -115,6 +115,7 @@ question_moves s x table AskStatuses a = tell s x (Ask AskStatuses) refl _ refl 
 question_moves s x table AskFaults a = tell s x (Ask AskFaults) refl _ refl a.4
 question_moves s x table (Show name path) a = on_obligation s x (Ask (Show name path)) refl table name _ (λ q. shows_at s x (Ask (Show name path)) refl name path q) a
 question_moves s x table (TreeOf name) a = on_obligation s x (Ask (TreeOf name)) refl table name _ (λ q. where_any (tell s x (Ask (TreeOf name)) refl _ refl) (tell s x (Ask (TreeOf name)) refl _ refl)) a
+question_moves s x table (AskFollows name) a = on_obligation s x (Ask (AskFollows name)) refl table name _ (λ q b. tell s x (Ask (AskFollows name)) refl _ refl b.2) a
 question_moves s x table AskDigest a = tell s x (Ask AskDigest) refl _ refl a
 question_moves s x table AskIdle a = where_any (tell s x (Ask AskIdle) refl _ refl) (tell s x (Ask AskIdle) refl _ refl) a
 

@@ -100,6 +100,7 @@ spoken (Some verb.Status) words = AtOnce (alone (One (Ask ask.Statuses)) words)
 spoken (Some verb.Faults) words = AtOnce (alone (One (Ask ask.Faults)) words)
 spoken (Some verb.Show) words = AtOnce (shown words)
 spoken (Some verb.Tree) words = AtOnce (or_bad (option_map (λ name. One (Ask (ask.TreeOf name))) (only_po words)))
+spoken (Some verb.Follows) words = AtOnce (or_bad (option_map (λ name. One (Ask (ask.Follows name))) (only_po words)))
 spoken (Some verb.Step) words = stepped words
 spoken (Some verb.Prune) words = AtOnce (or_bad (option_map (λ node. One (Prune node.0 node.1)) (node_words words)))
 spoken (Some verb.Review) words = AtOnce (or_bad (option_map (λ node. One (Step node.0 node.1 23 no_hint)) (node_words words)))

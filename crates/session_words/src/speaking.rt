@@ -166,6 +166,17 @@ fn tree(alloc: Global, words: &[u8]) -> Result<Line, OutOfMemory>
     }
 }
 
+/// `follows PO`
+fn follows(alloc: Global, words: &[u8]) -> Result<Line, OutOfMemory>
+    ensures { IfOk result (λ line.
+        line ≡ or_bad (option_map (λ name. One (event.Ask (ask.Follows name))) (only_po words.now))) }
+{
+    match only_po(alloc, words)? {
+        Some(name) => Ok(Line::One(Event::Ask(Question::Follows(name)))),
+        None => Ok(bad_command()),
+    }
+}
+
 /// `auto PO`
 fn auto(alloc: Global, words: &[u8]) -> Result<Line, OutOfMemory>
     ensures { IfOk result (λ line. line ≡ or_bad (option_map Auto (only_po words.now))) }
@@ -256,6 +267,7 @@ fn spoken_as(alloc: Global, verb: Verb, words: &[u8]) -> Result<Said, OutOfMemor
         Verb::Faults => Ok(at_once(alone(Line::One(Event::Ask(Question::Faults)), words))),
         Verb::Show => Ok(at_once(shown(alloc, words)?)),
         Verb::Tree => Ok(at_once(tree(alloc, words)?)),
+        Verb::Follows => Ok(at_once(follows(alloc, words)?)),
         Verb::Step => stepped(alloc, words),
         Verb::Prune => Ok(at_once(prune(alloc, words)?)),
         Verb::Review => Ok(at_once(review(alloc, words)?)),

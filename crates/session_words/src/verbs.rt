@@ -12,6 +12,7 @@ pub enum Verb {
     Faults,
     Show,
     Tree,
+    Follows,
     Step,
     Prune,
     Review,
@@ -23,13 +24,14 @@ pub enum Verb {
 }
 
 /// The word of each command.
-pub const VERBS: [(&str, Verb); 14] = [
+pub const VERBS: [(&str, Verb); 15] = [
     ("delete", Verb::Delete),
     ("build", Verb::Build),
     ("status", Verb::Status),
     ("faults", Verb::Faults),
     ("show", Verb::Show),
     ("tree", Verb::Tree),
+    ("follows", Verb::Follows),
     ("step", Verb::Step),
     ("prune", Verb::Prune),
     ("review", Verb::Review),

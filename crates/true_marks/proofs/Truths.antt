@@ -9,6 +9,10 @@ use Rattle.po_rules.specs.Sequents.{AreSequents}
 use Rattle.typed_tables.proofs.Verdicts.{table_sequents}
 use Rattle.true_rules.specs.Validity.{IsValid}
 use Rattle.true_rules.proofs.Theorem.{derived_sequents_are_true}
+use Rattle.readings_core.specs.declared.Follows.{Follows}
+use Rattle.readings_core.specs.declared.Follows.TheVariants.{Yes}
+use Rattle.readings_core.specs.Follows.{IsFollowsAnswer}
+use Rattle.readings_core.proofs.Following.{derived_everywhere}
 use Rattle.proof_entries.specs.declared.Origin.{Origin}
 use Rattle.proof_entries.specs.declared.Proof.{Proof}
 use Rattle.core_steps.specs.declared.durable.Durable.{Durable}
@@ -17,11 +21,12 @@ use Rattle.core_steps.specs.declared.events.Reply.TheVariants as reply
 use Rattle.core_steps.specs.declared.events.Status.{Status}
 use Rattle.core_steps.specs.declared.events.Status.TheVariants.{Unattempted, Discharged}
 use Rattle.core_steps.specs.Durable.{ProjectMap}
-use Rattle.core_steps.specs.Laws.{IsRebuiltAs, IsRebuiltIf, TellsRebuilt}
+use Rattle.core_steps.specs.Laws.{IsRebuiltAs, IsRebuiltIf, IsRebuiltSaying, TellsRebuilt}
+use Rattle.core_steps.specs.Proving.{stored_tree}
 use Rattle.core_steps.specs.Status.{IsStatus, Shows, IsRebuilt}
 use Rattle.core_steps.specs.Table.{IsTable}
 use Rattle.core_steps.proofs.NameMaps.{names_differ}
-use Rattle.true_marks.specs.TrueMarks.{IsTrueWhereDischarged, AreTrueMarks, MarksAreTrue, IsTrueMark, IsTrueMarkIf, TellsTrue, TellsTruth}
+use Rattle.true_marks.specs.TrueMarks.{IsTrueWhereDischarged, AreTrueMarks, MarksAreTrue, IsTrueMark, IsTrueMarkIf, IsTrueIfFollows, TellsTrue, TellsTruth}
 
 -- a table has sequents alone
 sequents_of : (built : ProjectMap) (table : List Obligation) → IsTable built table → AreSequents table
@@ -58,6 +63,12 @@ mark_if : (d : Durable) (name : List ℕ) (status : Option Status) → IsRebuilt
 mark_if d name None is = tt
 mark_if d name (Some status) is = one_mark d name status is
 
+-- what is said to follow is derived by plain rules alone
+followed : (d : Durable) (name : List ℕ) (answer : Follows) → IsRebuiltSaying d name answer → IsTrueIfFollows d.built name answer
+followed d name answer (table, s, is, present, said) =
+    let tree = stored_tree d.proofs name in
+    (table, s, is, present, λ e. (let yes = subst (IsFollowsAnswer tree s) e said in derived_everywhere tree s yes.0 yes.1))
+
 pub tells_truth : TellsTruth
 tells_truth d (reply.Now name status) is = one_mark d name status is
 tells_truth d (reply.NotOpen name status) is = one_mark d name status is
@@ -68,4 +79,5 @@ tells_truth d (reply.Refused name status) is = mark_if d name status is
 tells_truth d (reply.Stale name status) is = mark_if d name status is
 tells_truth d (reply.Statuses shown) is = marks_are_true d shown is
 tells_truth d (reply.Shown name status sequent) is = one_mark d name status is
+tells_truth d (reply.Followed name answer) is = followed d name answer is
 tells_truth d _ is = tt

@@ -21,6 +21,10 @@ pub returns-in-TreeOf-clause-prepared : goal.returns-in-TreeOf-clause-prepared
 returns-in-TreeOf-clause-prepared c =
     subst (λ (q : Question). IfOk c.prepare_tree.result (λ p. Prepares c.args.self.now (Ask q) p)) (sym c.in-TreeOf.is) c.prepare_tree.ensures
 
+pub returns-in-Follows-clause-prepared : goal.returns-in-Follows-clause-prepared
+returns-in-Follows-clause-prepared c =
+    subst (λ (q : Question). IfOk c.prepare_follows.result (λ p. Prepares c.args.self.now (Ask q) p)) (sym c.in-Follows.is) c.prepare_follows.ensures
+
 pub returns-in-Digest-clause-prepared : goal.returns-in-Digest-clause-prepared
 returns-in-Digest-clause-prepared c =
     subst (λ (q : Question). IfOk c.prepare_digest.result (λ p. Prepares c.args.self.now (Ask q) p)) (sym c.in-Digest.is) c.prepare_digest.ensures
