@@ -18,6 +18,7 @@ use Rattle.core_steps.proofs.maps.PoMap.TheSendSync as po_maps
 use Rattle.store_log.proofs.fault.StoreFault.TheSendSync as store_faults
 use Rattle.journal_core.proofs.journal.Journal.TheSendSync as journals
 use Rattle.outside.specs.declared.disk.Disk.{Ghosts}
+use Rattle.project_store.specs.declared.moment.Opening as openings
 use Rattle.status_core.specs.contracts.core_state.Core as Core
 use Rattle.status_core.specs.contracts.core_state.Core.TheInside as CoreInside
 use Rattle.project_store.specs.contracts.fault.KeptFault as KeptFault
@@ -49,13 +50,13 @@ kept_fault = declared_send KeptFault.the_type (store_faults.the_send, (act, tt))
 base : IsSend (Snapshot.the_row Durable.the_row)
 base = search crosses
 
-pub store : (D : RattleType) (g : Ghosts D.Denot) → IsSend D → IsSend (Store.the_row D g)
-store D g s = view_send _ _ _ _ _ (
-    declared_send (StoreInside.the_type D g) (
+pub store : (D K : RattleType) (g : Ghosts D.Denot) (k : openings.Ghosts K.Denot) → IsSend D → IsSend K → IsSend (Store.the_row D K g k)
+store D K g k s t = view_send _ _ _ _ _ (
+    declared_send (StoreInside.the_type D K g k) (
       allocator,
       (
         journals.the_send D g s,
-        (core, (Vec-send (Tuple (u32 ∷ Event.the_row ∷ [])) act, (number, (option_send KeptFault.the_row kept_fault, (base, (number, tt)))))),
+        (core, (Vec-send (Tuple (u32 ∷ Event.the_row ∷ [])) act, (number, (option_send KeptFault.the_row kept_fault, (base, (number, (search sendable, tt))))))),
       ),
     )
     )

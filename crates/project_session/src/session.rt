@@ -1,15 +1,18 @@
 //! `session WORKERS`, from the opening of the project to the status.
 ghost use Rattle.std.specs.Prelude.{◌≡◌, ◌≤◌, [], None};
 ghost use Rattle.outside.specs.Cause.{Rose};
+ghost use Rattle.outside.specs.Disk.{LeavesOnly};
 ghost use Rattle.core_steps.specs.State.{opened};
+ghost use Rattle.project_store.specs.Moments.{IsOpenedOn};
 ghost use Rattle.prover_pool.specs.Shift.{fair};
 ghost use Rattle.session_streams.specs.Streams.{reading, writing};
 ghost use Rattle.session_ends.specs.Limits.{IsUnhindered, IsUnfailedSessionStatus};
+ghost use Rattle.session_ends.specs.Moments.{IsLeftWithin};
 ghost use Rattle.session_ends.specs.Sessions.{Sessions, IsSession, Opens};
 ghost use Rattle.session_ends.specs.Statuses.{IsSessionStatus};
 
 use outside::{Disk, Gate, Sink, Source};
-use project_store::Store;
+use project_store::{Opening, Store};
 use prover_pool::Tools;
 use sequent_core::Prover;
 use session_ends::{Ended, end_played, end_unplayed, open_store, refuse};
@@ -27,17 +30,20 @@ fn run_opened<
     D: Disk + Send,
     P: Prover + Sync,
     G: Gate + Sync,
+    K: Opening + Send,
 >(
     tools: &Tools<'_, R, P, G>,
     workers: u32,
-    store: Store<D>,
+    store: Store<D, K>,
     input: &mut I,
     output: &mut O,
 ) -> Ended<D>
     requires workers { workers ≤ 8 }
+    requires known { K.known }
     requires begun { (store.core ≡ opened store.base) × (store.history ≡ []) × (store.kept ≡ None) }
-    ensures { (old : D) → Opens D.told D.bytes_of D.images D.faults old store →
-        IsSession D.told D.bytes_of D.images D.faults
+    ensures { (old : D) → Opens D.told D.bytes_of D.images D.clock D.moments D.faults old store →
+        (D.told → IsOpenedOn D.clock D.moments K.moment K.images K.moments D.images old) →
+        IsSession D.told D.bytes_of D.images D.clock D.moments D.faults
         (fair (P.answers tools.now.prover.now) (P.sure tools.now.prover.now)) (P.sure tools.now.prover.now)
         workers old result.disk
         (reading (I.left input.old) (I.left input.new) (I.faults input.old) (I.faults input.new))
@@ -58,16 +64,19 @@ fn open_and_run<
     D: Disk + Send,
     P: Prover + Sync,
     G: Gate + Sync,
+    K: Opening + Send,
 >(tools: &Tools<'_, R, P, G>, workers: u32, input: &mut I, output: &mut O, disk: D) -> Ended<D>
     requires workers { workers ≤ 8 }
-    ensures { Sessions D.told D.bytes_of D.images D.faults
+    requires known { K.known }
+    requires opening { D.told → IsOpenedOn D.clock D.moments K.moment K.images K.moments D.images disk }
+    ensures { Sessions D.told D.bytes_of D.images D.clock D.moments D.faults
         (fair (P.answers tools.now.prover.now) (P.sure tools.now.prover.now)) (P.sure tools.now.prover.now)
         workers disk result.disk (input.new ≡ input.old)
         (reading (I.left input.old) (I.left input.new) (I.faults input.old) (I.faults input.new))
         (writing (O.written output.old) (O.written output.new) (O.faults output.old) (O.faults output.new))
         result.status result.history.items result.last }
 {
-    match open_store::<Brand, D>(tools.alloc, disk, Blank::new(1)) {
+    match open_store::<Brand, D, K>(tools.alloc, disk, Blank::new(1)) {
         Ok(store) => run_opened(tools, workers, store, input, output),
         Err((disk, fault)) => refuse(tools.alloc, output, disk, fault),
     }
@@ -84,7 +93,7 @@ pub fn run_session<
     G: Gate + Sync,
 >(tools: &Tools<'_, R, P, G>, workers: u32, input: &mut I, output: &mut O, disk: D) -> Ended<D>
     requires workers { workers ≤ 8 }
-    ensures session { Sessions D.told D.bytes_of D.images D.faults
+    ensures session { Sessions D.told D.bytes_of D.images D.clock D.moments D.faults
         (fair (P.answers tools.now.prover.now) (P.sure tools.now.prover.now)) (P.sure tools.now.prover.now)
         workers disk result.disk (input.new ≡ input.old)
         (reading (I.left input.old) (I.left input.new) (I.faults input.old) (I.faults input.new))
@@ -100,6 +109,10 @@ pub fn run_session<
         (reading (I.left input.old) (I.left input.new) (I.faults input.old) (I.faults input.new))
         (writing (O.written output.old) (O.written output.new) (O.faults output.old) (O.faults output.new))
         result.history.items → IsUnfailedSessionStatus result.status }
+    ensures any_moment { D.told → LeavesOnly D.clock D.moments disk result.disk
+        (IsLeftWithin (fair (P.answers tools.now.prover.now) (P.sure tools.now.prover.now))
+        (reading (I.left input.old) (I.left input.new) (I.faults input.old) (I.faults input.new))
+        result.history.items (D.bytes_of disk) (D.images disk)) }
 {
-    open_and_run(tools, workers, input, output, disk)
+    open_and_run::<R, I, O, D, P, G, Brand>(tools, workers, input, output, disk)
 }

@@ -22,7 +22,7 @@ use Rattle.project_store.specs.Private.{IsDone, IsUndone, IsActed, IsStopped}
 use Rattle.project_store.specs.Store.{met, StoreState, IsSoundStore, IsBeforeOrAfter, IsImage, IsTooHeavy, HasNoRoomFor, HasCauseOf, weight}
 use Rattle.project_store.proofs.Preparing.{no_memory}
 
-run_on : (s : State) (xs : List Exchange) (t : State) (x : Exchange) (u : State) → Runs s xs t → IsStepOf t x u → Runs s (xs ++ x ∷ []) u
+pub run_on : (s : State) (xs : List Exchange) (t : State) (x : Exchange) (u : State) → Runs s xs t → IsStepOf t x u → Runs s (xs ++ x ∷ []) u
 run_on s [] t x u run step = (u, subst (λ y. IsStepOf y x u) run step, refl)
 run_on s (y ∷ ys) t x u run step = (run.0, run.1, run_on run.0 ys t x u run.2 step)
 

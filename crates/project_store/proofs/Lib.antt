@@ -4,6 +4,7 @@ pub mod Shorts
 pub mod Replays
 pub mod Starting
 pub mod Keeping
+pub mod Stood
 pub mod Preparing
 pub mod Bodies
 pub mod Versions

@@ -9,6 +9,7 @@ ghost use Rattle.store_log.specs.StoreLog.{chair_of};
 ghost use Rattle.store_log.specs.Storing.{Handles};
 ghost use Rattle.project_store.specs.Store.{base_in, log_in};
 
+use crate::moment::Opening;
 use crate::store::Store;
 use core_steps::{Event, Reply};
 use formula_core::Steps;
@@ -22,8 +23,8 @@ use turn_desk::Kept;
 use typed_tables::typed_tables;
 
 // Does an event, with a step counter of its own.
-fn apply_counted<D: Disk, L: Ledger>(
-    store: &mut Store<D>,
+fn apply_counted<D: Disk, K: Opening, L: Ledger>(
+    store: &mut Store<D, K>,
     chair: u32,
     event: Event,
     blank: Blank,
@@ -44,14 +45,18 @@ fn apply_counted<D: Disk, L: Ledger>(
     store.apply(chair, event, &mut steps)
 }
 
-fn apply_alone<D: Disk>(store: &mut Store<D>, chair: u32, event: Event) -> Result<Reply, StoreFault>
+fn apply_alone<D: Disk, K: Opening>(
+    store: &mut Store<D, K>,
+    chair: u32,
+    event: Event,
+) -> Result<Reply, StoreFault>
     ensures applied { Handles (base_in store.old) chair event (log_in store.old) result (log_in store.new) }
     ensures log { Grows chair_of chair (log_in store.old) (log_in store.new) }
     ensures base { base_in store.new ≡ base_in store.old }
     ensures taken { event ≡ Event.Take None
         → IfOk result (λ reply. (ticket : Ticket) → reply ≡ Reply.Taken ticket → IsSequent ticket.sequent) }
 {
-    apply_counted::<D, Brand>(store, chair, event, Blank::new(1))
+    apply_counted::<D, K, Brand>(store, chair, event, Blank::new(1))
 }
 
 // The ticket that was taken, if one was.
@@ -68,7 +73,7 @@ fn ticket_of(reply: Reply) -> Option<Ticket>
     }
 }
 
-impl<D: Disk> Kept for Store<D> {
+impl<D: Disk, K: Opening> Kept for Store<D, K> {
     type Entry = Logged;
 
     type Base = StoreBase;
@@ -83,7 +88,7 @@ impl<D: Disk> Kept for Store<D> {
     ghost base = { λ s. base_in s };
 }
 
-impl<D: Disk> Work for Store<D> {
+impl<D: Disk, K: Opening> Work for Store<D, K> {
     ghost use Rattle.store_log.specs.StoreLog.{store_meaning};
     ghost use Rattle.project_store.specs.Marks.{has_mark_last, marks_no_other};
 
@@ -116,7 +121,7 @@ impl<D: Disk> Work for Store<D> {
     }
 }
 
-impl<D: Disk> EventStore for Store<D> {
+impl<D: Disk, K: Opening> EventStore for Store<D, K> {
     ghost use Rattle.project_store.specs.Marks.{names_chair};
 
     ghost chair_is = { names_chair };

@@ -6,11 +6,13 @@ mod desk;
 mod encoding;
 mod entering;
 mod fault;
+mod moment;
 mod opening;
 mod reading;
 mod recording;
 mod store;
 
 pub use fault::{KeptFault, OpenFault};
+pub use moment::Opening;
 pub use store::Store;
 pub use store_log::{Apply, EventStore, Logged, StoreBase, StoreFault};

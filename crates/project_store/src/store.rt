@@ -18,6 +18,7 @@ ghost use Rattle.project_store.specs.Store.{IsBeforeOrAfter, IsDiskFault, HasNoR
 
 use crate::acting::perform;
 use crate::fault::{KeptFault, OpenFault};
+use crate::moment::Opening;
 use crate::opening::open_core;
 use core_steps::{Durable, Event, Reply, opens_orderly};
 use event_weights::weight_within;
@@ -26,7 +27,7 @@ use journal_core::{Journal, JournalFault};
 use outside::Disk;
 use status_core::Core;
 use std::alloc::Global;
-use std::marker::Model;
+use std::marker::{Model, PhantomData};
 use std::snapshot::Snapshot;
 use std::sync::ledger::Ledger;
 use store_log::StoreFault;
@@ -67,8 +68,8 @@ fn opening_fault(fault: JournalFault) -> OpenFault
     }
 }
 
-/// A project on a disk.
-pub struct Store<D: Disk> {
+/// A project on a disk. Contracts know by `K` what a stop might have left by the time of its opening.
+pub struct Store<D: Disk, K: Opening> {
     alloc: Global,
     journal: Journal<D>,
     core: Core,
@@ -78,10 +79,12 @@ pub struct Store<D: Disk> {
     kept: Option<KeptFault>,
     base: Snapshot<Durable>,
     count: u64,
+    opening: PhantomData<K>,
 }
 
-impl<D: Disk> Model for Store<D> {
+impl<D: Disk, K: Opening> Model for Store<D, K> {
     ghost use Rattle.std.specs.Prelude.{◌≡◌};
+    ghost use Rattle.project_store.specs.Moments.{HasStood};
     ghost use Rattle.project_store.specs.Store.{StoreState, IsSoundStore, weight as weight_of_all};
 
     ghost Value = { StoreState D };
@@ -121,10 +124,19 @@ impl<D: Disk> Model for Store<D> {
       kept = s.kept;
       base = s.base.value;
       count = s.count;
-    }) × (s.weight ≡ weight_of_all s.history.items) };
+    }) × (s.weight ≡ weight_of_all s.history.items)
+        × (K.known → D.told → HasStood D.clock D.moments K.moment K.images K.moments (record {
+          journal = s.journal;
+          core = s.core;
+          history = s.history.items;
+          kept = s.kept;
+          base = s.base.value;
+          count = s.count;
+        })) };
 }
 
-impl<D: Disk> Store<D> {
+impl<D: Disk, K: Opening> Store<D, K> {
+    ghost use Rattle.project_store.specs.Moments.{HasStood, IsOpenedOn};
     ghost use Rattle.project_store.specs.Store.{IsSoundStore, Rests};
 
     /// Opens the project on a disk. It may stop at any moment, and then the disk stands for what it stood for.
@@ -132,7 +144,9 @@ impl<D: Disk> Store<D> {
         alloc: Global,
         disk: D,
         steps: &mut Steps<L>,
-    ) -> Result<Store<D>, (D, OpenFault)>
+    ) -> Result<Store<D, K>, (D, OpenFault)>
+        requires opening { K.known → D.told → IsOpenedOn D.clock D.moments K.moment K.images K.moments D.images disk }
+
         // The durable is the one that the sides stand for; a fault has its cause in the sides.
         ensures opened { D.told → MatchResult result
             (λ store. Recovers (D.bytes_of disk) store.base)
@@ -174,6 +188,7 @@ impl<D: Disk> Store<D> {
                     kept: None,
                     base,
                     count,
+                    opening: PhantomData,
                 })
             }
             Err(fault) => Err((journal.into_disk(), fault)),
@@ -309,9 +324,10 @@ impl<D: Disk> Store<D> {
         }
     }
 
-    /// What holds of every store.
+    /// What holds of every store. At each moment since it was opened, a stop left what stood so.
     pub fn facts(&self)
         ensures facts { IsSoundStore D.told D.bytes_of D.images D.faults self.now }
+        ensures any_moment { K.known → D.told → HasStood D.clock D.moments K.moment K.images K.moments self.now }
     {
         let _alloc = &self.alloc;
     }
@@ -323,6 +339,7 @@ impl<D: Disk> Store<D> {
         ensures durable { result.2 ≡ self.core.durable }
         ensures facts { IsSoundStore D.told D.bytes_of D.images D.faults self }
         ensures rests { Rests D.told D.bytes_of D.images self }
+        ensures any_moment { K.known → D.told → HasStood D.clock D.moments K.moment K.images K.moments self }
     {
         self.facts();
         let Store {
@@ -334,6 +351,7 @@ impl<D: Disk> Store<D> {
             kept,
             base: _,
             count: _,
+            opening: _,
         } = self;
         drop(kept);
         (journal.into_disk(), history, core.into_durable())

@@ -2,11 +2,13 @@
 ghost use Rattle.std.specs.Prelude.{◌≡◌, ◌↔◌, ℕ};
 ghost use Rattle.std.specs.Io.KnownBytes.{IsAtEnd};
 ghost use Rattle.outside.specs.Cause.{Rose};
+ghost use Rattle.outside.specs.Disk.{LeavesOnly};
 ghost use Rattle.session_streams.specs.Streams.{reading, writing};
 ghost use Rattle.rodin_cli.specs.Check.{RunsCheck, ReadsToEnd, IsUnfailedCheckStatus, EndsWithLine, IsCheckWords, usage_line};
 ghost use Rattle.rodin_cli.specs.Demo.{Demonstrates, IsUnfailedDemoStatus};
 ghost use Rattle.prover_pool.specs.Shift.{fair};
 ghost use Rattle.session_ends.specs.Limits.{IsUnhindered, IsUnfailedSessionStatus};
+ghost use Rattle.session_ends.specs.Moments.{IsLeftWithin};
 ghost use Rattle.session_ends.specs.Sessions.{Sessions};
 ghost use Rattle.rodin_cli.specs.Words.{HaveNoForm, IsDemoWords, IsSessionWords};
 
@@ -39,7 +41,7 @@ pub fn run<
         (writing (O.written output.old) (O.written output.new) (O.faults output.old) (O.faults output.new))
         (record { status = result.status; history = result.history; last = result.last }) }
     ensures session { (workers : ℕ) → IsSessionWords words.now workers →
-        Sessions D.told D.bytes_of D.images D.faults
+        Sessions D.told D.bytes_of D.images D.clock D.moments D.faults
         (fair (P.answers tools.now.prover.now) (P.sure tools.now.prover.now)) (P.sure tools.now.prover.now)
         workers disk result.disk (input.new ≡ input.old)
         (reading (I.left input.old) (I.left input.new) (I.faults input.old) (I.faults input.new))
@@ -72,6 +74,11 @@ pub fn run<
         (reading (I.left input.old) (I.left input.new) (I.faults input.old) (I.faults input.new))
         (writing (O.written output.old) (O.written output.new) (O.faults output.old) (O.faults output.new))
         result.history.items → IsUnfailedSessionStatus result.status }
+    ensures at_any_moment { (workers : ℕ) → IsSessionWords words.now workers → D.told →
+        LeavesOnly D.clock D.moments disk result.disk
+        (IsLeftWithin (fair (P.answers tools.now.prover.now) (P.sure tools.now.prover.now))
+        (reading (I.left input.old) (I.left input.new) (I.faults input.old) (I.faults input.new))
+        result.history.items (D.bytes_of disk) (D.images disk)) }
 {
     match command_of(words) {
         Some(Command::Check) => with_disk(

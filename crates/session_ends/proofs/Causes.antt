@@ -114,10 +114,10 @@ disk_cause faults st fault.OutOfMemory event e cause = absurd (omega (arith, e))
 disk_cause faults st fault.DiskFault event e cause = cause
 disk_cause faults st fault.Failed event e cause = absurd cause
 
-module _ {D : Type 0} (told : Type 0) (bytes_of : D → Sides) (images : D → Sides → Type 0) (faults : D → ℕ)
+module _ {D : Type 0} (told : Type 0) (bytes_of : D → Sides) (images : D → Sides → Type 0) (clock : D → ℕ) (moments : D → ℕ → Sides → Type 0) (faults : D → ℕ)
     (fair : Sequent → Attempt → Type 0) (sure : Sequent → Type 0) (workers : ℕ) (old new : D) (untouched : Type 0) (source : SourceState) (sink : Writing) (status : ℕ) (history : List (ℕ × Event)) (last : Durable) where
   abbrev Ran : Type 0
-  Ran = Sessions told bytes_of images faults fair sure workers old new untouched source sink status history last
+  Ran = Sessions told bytes_of images clock moments faults fair sure workers old new untouched source sink status history last
 
   abbrev Told : OpenFault → Type 0
   Told f = ((status ≡ opening_status f) × WritesOrFails sink (opening_line f)) ⊎ ((status ≡ 9) × WritesNothing sink)

@@ -5,5 +5,6 @@ mod Endings
 mod Openings
 mod Standing
 pub mod Unhindered
+pub mod Throughout
 mod Users
 mod Whole

@@ -53,7 +53,7 @@ not_foreign d side same = cc
 not_damaged : (d : Durable) (side : Side) (gate : ℕ) → durable d ≡ damaged side gate → ⊥
 not_damaged d side gate same = cc
 
-module _ {D : Type 0} (told : Type 0) (bytes_of : D → Sides) (images : D → Sides → Type 0) (faults : D → ℕ)
+module _ {D : Type 0} (told : Type 0) (bytes_of : D → Sides) (images : D → Sides → Type 0) (clock : D → ℕ) (moments : D → ℕ → Sides → Type 0) (faults : D → ℕ)
     (fair : Sequent → Attempt → Type 0) (sure : Sequent → Type 0)
     (workers : ℕ) (old new : D) (untouched : Type 0) (source : SourceState) (sink : Writing) (status : ℕ) (history : List (ℕ × Event)) (last : Durable)
     (tells : told) (free : IsUnhindered bytes_of images faults fair old new source sink history) where
@@ -70,13 +70,13 @@ module _ {D : Type 0} (told : Type 0) (bytes_of : D → Sides) (images : D → S
   refused_for opening.DiskFault answer rose is = absurd (free.keeps (rose refl))
   refused_for opening.OutOfMemory answer rose is = session_without_memory is
 
-  refused : IsRefused told bytes_of images faults old new untouched sink status history last → Unfailed
+  refused : IsRefused told bytes_of images clock moments faults old new untouched sink status history last → Unfailed
   refused r = by r.ends where
     by : ((status ≡ opening_status r.fault) × WritesOrFails sink (opening_line r.fault)) ⊎ ((status ≡ 9) × WritesNothing sink) → Unfailed
     by (inl (is, written)) = refused_for r.fault (r.refuses.exactly tells (durable free.base) free.stands) r.refuses.disk_fault is
     by (inr (is, unwritten)) = session_without_memory is
 
-  module _ (p : IsSession told bytes_of images faults fair sure workers old new source sink status history last) where
+  module _ (p : IsSession told bytes_of images clock moments faults fair sure workers old new source sink status history last) where
     opened_base : p.store.base ≡ free.base
     opened_base = sym (durable_is free.base p.store.base (p.opens.exactly tells (durable free.base) free.stands))
 
@@ -133,6 +133,6 @@ module _ {D : Type 0} (told : Type 0) (bytes_of : D → Sides) (images : D → S
         met k is (next k.act.1 how.reached how.failed) k.fault refl (subst (λ (z : Option KeptFault). IfSome z (λ y. HasCauseOf faults p.store y.fault y.act.1)) is p.cause) status_is
     ended (without_memory is how) = session_without_memory is
 
-  pub completes : Sessions told bytes_of images faults fair sure workers old new untouched source sink status history last → Unfailed
+  pub completes : Sessions told bytes_of images clock moments faults fair sure workers old new untouched source sink status history last → Unfailed
   completes (inl r) = refused r
   completes (inr p) = ended p p.ends

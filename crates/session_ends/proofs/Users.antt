@@ -71,6 +71,7 @@ spoken_said (Some verb.Status) words = alone_said (One (Ask ask.Statuses)) words
 spoken_said (Some verb.Faults) words = alone_said (One (Ask ask.Faults)) words tt
 spoken_said (Some verb.Show) words = or_bad_said (shown_at (behind_first words)) (shown_said (behind_first words)) (po_of (first_word words))
 spoken_said (Some verb.Tree) words = or_bad_said (λ name. One (Ask (ask.TreeOf name))) (λ name. tt) (only_po words)
+spoken_said (Some verb.Follows) words = or_bad_said (λ name. One (Ask (ask.Follows name))) (λ name. tt) (only_po words)
 spoken_said (Some verb.Step) words = step_said _ _ _ _
 spoken_said (Some verb.Prune) words = or_bad_said (λ node. One (Prune node.0 node.1)) (λ node. tt) (node_words words)
 spoken_said (Some verb.Review) words = or_bad_said (λ node. One (Step node.0 node.1 23 no_hint)) (λ node. tt) (node_words words)

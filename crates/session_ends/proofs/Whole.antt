@@ -2,7 +2,7 @@
 use Rattle.std.proofs.Common.{◌≡◌, ◌∙◌, sym, ap, subst, refl, ℕ, ◌≤◌, true, false, List, [], ◌∷◌, ◌++◌, map, arith}
 use Rattle.std.specs.Prelude.{Option, Some, None}
 use Rattle.std.specs.Option.{option_map}
-use Rattle.outside.specs.Disk.{Sides}
+use Rattle.outside.specs.Disk.{Sides, LeavesOnly}
 use Rattle.sequent_core.specs.declared.Sequent.{Sequent}
 use Rattle.sequent_core.specs.declared.Attempt.{Attempt}
 use Rattle.core_steps.specs.declared.Durable.{Durable}
@@ -16,6 +16,7 @@ use Rattle.store_log.specs.History.{exchanges_of, events_of}
 use Rattle.store_log.specs.StoreLog.{done, marks, chair_of, store_meaning, IsStoreLog}
 use Rattle.project_store.specs.declared.fault.KeptFault.{KeptFault}
 use Rattle.project_store.specs.Opening.{durable}
+use Rattle.project_store.specs.Moments.{StoodWithin}
 use Rattle.project_store.specs.Records.{Recovers}
 use Rattle.core_steps.specs.Table.{IsTableWithin}
 use Rattle.sequent_core.specs.declared.Obligation.{Obligation}
@@ -60,7 +61,7 @@ log_is history xs m is = ap (λ h. map logged h ++ m) is ∙ same xs where
   same [] = refl
   same (y ∷ ys) = ap (λ l. done y ∷ l) (same ys)
 
-module _ {D : Type 0} (told : Type 0) (bytes_of : D → Sides) (images : D → Sides → Type 0) (faults : D → ℕ)
+module _ {D : Type 0} (told : Type 0) (bytes_of : D → Sides) (images : D → Sides → Type 0) (clock : D → ℕ) (moments : D → ℕ → Sides → Type 0) (faults : D → ℕ)
     (laws : CoreLaws) (enters : EntersAll) (rebuilt : TellsTheRebuilt) (fair : Sequent → Attempt → Type 0) (sure : Sequent → Type 0)
     (history_law : OneHistory fair) (complete_law : CompleteWhenIdle fair sure) (workers : ℕ)
     (first st : StoreState D) (same : base_in st ≡ base_in first) (sound : IsSoundStore told bytes_of images faults st)
@@ -110,7 +111,7 @@ module _ {D : Type 0} (told : Type 0) (bytes_of : D → Sides) (images : D → S
       p.converses.taken p.converses.ended p.converses.lines p.converses.left p.converses.text p.converses.read k is ending p.converses.over makes.failed
       (subst (λ z. WritesOrFails (writing after_ last g h) (ending_line ending (option_map (λ y. y.fault) z))) is wrote)
 
-  abbrev at_first : (old : D) → Opens told bytes_of images faults old first → Opens told bytes_of images faults old st
+  abbrev at_first : (old : D) → Opens told bytes_of images clock moments faults old first → Opens told bytes_of images clock moments faults old st
   at_first old o = record {
     stood = λ t. subst (λ (b : StoreBase). Recovers (bytes_of old) b.durable) (sym same) (o.stood t);
     exactly = λ t meaning stands. o.exactly t meaning stands ∙ ap (λ (b : StoreBase). durable b.durable) (sym same);
@@ -119,9 +120,9 @@ module _ {D : Type 0} (told : Type 0) (bytes_of : D → Sides) (images : D → S
   }
 
   -- the whole session
-  pub whole : (old : D) → Opens told bytes_of images faults old first →
-      IsSession told bytes_of images faults fair sure workers old st.journal.disk source (writing before last f h) (status_at ending (option_map (λ k. k.fault) st.kept)) st.history st.core.durable
-  whole old o = record {
+  pub whole : (old : D) → Opens told bytes_of images clock moments faults old first → (told → LeavesOnly clock moments old st.journal.disk (StoodWithin (images old) st)) →
+      IsSession told bytes_of images clock moments faults fair sure workers old st.journal.disk source (writing before last f h) (status_at ending (option_map (λ k. k.fault) st.kept)) st.history st.core.durable
+  whole old o stood = record {
     store = st;
     disk = refl;
     opens = at_first old o;
@@ -131,6 +132,7 @@ module _ {D : Type 0} (told : Type 0) (bytes_of : D → Sides) (images : D → S
     light = sound.light;
     rests = rests;
     stops = sound.stops;
+    any_moment = stood;
     later = subst (λ n. n ≤ faults st.journal.disk) (at_first old o).counted sound.counted;
     cause = sound.cause;
     ends = by st.kept refl;
@@ -141,7 +143,7 @@ none_cut [] x behind e = cc
 none_cut (y ∷ before) x behind e = cc
 
 -- memory ran out before anything was done
-module _ {D : Type 0} (told : Type 0) (bytes_of : D → Sides) (images : D → Sides → Type 0) (faults : D → ℕ)
+module _ {D : Type 0} (told : Type 0) (bytes_of : D → Sides) (images : D → Sides → Type 0) (clock : D → ℕ) (moments : D → ℕ → Sides → Type 0) (faults : D → ℕ)
     (fair : Sequent → Attempt → Type 0) (sure : Sequent → Type 0) (workers : ℕ) (st : StoreState D) (sound : IsSoundStore told bytes_of images faults st)
     (rests : Rests told bytes_of images st) (begun : st.core ≡ opened st.base) (empty : st.history ≡ []) (open_ : st.kept ≡ None)
     (left : Option (List ℕ)) (lost : ℕ) (before last : Option (List ℕ)) (f h : ℕ) (wrote : WritesOrFails (writing before last f h) []) (low : f ≤ h) where
@@ -171,9 +173,9 @@ module _ {D : Type 0} (told : Type 0) (bytes_of : D → Sides) (images : D → S
     written = then_nothing before before last f f h (omega arith) low [] (Appends-nothing before) wrote;
   }
 
-  pub nothing_played : (old : D) → Opens told bytes_of images faults old st →
-      IsSession told bytes_of images faults fair sure workers old st.journal.disk (reading left left lost lost) (writing before last f h) 9 st.history st.core.durable
-  nothing_played old o = record {
+  pub nothing_played : (old : D) → Opens told bytes_of images clock moments faults old st → (told → LeavesOnly clock moments old st.journal.disk (StoodWithin (images old) st)) →
+      IsSession told bytes_of images clock moments faults fair sure workers old st.journal.disk (reading left left lost lost) (writing before last f h) 9 st.history st.core.durable
+  nothing_played old o stood = record {
     store = st;
     disk = refl;
     opens = o;
@@ -193,20 +195,21 @@ module _ {D : Type 0} (told : Type 0) (bytes_of : D → Sides) (images : D → S
     light = sound.light;
     rests = rests;
     stops = sound.stops;
+    any_moment = stood;
     later = subst (λ n. n ≤ faults st.journal.disk) o.counted sound.counted;
     cause = sound.cause;
     ends = subst (λ k. EndsBy fair workers 9 k (reading left left lost lost) (writing before last f h) [] st.core) (sym open_) (without_memory refl unread);
   }
 
-pub plays_end : {D : Type 0} (told : Type 0) (bytes_of : D → Sides) (images : D → Sides → Type 0) (faults : D → ℕ) (fair : Sequent → Attempt → Type 0) (sure : Sequent → Type 0) →
-    CoreLaws → EntersAll → TellsTheRebuilt → OneHistory fair → CompleteWhenIdle fair sure → PlaysEnd told bytes_of images faults fair sure
-plays_end told bytes_of images faults fair sure laws enters rebuilt one complete workers first last source before between after_ f g h ending old opens same sound rests played wrote high =
-    whole told bytes_of images faults laws enters rebuilt fair sure one complete workers first last same sound rests source before between after_ f g h high ending played wrote old opens
+pub plays_end : {D : Type 0} (told : Type 0) (bytes_of : D → Sides) (images : D → Sides → Type 0) (clock : D → ℕ) (moments : D → ℕ → Sides → Type 0) (faults : D → ℕ) (fair : Sequent → Attempt → Type 0) (sure : Sequent → Type 0) →
+    CoreLaws → EntersAll → TellsTheRebuilt → OneHistory fair → CompleteWhenIdle fair sure → PlaysEnd told bytes_of images clock moments faults fair sure
+plays_end told bytes_of images clock moments faults fair sure laws enters rebuilt one complete workers first last source before between after_ f g h ending old opens same sound rests stood played wrote high =
+    whole told bytes_of images clock moments faults laws enters rebuilt fair sure one complete workers first last same sound rests source before between after_ f g h high ending played wrote old opens stood
 
 -- the same session, told of what it left
-pub moved : {D : Type 0} (told : Type 0) (bytes_of : D → Sides) (images : D → Sides → Type 0) (faults : D → ℕ) (fair : Sequent → Attempt → Type 0) (sure : Sequent → Type 0) (workers : ℕ)
+pub moved : {D : Type 0} (told : Type 0) (bytes_of : D → Sides) (images : D → Sides → Type 0) (clock : D → ℕ) (moments : D → ℕ → Sides → Type 0) (faults : D → ℕ) (fair : Sequent → Attempt → Type 0) (sure : Sequent → Type 0) (workers : ℕ)
     (old disk new : D) (source : SourceState) (sink : Writing) (status now : ℕ) (history events : List (ℕ × Event)) (last lasts : Durable) →
     new ≡ disk → now ≡ status → events ≡ history → lasts ≡ last →
-    IsSession told bytes_of images faults fair sure workers old disk source sink status history last → IsSession told bytes_of images faults fair sure workers old new source sink now events lasts
-moved {D} told bytes_of images faults fair sure workers old disk new source sink status now history events last lasts a b c d s =
-    subst (λ (z : D × ℕ × List (ℕ × Event) × Durable). IsSession told bytes_of images faults fair sure workers old z.0 source sink z.1 z.2 z.3) (λ i. (sym a i, sym b i, sym c i, sym d i)) s
+    IsSession told bytes_of images clock moments faults fair sure workers old disk source sink status history last → IsSession told bytes_of images clock moments faults fair sure workers old new source sink now events lasts
+moved {D} told bytes_of images clock moments faults fair sure workers old disk new source sink status now history events last lasts a b c d s =
+    subst (λ (z : D × ℕ × List (ℕ × Event) × Durable). IsSession told bytes_of images clock moments faults fair sure workers old z.0 source sink z.1 z.2 z.3) (λ i. (sym a i, sym b i, sym c i, sym d i)) s

@@ -21,13 +21,13 @@ use Rattle.session_streams.specs.Streams.{SourceState, Writing, SourceFailed, Si
 use Rattle.true_marks.specs.TrueMarks.{TellsTrue}
 use Rattle.session_ends.specs.Written.{WritesThen, WritesUpTo}
 
--- each status in a reply is the one that a clean rebuild at its place gives
+-- each status in a reply, and what a reply says of a tree, is what a clean rebuild at its place gives
 abbrev pub IsClean : Durable → List Exchange → Type 0
 IsClean d xs =
     (before : List Exchange) (x : Exchange) (behind : List Exchange) (s : State) → xs ≡ before ++ x ∷ behind →
     Runs (opened d) (before ++ x ∷ []) s → TellsRebuilt s.durable x.reply
 
--- what a reply shows discharged is true in each classical universe
+-- what a reply shows discharged is true in each classical universe, and what it says to follow in each reading
 abbrev pub IsTruthful : Durable → List Exchange → Type 0
 IsTruthful d xs =
     (before : List Exchange) (x : Exchange) (behind : List Exchange) (s : State) → xs ≡ before ++ x ∷ behind →

@@ -1,5 +1,6 @@
 pub mod Ends
 pub mod Limits
+pub mod Moments
 pub mod Private
 pub mod Sessions
 pub mod Statuses

@@ -1,11 +1,12 @@
 -- What only private contracts cite.
 use Rattle.std.specs.Prelude.{◌≡◌, ◌≤◌, ℕ, List, Option, Bool, true, false, [], codes, Some, None, if◌then◌else◌}
 use Rattle.std.specs.Option.{option_map}
-use Rattle.outside.specs.Disk.{Sides}
+use Rattle.outside.specs.Disk.{Sides, LeavesOnly}
 use Rattle.sequent_core.specs.declared.Sequent.{Sequent}
 use Rattle.sequent_core.specs.declared.Attempt.{Attempt}
 use Rattle.store_log.specs.StoreLog.{chair_of, store_meaning}
 use Rattle.store_log.specs.declared.fault.StoreFault.{StoreFault}
+use Rattle.project_store.specs.Moments.{StoodWithin}
 use Rattle.project_store.specs.Store.{StoreState, IsSoundStore, Rests, log_in, base_in}
 use Rattle.session_streams.specs.Streams.{SourceState, writing}
 use Rattle.session_streams.specs.declared.reading.ReadEnd.TheVariants as reads
@@ -48,13 +49,13 @@ ending_line end None = end_line end
 ending_line end (Some fault) = if lacks_memory end then end_line end else store_fault_line fault
 
 -- A play of a store, and then the last line that its ending and the store's first fault ask for, make a session.
-abbrev pub PlaysEnd : {D : Type 0} (told : Type 0) (bytes_of : D → Sides) (images : D → Sides → Type 0) (faults : D → ℕ) →
+abbrev pub PlaysEnd : {D : Type 0} (told : Type 0) (bytes_of : D → Sides) (images : D → Sides → Type 0) (clock : D → ℕ) (moments : D → ℕ → Sides → Type 0) (faults : D → ℕ) →
     (Sequent → Attempt → Type 0) → (Sequent → Type 0) → Type 0
-PlaysEnd {D} told bytes_of images faults fair sure =
+PlaysEnd {D} told bytes_of images clock moments faults fair sure =
     (workers : ℕ) (first last : StoreState D) (source : SourceState) (before between after : Option (List ℕ)) (f g h : ℕ) (ending : Ending) (old : D) →
-    Opens told bytes_of images faults old first → base_in last ≡ base_in first → IsSoundStore told bytes_of images faults last →
-    Rests told bytes_of images last →
+    Opens told bytes_of images clock moments faults old first → base_in last ≡ base_in first → IsSoundStore told bytes_of images faults last →
+    Rests told bytes_of images last → (told → LeavesOnly clock moments old last.journal.disk (StoodWithin (images old) last)) →
     IsPlayed chair_of store_meaning fair workers (base_in first) (log_in last) source (writing before between f g) ending →
     WritesOrFails (writing between after g h) (ending_line ending (option_map (λ k. k.fault) last.kept)) → g ≤ h →
-    IsSession told bytes_of images faults fair sure workers old last.journal.disk source (writing before after f h)
+    IsSession told bytes_of images clock moments faults fair sure workers old last.journal.disk source (writing before after f h)
     (status_at ending (option_map (λ k. k.fault) last.kept)) last.history last.core.durable

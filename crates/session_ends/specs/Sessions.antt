@@ -5,7 +5,7 @@ use Rattle.sequent_core.specs.declared.Sequent.{Sequent}
 use Rattle.sequent_core.specs.declared.Attempt.{Attempt}
 use Rattle.sequent_core.specs.declared.Obligation.{Obligation}
 use Rattle.outside.specs.Cause.{Rose}
-use Rattle.outside.specs.Disk.{Sides}
+use Rattle.outside.specs.Disk.{Sides, LeavesOnly}
 use Rattle.core_steps.specs.declared.durable.Durable.{Durable}
 use Rattle.core_steps.specs.declared.events.Event.{Event}
 use Rattle.core_steps.specs.State.{State, no_texts}
@@ -15,6 +15,7 @@ use Rattle.project_store.specs.declared.fault.KeptFault.{KeptFault}
 use Rattle.project_store.specs.declared.fault.OpenFault.{OpenFault}
 use Rattle.project_store.specs.declared.fault.OpenFault.TheVariants.{DiskFault}
 use Rattle.project_store.specs.Opening.{StoreMeaning, StandsFor, durable, IsCause, IsAnswerFor, StandsAsSome}
+use Rattle.project_store.specs.Moments.{StoodWithin}
 use Rattle.project_store.specs.Records.{Recovers}
 use Rattle.project_store.specs.Store.{StoreState, IsImage, HasCauseOf, Rests, weight}
 use Rattle.session_streams.specs.Streams.{SourceState, Writing, WritesNothing}
@@ -42,7 +43,7 @@ module _ (fair : Sequent → Attempt → Type 0) (workers : ℕ) (status : ℕ) 
         (is : status ≡ 9)
         (how : EndsWithoutMemory fair workers source sink xs (option_map (λ k. k.act.1) kept) s) → EndsBy
 
-module _ {D : Type 0} (told : Type 0) (bytes_of : D → Sides) (images : D → Sides → Type 0) (faults : D → ℕ) where
+module _ {D : Type 0} (told : Type 0) (bytes_of : D → Sides) (images : D → Sides → Type 0) (clock : D → ℕ) (moments : D → ℕ → Sides → Type 0) (faults : D → ℕ) where
   -- The project on the disk was opened: its sides stand for the base, and for nothing else, and its table is within the
   -- limit.
   pub record Opens (old : D) (store : StoreState D) : Type 0 where
@@ -52,12 +53,13 @@ module _ {D : Type 0} (told : Type 0) (bytes_of : D → Sides) (images : D → S
     pub counted : store.count ≡ faults old
 
   -- It isn't opened, for a cause that its sides have, or a fault of the disk in the call, or want of memory; and what a
-  -- stop leaves now stands for what a stop would have left at first.
+  -- stop leaves now, and left at any moment since, stands for what a stop would have left at first.
   pub record Refuses (old new : D) (fault : OpenFault) : Type 0 where
     pub cause : told → IsCause (bytes_of old) fault
     pub exactly : told → (meaning : StoreMeaning) → StandsFor (bytes_of old) meaning → IsAnswerFor meaning fault
     pub disk_fault : fault ≡ DiskFault → Rose (faults old) (faults new)
     pub stands : told → (c : Sides) → images new c → StandsAsSome (images old) c
+    pub any_moment : told → LeavesOnly clock moments old new (StandsAsSome (images old))
 
   -- A refused opening: the source is as it was (`untouched`), nothing was done, and the last line alone is written. Memory
   -- may run out over it.
@@ -74,8 +76,8 @@ module _ {D : Type 0} (told : Type 0) (bytes_of : D → Sides) (images : D → S
 
   module _ (fair : Sequent → Attempt → Type 0) (sure : Sequent → Type 0) (workers : ℕ) where
     -- A session on an opened project: what the disk stood for at first, the history from there, within its limit, what a
-    -- stop leaves now, the cause of the store's first fault, if it met one, over this history and the disk as it is now,
-    -- and how the session ended.
+    -- stop leaves now, and what one left at any moment since, the cause of the store's first fault, if it met one, over
+    -- this history and the disk as it is now, and how the session ended.
     pub record IsSession
         (old new : D) (source : SourceState) (sink : Writing) (status : ℕ) (history : List (ℕ × Event)) (last : Durable) :
         Type 0 where
@@ -88,6 +90,7 @@ module _ {D : Type 0} (told : Type 0) (bytes_of : D → Sides) (images : D → S
       pub light : weight history ≤ 67108864
       pub rests : Rests told bytes_of images store
       pub stops : told → (c : Sides) → images new c → IsImage store.core store.kept c
+      pub any_moment : told → LeavesOnly clock moments old new (StoodWithin (images old) store)
       pub later : faults old ≤ faults new
       pub cause : IfSome store.kept (λ k. HasCauseOf faults store k.fault k.act.1)
       pub ends : EndsBy fair workers status store.kept source sink xs store.core

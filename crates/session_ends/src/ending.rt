@@ -3,6 +3,7 @@ ghost use Rattle.std.specs.Prelude.{◌≡◌, ◌⊎◌, ◌≤◌, ◌<◌, �
 ghost use Rattle.std.specs.Option.{option_map};
 ghost use Rattle.core_steps.specs.State.{opened, no_texts};
 ghost use Rattle.prover_pool.specs.Shift.{fair};
+ghost use Rattle.project_store.specs.Moments.{HasStood, IsOpenedOn};
 ghost use Rattle.project_store.specs.Store.{StoreState, IsSoundStore, Rests, base_in, log_in};
 ghost use Rattle.store_log.specs.StoreLog.{chair_of, store_meaning};
 ghost use Rattle.session_play.specs.Playing.{IsPlayed};
@@ -17,7 +18,7 @@ use crate::statuses::{closing, opening_line, opening_status};
 use core_steps::{Durable, Event, enters_all, one_answer, stays_orderly, tells_the_rebuilt};
 use formula_core::Steps;
 use outside::{Disk, Sink};
-use project_store::{OpenFault, Store};
+use project_store::{OpenFault, Opening, Store};
 use sequent_core::Prover;
 use session_run::{complete_when_idle, one_history};
 use session_streams::{ReadEnd, write_text};
@@ -49,13 +50,18 @@ pub fn write_last<O: Sink>(output: &mut O, line: &[u8])
 }
 
 // Writes the last line of a session, and takes its store apart.
-fn close_session<O: Sink, D: Disk>(store: Store<D>, ending: Ending, output: &mut O) -> Ended<D>
+fn close_session<O: Sink, D: Disk, K: Opening>(
+    store: Store<D, K>,
+    ending: Ending,
+    output: &mut O,
+) -> Ended<D>
     ensures status { result.status ≡ status_at ending (option_map (λ k. k.fault) store.kept) }
     ensures disk { result.disk ≡ store.journal.disk }
     ensures history { result.history.items ≡ store.history }
     ensures last { result.last ≡ store.core.durable }
     ensures facts { IsSoundStore D.told D.bytes_of D.images D.faults store }
     ensures rests { Rests D.told D.bytes_of D.images store }
+    ensures any_moment { K.known → D.told → HasStood D.clock D.moments K.moment K.images K.moments store }
     ensures written { WritesOrFails
         (writing (O.written output.old) (O.written output.new) (O.faults output.old) (O.faults output.new))
         (ending_line ending (option_map (λ k. k.fault) store.kept)) }
@@ -74,7 +80,7 @@ fn close_session<O: Sink, D: Disk>(store: Store<D>, ending: Ending, output: &mut
 
 // What a play of a store leaves makes a session.
 fn plays_end<D: Disk, P: Prover>(_prover: &P)
-    ensures { PlaysEnd D.told D.bytes_of D.images D.faults
+    ensures { PlaysEnd D.told D.bytes_of D.images D.clock D.moments D.faults
         (fair (P.answers _prover.now) (P.sure _prover.now)) (P.sure _prover.now) }
 {
     one_answer();
@@ -86,19 +92,22 @@ fn plays_end<D: Disk, P: Prover>(_prover: &P)
 }
 
 /// Ends a session that was played on a store, whose commands ended so: writes the last line, and takes the store apart.
-pub fn end_played<O: Sink, D: Disk, P: Prover>(
-    store: Store<D>,
+pub fn end_played<O: Sink, D: Disk, K: Opening, P: Prover>(
+    store: Store<D, K>,
     ending: Ending,
     output: &mut O,
     prover: &P,
 ) -> Ended<D>
+    requires { K.known }
     ensures { (workers : ℕ) (first : StoreState D) (source : SourceState)
         (before : Option (List ℕ)) (lost : ℕ) (old : D) →
-        Opens D.told D.bytes_of D.images D.faults old first → base_in store ≡ base_in first →
+        Opens D.told D.bytes_of D.images D.clock D.moments D.faults old first →
+        (D.told → IsOpenedOn D.clock D.moments K.moment K.images K.moments D.images old) →
+        base_in store ≡ base_in first →
         IsPlayed chair_of store_meaning (fair (P.answers prover.now) (P.sure prover.now)) workers
         (base_in first) (log_in store) source
         (writing before (O.written output.old) lost (O.faults output.old)) ending →
-        IsSession D.told D.bytes_of D.images D.faults
+        IsSession D.told D.bytes_of D.images D.clock D.moments D.faults
         (fair (P.answers prover.now) (P.sure prover.now)) (P.sure prover.now) workers old result.disk
         source (writing before (O.written output.new) lost (O.faults output.new))
         result.status result.history.items result.last }
@@ -108,15 +117,17 @@ pub fn end_played<O: Sink, D: Disk, P: Prover>(
 }
 
 /// Ends a session that memory ran out over before anything was done.
-pub fn end_unplayed<O: Sink, D: Disk, P: Prover>(
-    store: Store<D>,
+pub fn end_unplayed<O: Sink, D: Disk, K: Opening, P: Prover>(
+    store: Store<D, K>,
     output: &mut O,
     _prover: &P,
 ) -> Ended<D>
-    requires { (store.core ≡ opened store.base) × (store.history ≡ []) × (store.kept ≡ None) }
+    requires known { K.known }
+    requires begun { (store.core ≡ opened store.base) × (store.history ≡ []) × (store.kept ≡ None) }
     ensures { (workers : ℕ) (old : D) (left : Option (List ℕ)) (lost : ℕ) →
-        Opens D.told D.bytes_of D.images D.faults old store →
-        IsSession D.told D.bytes_of D.images D.faults
+        Opens D.told D.bytes_of D.images D.clock D.moments D.faults old store →
+        (D.told → IsOpenedOn D.clock D.moments K.moment K.images K.moments D.images old) →
+        IsSession D.told D.bytes_of D.images D.clock D.moments D.faults
         (fair (P.answers _prover.now) (P.sure _prover.now)) (P.sure _prover.now) workers old result.disk
         (reading left left lost lost)
         (writing (O.written output.old) (O.written output.new) (O.faults output.old) (O.faults output.new))
@@ -158,18 +169,20 @@ pub fn refuse<O: Sink, D>(alloc: Global, output: &mut O, disk: D, fault: OpenFau
 }
 
 /// Opens the project on a disk, with a step counter of its own.
-pub fn open_store<L: Ledger, D: Disk>(
+pub fn open_store<L: Ledger, D: Disk, K: Opening>(
     alloc: Global,
     disk: D,
     blank: Blank,
-) -> Result<Store<D>, (D, OpenFault)>
+) -> Result<Store<D, K>, (D, OpenFault)>
     requires name { blank.name ≡ L.name }
     requires parts { blank.parts ≡ L.parts }
     requires some { 0 < blank.parts }
-    ensures opens { IfOk result (λ store. Opens D.told D.bytes_of D.images D.faults disk store) }
+    requires opening { K.known → D.told → IsOpenedOn D.clock D.moments K.moment K.images K.moments D.images disk }
+    ensures opens { IfOk result (λ store. Opens D.told D.bytes_of D.images D.clock D.moments D.faults disk store) }
     ensures begun { IfOk result
         (λ store. (store.core ≡ opened store.base) × (store.history ≡ []) × (store.kept ≡ None)) }
-    ensures refuses { IfErr result (λ refused. Refuses D.told D.bytes_of D.images D.faults disk refused.0 refused.1) }
+    ensures refuses { IfErr result (λ refused.
+        Refuses D.told D.bytes_of D.images D.clock D.moments D.faults disk refused.0 refused.1) }
 {
     let mut steps = Steps::<L>::open(blank);
     Store::start(alloc, disk, &mut steps)

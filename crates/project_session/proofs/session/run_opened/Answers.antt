@@ -11,14 +11,14 @@ pub play-requires-send-V : goal.play-requires-send-V
 play-requires-send-V g c κs = search (sendable, store)
 
 pub returns-in-Ok : goal.returns-in-Ok
-returns-in-Ok g c old opens = c.end_played.ensures c.args.workers c.args.store _ _ _ old opens c.in-Ok.ensures.base c.in-Ok.ensures.played
+returns-in-Ok g c old opens opening = c.end_played.ensures c.args.workers c.args.store _ _ _ old opens opening c.in-Ok.ensures.base c.in-Ok.ensures.played
 
 pub returns-in-Err : goal.returns-in-Err
-returns-in-Err g c old opens =
+returns-in-Err g c old opens opening =
     let same = c.in-Err.ensures.untouched in
-    let here = subst (λ s. Opens g.D.Disk.told g.D.Disk.bytes_of g.D.Disk.images g.D.Disk.faults old s) (sym c.in-Err.ensures.refused) opens in
-    let ended = c.end_unplayed.ensures c.args.workers old (g.I.Source.left c.play.new.input) (g.I.Source.faults c.play.new.input) here in
-    subst (λ (z : Option (List ℕ) × ℕ × Option (List ℕ) × ℕ). IsSession g.D.Disk.told g.D.Disk.bytes_of g.D.Disk.images g.D.Disk.faults
+    let here = subst (λ s. Opens g.D.Disk.told g.D.Disk.bytes_of g.D.Disk.images g.D.Disk.clock g.D.Disk.moments g.D.Disk.faults old s) (sym c.in-Err.ensures.refused) opens in
+    let ended = c.end_unplayed.ensures c.args.workers old (g.I.Source.left c.play.new.input) (g.I.Source.faults c.play.new.input) here opening in
+    subst (λ (z : Option (List ℕ) × ℕ × Option (List ℕ) × ℕ). IsSession g.D.Disk.told g.D.Disk.bytes_of g.D.Disk.images g.D.Disk.clock g.D.Disk.moments g.D.Disk.faults
     (fair (g.P.Prover.answers c.args.tools.now.prover.now) (g.P.Prover.sure c.args.tools.now.prover.now)) (g.P.Prover.sure c.args.tools.now.prover.now) c.args.workers old c.end_unplayed.result.disk
     (reading z.0 (g.I.Source.left c.play.new.input) z.1 (g.I.Source.faults c.play.new.input))
     (writing z.2 (g.O.Sink.written c.end_unplayed.new.output) z.3 (g.O.Sink.faults c.end_unplayed.new.output))

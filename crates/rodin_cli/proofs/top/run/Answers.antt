@@ -50,6 +50,9 @@ returns-in-Some-Check-clause-disk_fault g c workers is = absurd (check_or_sessio
 pub returns-in-Some-Check-clause-session_unhindered : goal.returns-in-Some-Check-clause-session_unhindered
 returns-in-Some-Check-clause-session_unhindered g c workers is = absurd (check_or_session c.args.words.now workers (rw c.in-Some-Check.field-0-is at c.in-Some-Check.ensures) is)
 
+pub returns-in-Some-Check-clause-at_any_moment : goal.returns-in-Some-Check-clause-at_any_moment
+returns-in-Some-Check-clause-at_any_moment g c workers is = absurd (check_or_session c.args.words.now workers (rw c.in-Some-Check.field-0-is at c.in-Some-Check.ensures) is)
+
 -- `session`
 
 pub run_session-requires-clause-workers : goal.run_session-requires-clause-workers
@@ -95,6 +98,9 @@ returns-in-Some-Session-clause-disk_fault g c workers is = rw c.of_session.ensur
 
 pub returns-in-Some-Session-clause-session_unhindered : goal.returns-in-Some-Session-clause-session_unhindered
 returns-in-Some-Session-clause-session_unhindered g c workers is = rw c.of_session.ensures c.run_session.ensures.unhindered
+
+pub returns-in-Some-Session-clause-at_any_moment : goal.returns-in-Some-Session-clause-at_any_moment
+returns-in-Some-Session-clause-at_any_moment g c workers is = rw c.of_session.ensures c.run_session.ensures.any_moment
 
 pub returns-in-Some-Session-clause-without_faults : goal.returns-in-Some-Session-clause-without_faults
 returns-in-Some-Session-clause-without_faults g c check = absurd (check_or_session c.args.words.now c.in-Some-Session.workers check (rw c.in-Some-Session.field-0-is at c.in-Some-Session.ensures))
@@ -158,6 +164,9 @@ returns-in-Some-Demo-clause-disk_fault g c workers is = absurd (session_or_demo 
 pub returns-in-Some-Demo-clause-session_unhindered : goal.returns-in-Some-Demo-clause-session_unhindered
 returns-in-Some-Demo-clause-session_unhindered g c workers is = absurd (session_or_demo c.args.words.now workers c.in-Some-Demo.seed c.in-Some-Demo.n is (rw c.in-Some-Demo.field-0-is at c.in-Some-Demo.ensures))
 
+pub returns-in-Some-Demo-clause-at_any_moment : goal.returns-in-Some-Demo-clause-at_any_moment
+returns-in-Some-Demo-clause-at_any_moment g c workers is = absurd (session_or_demo c.args.words.now workers c.in-Some-Demo.seed c.in-Some-Demo.n is (rw c.in-Some-Demo.field-0-is at c.in-Some-Demo.ensures))
+
 -- words of no form
 
 pub returns-in-None-clause-checked : goal.returns-in-None-clause-checked
@@ -195,3 +204,6 @@ returns-in-None-clause-disk_fault g c workers is = absurd (c.in-None.ensures (Se
 
 pub returns-in-None-clause-session_unhindered : goal.returns-in-None-clause-session_unhindered
 returns-in-None-clause-session_unhindered g c workers is = absurd (c.in-None.ensures (Session workers) is)
+
+pub returns-in-None-clause-at_any_moment : goal.returns-in-None-clause-at_any_moment
+returns-in-None-clause-at_any_moment g c workers is = absurd (c.in-None.ensures (Session workers) is)

@@ -4,6 +4,7 @@ use Rattle.store_log.specs.declared.fault.StoreFault.TheVariants.{SessionFull, O
 use Rattle.project_store.specs.Store.{met, weight}
 use Rattle.project_store.proofs.Moments.{idle}
 use Rattle.project_store.proofs.Keeping.{Sound, not_failed, refused, done_by, undone_by, acted, has_stopped, is_too_heavy, has_no_memory, weight_on}
+use Rattle.project_store.proofs.Stood.{Stood, stood_done, stood_still, stood_undone}
 use Rattle.project_store.proofs.store.Store.act.Goals as goal
 
 pub overflow_sub-room : goal.overflow_sub-room
@@ -33,6 +34,8 @@ invariant_of-self g c =
       subst (Sound g.D.Disk.told g.D.Disk.bytes_of g.D.Disk.images g.D.Disk.clock g.D.Disk.moments g.D.Disk.faults c.self.inside.base.value c.self.inside.count c.self.inside.journal c.self.inside.core c.self.inside.history.items) (sym c.keep.ensures)
           (refused g.D.Disk.told g.D.Disk.bytes_of g.D.Disk.images g.D.Disk.clock g.D.Disk.moments g.D.Disk.faults c.self.inside.base.value c.self.inside.count c.self.inside.journal c.self.inside.core c.self.inside.history.items old SessionFull c.args.chair c.args.event (λ e. cc) (λ e. cc) (λ e. omega (arith, c.self.invariant.1, old.light, c.in-None.ensures.weight)) (λ e. cc)),
       c.self.invariant.1,
+      λ known t. subst (Stood g.D.Disk.clock g.D.Disk.moments g.K.Opening.moment g.K.Opening.images g.K.Opening.moments c.self.inside.base.value c.self.inside.count c.self.inside.journal c.self.inside.core c.self.inside.history.items) (sym c.keep.ensures)
+          (stood_still g.D.Disk.clock g.D.Disk.moments g.K.Opening.moment g.K.Opening.images g.K.Opening.moments c.self.inside.base.value c.self.inside.count c.self.inside.journal c.self.inside.core c.self.inside.history.items old.exchanges old.run (subst (Stood g.D.Disk.clock g.D.Disk.moments g.K.Opening.moment g.K.Opening.images g.K.Opening.moments c.self.inside.base.value c.self.inside.count c.self.inside.journal c.self.inside.core c.self.inside.history.items) none (c.self.invariant.2 known t)) c.args.chair c.args.event (met SessionFull c.args.chair c.args.event)),
     )
 
 pub returns-in-None-clause-outcome : goal.returns-in-None-clause-outcome
@@ -53,6 +56,8 @@ invariant_of-self-then-is_err g c =
           (subst (Sound g.D.Disk.told g.D.Disk.bytes_of g.D.Disk.images g.D.Disk.clock g.D.Disk.moments g.D.Disk.faults c.self.inside.base.value c.self.inside.count c.self.inside.journal c.self.inside.core c.self.inside.history.items) (sym c.keep-then-is_err.ensures)
           (refused g.D.Disk.told g.D.Disk.bytes_of g.D.Disk.images g.D.Disk.clock g.D.Disk.moments g.D.Disk.faults c.self.inside.base.value c.self.inside.count c.self.inside.journal c.self.inside.core c.self.inside.history.items old OutOfMemory c.args.chair c.args.event (λ e. cc) (λ e. cc) (λ e. cc) (λ e. cc))),
       c.self.invariant.1 ∙ ap weight (sym c.reserve.ensures.items),
+      λ known t. subst (λ h. Stood g.D.Disk.clock g.D.Disk.moments g.K.Opening.moment g.K.Opening.images g.K.Opening.moments c.self.inside.base.value c.self.inside.count c.self.inside.journal c.self.inside.core h c.keep-then-is_err.new.kept) (sym c.reserve.ensures.items)
+          (subst (Stood g.D.Disk.clock g.D.Disk.moments g.K.Opening.moment g.K.Opening.images g.K.Opening.moments c.self.inside.base.value c.self.inside.count c.self.inside.journal c.self.inside.core c.self.inside.history.items) (sym c.keep-then-is_err.ensures) (stood_still g.D.Disk.clock g.D.Disk.moments g.K.Opening.moment g.K.Opening.images g.K.Opening.moments c.self.inside.base.value c.self.inside.count c.self.inside.journal c.self.inside.core c.self.inside.history.items old.exchanges old.run (subst (Stood g.D.Disk.clock g.D.Disk.moments g.K.Opening.moment g.K.Opening.images g.K.Opening.moments c.self.inside.base.value c.self.inside.count c.self.inside.journal c.self.inside.core c.self.inside.history.items) none (c.self.invariant.2 known t)) c.args.chair c.args.event (met OutOfMemory c.args.chair c.args.event))),
     )
 
 pub returns-then-is_err-clause-outcome : goal.returns-then-is_err-clause-outcome
@@ -75,6 +80,8 @@ invariant_of-self-in-Ok g c =
       subst (Sound g.D.Disk.told g.D.Disk.bytes_of g.D.Disk.images g.D.Disk.clock g.D.Disk.moments g.D.Disk.faults c.self.inside.base.value c.self.inside.count c.perform.new.journal c.perform.new.core c.push_reserved.new.self.items) (sym none)
           (done_by g.D.Disk.told g.D.Disk.bytes_of g.D.Disk.images g.D.Disk.clock g.D.Disk.moments g.D.Disk.faults c.self.inside.base.value c.self.inside.count c.self.inside.journal c.self.inside.core c.self.inside.history.items old c.perform.new.journal c.args.chair c.args.event c.in-Ok.reply c.perform.new.core c.push_reserved.new.self.items c.in-Ok.ensures.outcome is c.in-Ok.ensures.later light),
       omega (arith, c.self.invariant.1, c.in-Some.ensures.weight.0, ap weight is, weight_on c.self.inside.history.items c.args.chair c.args.event),
+      λ known t. subst (Stood g.D.Disk.clock g.D.Disk.moments g.K.Opening.moment g.K.Opening.images g.K.Opening.moments c.self.inside.base.value c.self.inside.count c.perform.new.journal c.perform.new.core c.push_reserved.new.self.items) (sym none)
+          (stood_done g.D.Disk.clock g.D.Disk.moments g.K.Opening.moment g.K.Opening.images g.K.Opening.moments c.self.inside.base.value c.self.inside.count c.self.inside.journal c.self.inside.core c.self.inside.history.items old.exchanges old.run (subst (Stood g.D.Disk.clock g.D.Disk.moments g.K.Opening.moment g.K.Opening.images g.K.Opening.moments c.self.inside.base.value c.self.inside.count c.self.inside.journal c.self.inside.core c.self.inside.history.items) none (c.self.invariant.2 known t)) c.args.chair c.args.event c.perform.new.journal c.perform.new.core c.push_reserved.new.self.items is (c.in-Ok.ensures.any_moment t)),
     )
 
 pub returns-in-Ok-clause-outcome : goal.returns-in-Ok-clause-outcome
@@ -94,6 +101,8 @@ invariant_of-self-in-Err g c =
           (undone_by g.D.Disk.told g.D.Disk.bytes_of g.D.Disk.images g.D.Disk.clock g.D.Disk.moments g.D.Disk.faults c.self.inside.base.value c.self.inside.count c.self.inside.journal c.self.inside.core c.self.inside.history.items old c.perform.new.journal c.args.chair c.args.event c.perform.new.core c.in-Err.fault c.in-Err.ensures.outcome c.in-Err.ensures.any_moment c.in-Err.ensures.later
           (λ t e here. g.met.D.Disk.counts_now t c.perform.new.journal.disk (g.D.Disk.clock c.self.inside.journal.disk) e (c.in-Err.ensures.any_moment t).later here))),
       c.self.invariant.1 ∙ ap weight (sym c.reserve.ensures.items),
+      λ known t. subst (Stood g.D.Disk.clock g.D.Disk.moments g.K.Opening.moment g.K.Opening.images g.K.Opening.moments c.self.inside.base.value c.self.inside.count c.perform.new.journal c.perform.new.core c.reserve.new.self.items) (sym c.keep-in-Err.ensures)
+          (stood_undone g.D.Disk.clock g.D.Disk.moments g.K.Opening.moment g.K.Opening.images g.K.Opening.moments c.self.inside.base.value c.self.inside.count c.self.inside.journal c.self.inside.core c.self.inside.history.items old.exchanges old.run (subst (Stood g.D.Disk.clock g.D.Disk.moments g.K.Opening.moment g.K.Opening.images g.K.Opening.moments c.self.inside.base.value c.self.inside.count c.self.inside.journal c.self.inside.core c.self.inside.history.items) none (c.self.invariant.2 known t)) c.args.chair c.args.event c.perform.new.journal c.perform.new.core c.reserve.new.self.items c.in-Err.fault c.in-Err.ensures.outcome.same c.reserve.ensures.items c.in-Err.ensures.outcome.stays (c.in-Err.ensures.any_moment t)),
     )
 
 pub returns-in-Err-clause-outcome : goal.returns-in-Err-clause-outcome
