@@ -6,3 +6,5 @@ pub mod Truths
 pub mod Conditions
 pub mod Binders
 pub mod Theorem
+pub mod Claims
+pub mod Defined

@@ -55,12 +55,27 @@ found (x ∷ σ) [] k t e h = absurd cc
 found (x ∷ σ) (u ∷ types) zero t e h = let first : x.0 ≡ sort u = cc in (x, refl, first ∙ ap sort (same_type_exact u t h))
 found (x ∷ σ) (u ∷ types) (suc k) t e h = let rest : map (λ x. x.0) σ ≡ map sort types = cc in found σ types k t rest h
 
-fits_below : {carrier : List ℕ → Type 0} → (own types : List Ty) (es σ : List (Denotation carrier)) → map (λ x. x.0) es ≡ map sort own → FitsTypes σ types
+pub fits_below : {carrier : List ℕ → Type 0} → (own types : List Ty) (es σ : List (Denotation carrier)) → map (λ x. x.0) es ≡ map sort own → FitsTypes σ types
     → FitsTypes (reverse es ++ σ) (reverse own ++ types)
 fits_below own types es σ e h =
     map-append (λ x. x.0) (reverse es) σ
     ∙ (λ i. (sym (reverse-map (λ x. x.0) es) ∙ ap reverse e ∙ reverse-map sort own) i ++ h i)
     ∙ sym (map-append sort (reverse own) types)
+
+-- a binder's first part is a predicate
+one_truth : (b : Binder) (u t : Ty) → binder_fits b (u ∷ []) t ≡ true → is_truth u ≡ true
+one_truth binder.ForAll u t h = first_true _ _ h
+one_truth binder.Exists u t h = first_true _ _ h
+one_truth binder.Comprehension u t h = absurd cc
+one_truth binder.QuantifiedUnion u t h = absurd cc
+one_truth binder.QuantifiedIntersection u t h = absurd cc
+
+pub two_truth : (b : Binder) (u w t : Ty) → binder_fits b (u ∷ w ∷ []) t ≡ true → is_truth u ≡ true
+two_truth binder.ForAll u w t h = absurd cc
+two_truth binder.Exists u w t h = absurd cc
+two_truth binder.Comprehension u w t h = first_true _ _ (first_true _ _ h)
+two_truth binder.QuantifiedUnion u w t h = first_true _ _ (first_true _ _ h)
+two_truth binder.QuantifiedIntersection u w t h = first_true _ _ (first_true _ _ h)
 
 module _ {carrier : List ℕ → Type 0} (U V : Universe carrier) (names : Valuation carrier) where
   abbrev M : Formula → Assignment U → Denotation carrier
@@ -165,21 +180,6 @@ module _ {carrier : List ℕ → Type 0} (U V : Universe carrier) (names : Valua
       denotation-Node U names o parts t σ
       ∙ (λ i. (sort t, operands_same types σ fits o parts (sort t) well each k.0 sorts (value_exists U names σ o parts t row k.1) i))
       ∙ sym (denotation-Node V names o parts t σ)
-
-  -- a binder's first part is a predicate
-  one_truth : (b : Binder) (u t : Ty) → binder_fits b (u ∷ []) t ≡ true → is_truth u ≡ true
-  one_truth binder.ForAll u t h = first_true _ _ h
-  one_truth binder.Exists u t h = first_true _ _ h
-  one_truth binder.Comprehension u t h = absurd cc
-  one_truth binder.QuantifiedUnion u t h = absurd cc
-  one_truth binder.QuantifiedIntersection u t h = absurd cc
-
-  two_truth : (b : Binder) (u w t : Ty) → binder_fits b (u ∷ w ∷ []) t ≡ true → is_truth u ≡ true
-  two_truth binder.ForAll u w t h = absurd cc
-  two_truth binder.Exists u w t h = absurd cc
-  two_truth binder.Comprehension u w t h = first_true _ _ (first_true _ _ h)
-  two_truth binder.QuantifiedUnion u w t h = first_true _ _ (first_true _ _ h)
-  two_truth binder.QuantifiedIntersection u w t h = first_true _ _ (first_true _ _ h)
 
   module _ (b : Binder) (own : List Ty) (t : Ty) (types : List Ty) (σ : Assignment U) (fits : FitsTypes σ types) where
     abbrev inner : List Ty

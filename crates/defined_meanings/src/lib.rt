@@ -3,4 +3,6 @@
 
 mod laws;
 
-pub use laws::{defined_formulas_denote_one, defined_sequents_agree};
+pub use laws::{
+    defined_formulas_denote_one, defined_in_one_is_defined_in_all, defined_sequents_agree,
+};

@@ -5,11 +5,10 @@ use Rattle.formula_core.specs.declared.Op.TheVariants as op
 use Rattle.meanings.specs.Operations.{implies}
 use Rattle.meanings.specs.Universes.{Universe}
 use Rattle.meanings.specs.Values.{integer_sort, power_sort}
-use Rattle.meanings.proofs.Bools.{or_none}
 use Rattle.meanings.proofs.Quantifiers.{some_holds, every_holds}
 use Rattle.meaning_rows.proofs.RelationRows.{in_one}
-use Rattle.meaning_rows.proofs.Short.{Short, top, bound, none, one, two, binder, n, maps, just, set, pairs, relations, member, IsTrueEverywhere, IsFalseEverywhere}
-use Rattle.meaning_rows.proofs.Values.{so, row, equals, differs, every_fails, some_fails}
+use Rattle.meaning_rows.proofs.Short.{Short, top, bottom, bound, none, one, two, binder, n, maps, just, set, pairs, relations, member, IsTrueEverywhere, IsFalseEverywhere}
+use Rattle.meaning_rows.proofs.Values.{so, row, equals, differs, every_fails, some_fails, one_or_none}
 
 abbrev x : Short
 x = bound 0 integer_sort
@@ -47,7 +46,7 @@ module _ {carrier : List ℕ → Type 0} (U : Universe carrier) where
   two_not_one = λ i. differs U integer_sort (pos 2) (pos 1) (λ e. absurd cc) i || false
 
   is_one : (m : ℤ → Bool) → OfOne m ≡ true → m ≡ One
-  is_one m h = (U.same_exact set m One).0 (sym (or_none (U.same set m One)) ∙ h)
+  is_one m h = (U.same_exact set m One).0 (one_or_none (U.same set m One) h)
 
   either : (a b : Bool) → (a ≡ true → b ≡ true) → implies a b ≡ true
   either true b f = f refl
@@ -84,7 +83,13 @@ intersection_of_none el U names =
     so U names op.Member (n 1) (one op.GeneralIntersection set (none op.EmptySet (power_sort set)))
     (every_holds U set (λ m. implies false (m (pos 1))) (λ m. refl))
 
--- not 2 ∈ (⋃x·⊤∣{1}), not 2 ∈ (⋂x·⊤∣{x}), not 1 ↦ 3 ∈ (λx·⊤∣x + 1)
+-- not 1 ∈ {x·⊥∣x}, not 1 ∈ (⋃x·⊥∣{x}), not 2 ∈ (⋃x·⊤∣{1}), not 2 ∈ (⋂x·⊤∣{x}), not 1 ↦ 3 ∈ (λx·⊤∣x + 1)
+pub not_comprehension : IsFalseEverywhere (member (n 1) (binder b.Comprehension (integer_sort ∷ []) set bottom x))
+not_comprehension el U names = row U names op.Member (n 1) (binder b.Comprehension (integer_sort ∷ []) set bottom x)
+
+pub union_of_none : IsFalseEverywhere (member (n 1) (binder b.QuantifiedUnion (integer_sort ∷ []) set bottom (just x)))
+union_of_none el U names = row U names op.Member (n 1) (binder b.QuantifiedUnion (integer_sort ∷ []) set bottom (just x))
+
 pub not_quantified_union : IsFalseEverywhere (member (n 2) (binder b.QuantifiedUnion (integer_sort ∷ []) set top (just (n 1))))
 not_quantified_union el U names =
     row U names op.Member (n 2) (binder b.QuantifiedUnion (integer_sort ∷ []) set top (just (n 1)))

@@ -8,7 +8,7 @@ use Rattle.meanings.specs.Universes.{Universe, some, every}
 use Rattle.meanings.specs.Values.{integer_sort, power_sort}
 use Rattle.meanings.proofs.Quantifiers.{some_holds, every_holds, every_tells}
 use Rattle.meaning_rows.proofs.Short.{one, n, both, pairs, claim_of, formula, equal, IsTrueEverywhere}
-use Rattle.meaning_rows.proofs.Values.{is, equals, says}
+use Rattle.meaning_rows.proofs.Values.{is, equals, in_second, says}
 
 is_one : (i m : ℤ) → int_le (pos 1) i ≡ true → int_le i m ≡ true → int_le (pos 2) m ≡ false → i ≡ pos 1
 is_one i m a b c = grind (arith, ints, a, b, c)
@@ -33,12 +33,7 @@ module _ {carrier : List ℕ → Type 0} (U : Universe carrier) where
   has_one = λ i. equals U integer_sort (pos 1) i || (U.same integer_sort (pos 1) (pos 2) || false)
 
   has_two : In (pos 2) ≡ true
-  has_two = go (U.same integer_sort (pos 2) (pos 1)) (U.same integer_sort (pos 2) (pos 2)) (equals U integer_sort (pos 2))
-    where
-      go : (a b : Bool) → b ≡ true → (a || (b || false)) ≡ true
-      go true b h = refl
-      go false true h = refl
-      go false false h = h
+  has_two = in_second (U.same integer_sort (pos 2) (pos 1)) (U.same integer_sort (pos 2) (pos 2)) (equals U integer_sort (pos 2))
 
   -- each member is its own number
   abbrev own : ℤ × ℤ → Bool

@@ -7,7 +7,7 @@ use Rattle.meanings.specs.Values.{integer_sort, power_sort}
 use Rattle.meanings.proofs.Quantifiers.{some_holds, every_holds}
 use Rattle.meaning_rows.proofs.RelationRows.{in_one, f}
 use Rattle.meaning_rows.proofs.Short.{one, two, n, just, set, pairs, relations, equal, member, IsTrueEverywhere}
-use Rattle.meaning_rows.proofs.Values.{is, so, equals}
+use Rattle.meaning_rows.proofs.Values.{is, so, equals, one_or_none}
 
 module _ {carrier : List ℕ → Type 0} (U : Universe carrier) where
   abbrev F : ℤ → ℤ → Bool
@@ -38,10 +38,6 @@ module _ {carrier : List ℕ → Type 0} (U : Universe carrier) where
           let p : Path (ℤ × ℤ) (x, y) (pos 1, pos 2) = (U.same_exact pairs (x, y) (pos 1, pos 2)).0 e in
           let q : Path (ℤ × ℤ) (x, z) (pos 1, pos 2) = (U.same_exact pairs (x, z) (pos 1, pos 2)).0 k in
           (λ i. U.same integer_sort (p i).1 (q i).1) ∙ equals U integer_sort (pos 2)
-
-  one_or_none : (a : Bool) → (a || false) ≡ true → a ≡ true
-  one_or_none true h = refl
-  one_or_none false h = h
 
   -- the domain of {1 ↦ 2} is {1}
   domain_is : (x : ℤ) → some U integer_sort (F x) ≡ One x

@@ -7,12 +7,7 @@ use Rattle.meanings.specs.Universes.{Universe, every}
 use Rattle.meanings.specs.Values.{integer_sort}
 use Rattle.meanings.proofs.Quantifiers.{every_holds, every_tells}
 use Rattle.meaning_rows.proofs.Short.{one, n, both, equal, IsTrueEverywhere}
-use Rattle.meaning_rows.proofs.Values.{is, equals}
-
-right : (a b : Bool) → b ≡ true → (a || (b || false)) ≡ true
-right true b h = refl
-right false true h = refl
-right false false h = h
+use Rattle.meaning_rows.proofs.Values.{is, equals, in_second}
 
 module _ {carrier : List ℕ → Type 0} (U : Universe carrier) where
   abbrev Test : ℤ → Bool
@@ -30,7 +25,7 @@ module _ {carrier : List ℕ → Type 0} (U : Universe carrier) where
       go false false e h = refl
 
   has_two : Test (pos 2) ≡ true
-  has_two = right (U.same integer_sort (pos 2) (pos 1)) (U.same integer_sort (pos 2) (pos 2)) (equals U integer_sort (pos 2))
+  has_two = in_second (U.same integer_sort (pos 2) (pos 1)) (U.same integer_sort (pos 2) (pos 2)) (equals U integer_sort (pos 2))
 
   two_is_greatest : IsGreatest (pos 2) ≡ true
   two_is_greatest = λ i. has_two i && every_holds U integer_sort (λ k. implies (Test k) (int_le k (pos 2))) below i

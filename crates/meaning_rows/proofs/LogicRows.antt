@@ -6,7 +6,7 @@ use Rattle.formula_core.specs.declared.Op.TheVariants as op
 use Rattle.meanings.specs.Universes.{some}
 use Rattle.meanings.specs.Values.{integer_sort, boolean_sort, power_sort}
 use Rattle.meanings.proofs.Quantifiers.{some_holds, every_holds}
-use Rattle.meaning_rows.proofs.Short.{Short, bottom, claim, claim_of, quantified, bound, none, one, n, equal, member, formula, IsTrueEverywhere, IsFalseEverywhere}
+use Rattle.meaning_rows.proofs.Short.{Short, top, bottom, claim, claim_of, quantified, bound, none, one, n, equal, member, formula, IsTrueEverywhere, IsFalseEverywhere}
 use Rattle.meaning_rows.proofs.Values.{is, says, so, every_fails, some_fails}
 
 abbrev less : Short
@@ -15,6 +15,10 @@ less = claim op.Less (n 1) (n 2)
 abbrev more : Short
 more = claim op.Less (n 2) (n 1)
 
+-- ⊤
+pub top_is_true : IsTrueEverywhere (formula top)
+top_is_true el U names = says U names top
+
 -- 2 < 1 ⇒ 2 < 1, and not 1 < 2 ⇒ 2 < 1
 pub implies : IsTrueEverywhere (formula (claim op.Implies more more))
 implies el U names = says U names (claim op.Implies more more)
@@ -22,7 +26,7 @@ implies el U names = says U names (claim op.Implies more more)
 pub not_implies : IsFalseEverywhere (formula (claim op.Implies less more))
 not_implies el U names = says U names (claim op.Implies less more)
 
--- 1 < 2 ∨ 2 < 1, not 1 < 2 ∧ 2 < 1, ¬ 2 < 1, not 1 < 2 ⇔ 2 < 1
+-- 1 < 2 ∨ 2 < 1, not 1 < 2 ∧ 2 < 1, ¬ 2 < 1
 pub or : IsTrueEverywhere (formula (claim op.Or less more))
 or el U names = says U names (claim op.Or less more)
 
@@ -31,6 +35,13 @@ not_and el U names = says U names (claim op.And less more)
 
 pub negation : IsTrueEverywhere (formula (claim_of op.Not more))
 negation el U names = says U names (claim_of op.Not more)
+
+-- 2 < 1 ⇔ 2 < 1, not 1 < 2 ⇔ 2 < 1, not 2 < 1 ⇔ 1 < 2
+pub equivalent : IsTrueEverywhere (formula (claim op.Equivalent more more))
+equivalent el U names = says U names (claim op.Equivalent more more)
+
+pub not_equivalent_back : IsFalseEverywhere (formula (claim op.Equivalent more less))
+not_equivalent_back el U names = says U names (claim op.Equivalent more less)
 
 pub not_equivalent : IsFalseEverywhere (formula (claim op.Equivalent less more))
 not_equivalent el U names = says U names (claim op.Equivalent less more)

@@ -6,7 +6,7 @@ use Rattle.meanings.specs.Universes.{Universe}
 use Rattle.meanings.specs.Values.{Sort, integer_sort, power_sort, pair_sort, Value}
 use Rattle.meanings.proofs.Quantifiers.{some_holds, every_holds}
 use Rattle.meaning_rows.proofs.Short.{Short, none, one, two, n, maps, both, just, only, set, pairs, relations, member, IsTrueEverywhere}
-use Rattle.meaning_rows.proofs.Values.{so, equals, differs}
+use Rattle.meaning_rows.proofs.Values.{so, equals, differs, or_left, in_second}
 
 -- a value is in the set of it alone, and another isn't
 pub in_one : {carrier : List ℕ → Type 0} (U : Universe carrier) (s : Sort) (v : Value carrier s) → (U.same s v v || false) ≡ true
@@ -18,9 +18,10 @@ one_two U = λ i. not (differs U integer_sort (pos 1) (pos 2) (λ e. absurd cc) 
 pub two_one : {carrier : List ℕ → Type 0} (U : Universe carrier) → not (U.same integer_sort (pos 2) (pos 1) || false) ≡ true
 two_one U = λ i. not (differs U integer_sort (pos 2) (pos 1) (λ e. absurd cc) i || false)
 
-or_left : (a b : Bool) → a ≡ true → (a || b) ≡ true
-or_left true b h = refl
-or_left false b h = absurd cc
+-- what is in {2} is in {1, 2}
+pub second_of : (a b : Bool) → implies (b || false) (a || (b || false)) ≡ true
+second_of a true = in_second a true refl
+second_of a false = refl
 
 abbrev pub f : Short
 f = only (maps (n 1) (n 2))
@@ -120,9 +121,3 @@ power_set el U names =
     so U names op.Member (just (n 2)) (one op.PowerSet (power_sort set) (both (n 1) (n 2)))
     (every_holds U integer_sort (λ x. implies (U.same integer_sort x (pos 2) || false) (U.same integer_sort x (pos 1) || (U.same integer_sort x (pos 2) || false)))
     (λ x. second_of (U.same integer_sort x (pos 1)) (U.same integer_sort x (pos 2))))
-  where
-    second_of : (a b : Bool) → implies (b || false) (a || (b || false)) ≡ true
-    second_of true true = refl
-    second_of true false = refl
-    second_of false true = refl
-    second_of false false = refl

@@ -3,7 +3,7 @@ use Rattle.std.proofs.Common.{◌≡◌, ap, refl, ℤ, pos, Bool, true, false, 
 use Rattle.formula_core.specs.declared.Op.TheVariants as op
 use Rattle.meanings.specs.Values.{integer_sort}
 use Rattle.meaning_rows.proofs.Short.{two, n, maps, both, just, only, set, pairs, equal, member, IsTrueEverywhere}
-use Rattle.meaning_rows.proofs.Values.{is, so, equals, differs}
+use Rattle.meaning_rows.proofs.Values.{is, so, equals, differs, in_second, one_or_none}
 
 union_bool : (a b : Bool) → ((a || (b || false)) || (b || false)) ≡ (a || (b || false))
 union_bool true b = refl
@@ -15,6 +15,11 @@ meet_bool true true = refl
 meet_bool true false = refl
 meet_bool false true = refl
 meet_bool false false = refl
+
+-- 2 ∈ {1, 2}
+pub extension : IsTrueEverywhere (member (n 2) (both (n 1) (n 2)))
+extension el U names =
+    so U names op.Member (n 2) (both (n 1) (n 2)) (in_second (U.same integer_sort (pos 2) (pos 1)) (U.same integer_sort (pos 2) (pos 2)) (equals U integer_sort (pos 2)))
 
 -- {1, 2} ∪ {2} = {1, 2}
 pub union : IsTrueEverywhere (equal (two op.Union set (both (n 1) (n 2)) (just (n 2))) (both (n 1) (n 2)))
@@ -42,12 +47,8 @@ apply el U names =
     test : ℤ → Bool
     test w = U.same pairs (pos 1, w) (pos 1, pos 2) || false
 
-    or_none : (a : Bool) → (a || false) ≡ true → a ≡ true
-    or_none true h = refl
-    or_none false h = h
-
     passes : test (U.choose integer_sort test) ≡ true
     passes = U.chooses integer_sort test (pos 2) (ap (λ b. b || false) (equals U pairs (pos 1, pos 2)))
 
     is_two : U.choose integer_sort test ≡ pos 2
-    is_two = ap (λ p. p.1) ((U.same_exact pairs (pos 1, U.choose integer_sort test) (pos 1, pos 2)).0 (or_none _ passes))
+    is_two = ap (λ p. p.1) ((U.same_exact pairs (pos 1, U.choose integer_sort test) (pos 1, pos 2)).0 (one_or_none _ passes))

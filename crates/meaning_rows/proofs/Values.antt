@@ -1,5 +1,5 @@
 -- The value of a short formula, which computes.
-use Rattle.std.proofs.Common.{◌≡◌, ◌∙◌, sym, ap, refl, ℕ, Bool, true, false, List, [], ◌∷◌, map, slice_get}
+use Rattle.std.proofs.Common.{◌≡◌, ◌∙◌, sym, ap, refl, ℕ, Bool, true, false, ◌||◌, List, [], ◌∷◌, map, slice_get}
 use Rattle.formula_core.specs.declared.Op.{Op}
 use Rattle.formula_core.specs.declared.Op.TheVariants as op
 use Rattle.formula_core.specs.declared.Ty.TheVariants as ty
@@ -17,6 +17,19 @@ use Rattle.meaning_rows.proofs.Short.{Short, plain, claim_of, claim, quantified,
 pub sort_types : (own : List Sort) → map sort (map type own) ≡ own
 sort_types [] = refl
 sort_types (s ∷ own) = λ i. sort_type s i ∷ sort_types own i
+
+-- one of two tests, and one alone
+pub or_left : (a b : Bool) → a ≡ true → (a || b) ≡ true
+or_left a b h = λ i. h i || b
+
+pub in_second : (a b : Bool) → b ≡ true → (a || (b || false)) ≡ true
+in_second true b h = refl
+in_second false true h = refl
+in_second false false h = h
+
+pub one_or_none : (a : Bool) → (a || false) ≡ true → a ≡ true
+one_or_none true h = refl
+one_or_none false h = h
 
 module _ {carrier : List ℕ → Type 0} (U : Universe carrier) where
   abbrev pub value : Short → Assignment U → Denotation carrier
