@@ -1,0 +1,12 @@
+pub mod Cutting
+pub mod Digits
+pub mod Fitting
+pub mod Insertion
+pub mod Orders
+pub mod ReadParts
+pub mod ReadTyped
+pub mod Total
+pub mod TypeSteps
+pub mod TypedParts
+pub mod ValueInduction
+pub mod Written

@@ -1,0 +1,5 @@
+pub mod FormRules
+pub mod Meaning
+pub mod Named
+pub mod Numbers
+pub mod Once

@@ -1,0 +1,9 @@
+pub mod Collected
+pub mod Counted
+pub mod Ends
+pub mod Functions
+pub mod Keeping
+pub mod Once
+pub mod Operators
+pub mod Products
+pub mod Rows
