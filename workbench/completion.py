@@ -6,7 +6,7 @@ import glob
 from . import formulas, replies, rule_words, rules, shell_words
 from .shell import Shell
 
-FILES, NAMED, PATHS = ('load', 'bring', 'replay', 'proofs'), ('po', 'show', 'tree', 'ls', 'open', 'step'), ('leaf', 'prune')
+FILES, NAMED, PATHS = ('load', 'bring', 'replay', 'proofs'), ('po', 'show', 'tree', 'follows', 'ls', 'open', 'step'), ('leaf', 'prune')
 
 
 class Completer:

@@ -44,7 +44,8 @@ WORDS = {
 
 RAW = {'status': 'the status of each obligation', 'build': 'build the texts as they are',
        'show': 'PO [PATH]: a sequent', 'step': 'PO PATH RULE ITEMS: a rule at a leaf',
-       'delete': 'NAME: drop a component from the session', 'purge': 'remove the proofs of obligations that are gone', 'digest': 'the digest of what lasts'}
+       'delete': 'NAME: drop a component from the session', 'purge': 'remove the proofs of obligations that are gone', 'digest': 'the digest of what lasts',
+       'follows': 'PO: whether its proof goes by logic and integers alone'}
 """Commands of the session (docs/SESSION.md) that are no words of the prompt; they are sent as they are."""
 
 

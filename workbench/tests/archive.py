@@ -51,7 +51,7 @@ def files() -> dict[str, str]:
     """The files of the project by name."""
     shelves = (f'{HEAD}<{CORE}contextFile {CORE}configuration="{CORE}fwd" version="3" {CORE}comment="Books of a library.">'
                + ''.join(named('carrierSet', 'BOOK', 'MEMBER')) + element('constant', identifier='μ', comment='how many books there is room for')
-               + element('axiom', label='axm 1', predicate='μ ∈ ℕ1') + element('axiom', label='room', predicate='∃n·n ∈ ℕ ∧ n < μ', theorem='true')
+               + element('axiom', label='axm 1', predicate='μ ∈ ℕ1') + element('axiom', label='room', predicate='∃n·n ∈ ℕ ∧ n ∗ n < μ', theorem='true')
                + f'</{CORE}contextFile>')
     library0 = machine(
         element('seesContext', target='shelves'), *named('variable', 'members', 'books', 'lent'),

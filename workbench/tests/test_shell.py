@@ -293,8 +293,11 @@ class Doors(Asked):
             until('⊢ ∃x1⦂ℤ·0 < x1 ∧ x1 ∗ x1 < up')
             until('THM -> ')
             os.write(leader, b'nonsense')
-            until('nonsense')  # a Ctrl-C that comes while readline takes a key waits for the next key
-            os.write(leader, b'\x03')
+            until('nonsense')
+            while 'THM -> ' not in said:  # a Ctrl-C that comes while readline takes a key waits for the next key, so it's pressed again
+                os.write(leader, b'\x03')
+                while select.select([leader], [], [], 1)[0]:
+                    said += os.read(leader, 65536).decode('utf-8', 'replace')
             until('THM -> ')
             os.write(leader, b'// ' + b'x' * 5000 + b'\n')
             until('THM -> ')
