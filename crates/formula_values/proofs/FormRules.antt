@@ -8,7 +8,7 @@ use Rattle.event_values.specs.declared.value.Value.{Value}
 use Rattle.event_values.specs.declared.value.Value.TheVariants as value
 use Rattle.value_sets.specs.declared.fault.ValueFault.{ValueFault}
 use Rattle.value_sets.specs.declared.fault.ValueFault.TheVariants.{NotComputed, Undefined}
-use Rattle.value_sets.specs.Sets.{members_of, number_of, InInterval, Within, IsLeast, IsGreatest, IsCollected, IsTold}
+use Rattle.value_sets.specs.Sets.{set_members, integer_of, InInterval, Within, IsLeast, IsGreatest, IsCollected, IsTold}
 use Rattle.value_sets.proofs.Keeping.{no_true, contains_none}
 use Rattle.formula_values.specs.declared.forms.Unary.{Unary}
 use Rattle.formula_values.specs.declared.forms.Binary.{Binary}
@@ -23,14 +23,14 @@ end_of : (holds : ℤ → Type 0) (vs : List Value) (x : Value) (n : ℤ) → Co
 end_of holds [] x n c h = absurd (contains_none x c)
 end_of holds (v ∷ vs) x n c h = (n, refl, h)
 
-pub least_end : (s : Value) (n : ℤ) → IsLeast s n → IsEnd (IsLeast s) (members_of s) (Ok (value.Int n))
-least_end s n h = end_of (IsLeast s) (members_of s) h.0 n h.1 h
+pub least_end : (s : Value) (n : ℤ) → IsLeast s n → IsEnd (IsLeast s) (set_members s) (Ok (value.Int n))
+least_end s n h = end_of (IsLeast s) (set_members s) h.0 n h.1 h
 
-pub greatest_end : (s : Value) (n : ℤ) → IsGreatest s n → IsEnd (IsGreatest s) (members_of s) (Ok (value.Int n))
-greatest_end s n h = end_of (IsGreatest s) (members_of s) h.0 n h.1 h
+pub greatest_end : (s : Value) (n : ℤ) → IsGreatest s n → IsEnd (IsGreatest s) (set_members s) (Ok (value.Int n))
+greatest_end s n h = end_of (IsGreatest s) (set_members s) h.0 n h.1 h
 
-pub greatest_of_some : (s : Value) (n k : ℤ) → k ≡ n → IsGreatest s n → IsEnd (IsGreatest s) (members_of s) (Ok (value.Int k))
-greatest_of_some s n k e h = subst (λ m. IsEnd (IsGreatest s) (members_of s) (Ok (value.Int m))) (sym e) (greatest_end s n h)
+pub greatest_of_some : (s : Value) (n k : ℤ) → k ≡ n → IsGreatest s n → IsEnd (IsGreatest s) (set_members s) (Ok (value.Int k))
+greatest_of_some s n k e h = subst (λ m. IsEnd (IsGreatest s) (set_members s) (Ok (value.Int m))) (sym e) (greatest_end s n h)
 
 pub no_end : (holds : ℤ → Type 0) (vs : List Value) → vs ≡ [] → IsEnd holds vs (Err Undefined)
 no_end holds vs e = subst (λ us. IsEnd holds us (Err Undefined)) (sym e) refl
@@ -73,11 +73,11 @@ pub ruleset propers = (proper, improper)
 
 -- AN INTERVAL
 
-pub between : (form : Binary) (v w : Value) (m n : ℤ) (r : Result Value ValueFault) → form ≡ binary.Interval → m ≡ number_of v → n ≡ number_of w
+pub between : (form : Binary) (v w : Value) (m n : ℤ) (r : Result Value ValueFault) → form ≡ binary.Interval → m ≡ integer_of v → n ≡ integer_of w
     → IsTold (IsCollected (InInterval m n)) r → IsTold (GivesBinary form v w) r
-between form v w m n r is e f told =
+between form v w m n r is e f answered =
     subst (λ x. IsTold (GivesBinary x v w) r) (sym is)
-    (subst (λ z. IsTold (IsCollected (InInterval z (number_of w))) r) e (subst (λ z. IsTold (IsCollected (InInterval m z)) r) f told))
+    (subst (λ z. IsTold (IsCollected (InInterval z (integer_of w))) r) e (subst (λ z. IsTold (IsCollected (InInterval m z)) r) f answered))
 
 -- BY HOW MANY OPERANDS THERE ARE
 

@@ -20,7 +20,7 @@ use Rattle.event_values.specs.declared.value.Value.TheVariants as value
 use Rattle.value_sets.specs.declared.fault.ValueFault.TheVariants.{NotComputed, OutOfMemory}
 use Rattle.formula_values.specs.Means.{Means, MeansStep, NodeMeans, IsConnected, IsMember, IsNamed, is_carrier, TwoMean, IsNotComputed, least_at, AllMean, ByOperands, Gives, GivesMany, after_first, truth_of, decided}
 use Rattle.formula_values.specs.Private.{after_all, Leads, is_connective, is_member, second_least, BindMeans, IsFrom}
-use Rattle.value_sets.specs.Sets.{number_of, IsTold}
+use Rattle.value_sets.specs.Sets.{integer_of, IsTold}
 
 pub ok_is_no_err : {A : Type 0} {v : A} {fault : ValueFault} → Ok v ≡ Err fault → ⊥
 ok_is_no_err {A} {v} {fault} e = subst is_ok e tt
@@ -241,7 +241,7 @@ module _ (means : Formula → Result Value ValueFault → Type 0) where
   two_plain _ p q answer c n m = m
 
   pub node_whole : (o : Op) (p q : Formula) (least : Option ℤ) (v : Value) (b : Bool) → is_member o ≡ true → second_least (p ∷ q ∷ []) ≡ Some least
-      → IsTold (means p) (Ok v) → (IsTrue b ↔ IsFrom least (number_of v)) → IsTold (NodeMeans (λ f. f) means o (p ∷ q ∷ [])) (Ok (value.Truth b))
+      → IsTold (means p) (Ok v) → (IsTrue b ↔ IsFrom least (integer_of v)) → IsTold (NodeMeans (λ f. f) means o (p ∷ q ∷ [])) (Ok (value.Truth b))
   node_whole op.Member p q least v b e s (inl x) r = absurd (ok_is_no_err x)
   node_whole op.Member p q None v b e s (inr m) r =
       inr (subst (λ x. IsMember (λ f. f) means x p q (Ok (value.Truth b))) (sym s) (inr (v, m, (b, refl, r))))

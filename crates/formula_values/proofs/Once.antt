@@ -17,7 +17,7 @@ use Rattle.event_values.specs.Order.{value_nodes}
 use Rattle.event_values.specs.Reading.{most_nodes}
 use Rattle.value_sets.specs.declared.fault.ValueFault.{ValueFault}
 use Rattle.value_sets.specs.declared.fault.ValueFault.TheVariants.{NotComputed, NoValue, Undefined, TooWide}
-use Rattle.value_sets.specs.Sets.{number_of, members_of, In, InDomain, InRange, InConverse, InUnion, InIntersection, InDifference, InProduct, InDomainRestriction, InDomainSubtraction, InRangeRestriction, InRangeSubtraction, InOverriding, InComposition, InImage, InInterval, Within, InCarrier, IsMade, IsCollected, IsApplied, IsLeast, IsGreatest}
+use Rattle.value_sets.specs.Sets.{integer_of, set_members, In, InDomain, InRange, InConverse, InUnion, InIntersection, InDifference, InProduct, InDomainRestriction, InDomainSubtraction, InRangeRestriction, InRangeSubtraction, InOverriding, InComposition, InImage, InInterval, Within, InCarrier, IsMade, IsCollected, IsApplied, IsLeast, IsGreatest}
 use Rattle.value_sets.proofs.Keeping.{no_true}
 use Rattle.value_sets.proofs.Once.{collected_once}
 use Rattle.formula_values.specs.declared.forms.Unary.{Unary}
@@ -100,10 +100,10 @@ unary_once : (form : Unary) (v : Value) → Once (GivesUnary form v)
 unary_once unary.Not v = exact (Ok (value.Truth (not (truth_of v))))
 unary_once unary.Finite v = exact (Ok (value.Truth true))
 unary_once unary.BoolOf v = exact (Ok (value.Truth (truth_of v)))
-unary_once unary.Negate v = computed_once op.Minus (pos 0) (number_of v)
-unary_once unary.Cardinality v = exact (Ok (value.Int (pos (length (members_of v)))))
-unary_once unary.Minimum v = end_once (IsLeast v) (least_once v) (members_of v)
-unary_once unary.Maximum v = end_once (IsGreatest v) (greatest_once v) (members_of v)
+unary_once unary.Negate v = computed_once op.Minus (pos 0) (integer_of v)
+unary_once unary.Cardinality v = exact (Ok (value.Int (pos (length (set_members v)))))
+unary_once unary.Minimum v = end_once (IsLeast v) (least_once v) (set_members v)
+unary_once unary.Maximum v = end_once (IsGreatest v) (greatest_once v) (set_members v)
 unary_once unary.Converse v = collected_once (InConverse v)
 unary_once unary.Domain v = collected_once (InDomain v)
 unary_once unary.Range v = collected_once (InRange v)
@@ -114,8 +114,8 @@ binary_once binary.Equal v w = says_once (v ≡ w)
 binary_once binary.Member v w = says_once (In v w)
 binary_once binary.ProperSubset v w = says_once (Within v w × (Within w v → ⊥))
 binary_once binary.Subset v w = says_once (Within v w)
-binary_once binary.Less v w = says_once (number_of v <ℤ number_of w)
-binary_once binary.LessOrEqual v w = says_once (number_of v ≤ℤ number_of w)
+binary_once binary.Less v w = says_once (integer_of v <ℤ integer_of w)
+binary_once binary.LessOrEqual v w = says_once (integer_of v ≤ℤ integer_of w)
 binary_once binary.Maplet v w = made_once (value.Pair v w)
 binary_once binary.Union v w = collected_once (InUnion v w)
 binary_once binary.Intersection v w = collected_once (InIntersection v w)
@@ -127,13 +127,13 @@ binary_once binary.RangeRestriction v w = collected_once (InRangeRestriction v w
 binary_once binary.RangeSubtraction v w = collected_once (InRangeSubtraction v w)
 binary_once binary.Overriding v w = collected_once (InOverriding v w)
 binary_once binary.Composition v w = collected_once (InComposition v w)
-binary_once binary.Interval v w = collected_once (InInterval (number_of v) (number_of w))
-binary_once binary.Plus v w = computed_once op.Plus (number_of v) (number_of w)
-binary_once binary.Minus v w = computed_once op.Minus (number_of v) (number_of w)
-binary_once binary.Times v w = computed_once op.Times (number_of v) (number_of w)
-binary_once binary.Divide v w = computed_once op.Divide (number_of v) (number_of w)
-binary_once binary.Modulo v w = computed_once op.Modulo (number_of v) (number_of w)
-binary_once binary.Power v w = computed_once op.Power (number_of v) (number_of w)
+binary_once binary.Interval v w = collected_once (InInterval (integer_of v) (integer_of w))
+binary_once binary.Plus v w = computed_once op.Plus (integer_of v) (integer_of w)
+binary_once binary.Minus v w = computed_once op.Minus (integer_of v) (integer_of w)
+binary_once binary.Times v w = computed_once op.Times (integer_of v) (integer_of w)
+binary_once binary.Divide v w = computed_once op.Divide (integer_of v) (integer_of w)
+binary_once binary.Modulo v w = computed_once op.Modulo (integer_of v) (integer_of w)
+binary_once binary.Power v w = computed_once op.Power (integer_of v) (integer_of w)
 binary_once binary.Apply v w = applied_once v w
 binary_once binary.Image v w = collected_once (InImage v w)
 

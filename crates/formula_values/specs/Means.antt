@@ -15,7 +15,7 @@ use Rattle.event_values.specs.declared.value.Value.TheOpen as open_value
 use Rattle.event_values.specs.declared.value.Value.TheVariants as value
 use Rattle.value_sets.specs.declared.fault.ValueFault.{ValueFault}
 use Rattle.value_sets.specs.declared.fault.ValueFault.TheVariants.{NotComputed, NoValue, Undefined, TooWide}
-use Rattle.value_sets.specs.Sets.{members_of, number_of, In, InDomain, InRange, InConverse, InUnion, InIntersection, InDifference, InProduct, InDomainRestriction, InDomainSubtraction, InRangeRestriction, InRangeSubtraction, InOverriding, InComposition, InImage, InInterval, InCarrier, Within, IsMade, IsCollected, IsApplied, IsLeast, IsGreatest}
+use Rattle.value_sets.specs.Sets.{set_members, integer_of, In, InDomain, InRange, InConverse, InUnion, InIntersection, InDifference, InProduct, InDomainRestriction, InDomainSubtraction, InRangeRestriction, InRangeSubtraction, InOverriding, InComposition, InImage, InInterval, InCarrier, Within, IsMade, IsCollected, IsApplied, IsLeast, IsGreatest}
 use Rattle.formula_values.specs.declared.forms.Unary.{Unary}
 use Rattle.formula_values.specs.declared.forms.Unary.TheVariants as unary
 use Rattle.formula_values.specs.declared.forms.Binary.{Binary}
@@ -108,10 +108,10 @@ abbrev pub GivesUnary : Unary → Value → Result Value ValueFault → Type 0
 GivesUnary unary.Not v answer = answer ≡ Ok (value.Truth (not (truth_of v)))
 GivesUnary unary.Finite v answer = answer ≡ Ok (value.Truth true)
 GivesUnary unary.BoolOf v answer = answer ≡ Ok (value.Truth (truth_of v))
-GivesUnary unary.Negate v answer = IsComputed op.Minus (pos 0) (number_of v) answer
-GivesUnary unary.Cardinality v answer = answer ≡ Ok (value.Int (pos (length (members_of v))))
-GivesUnary unary.Minimum v answer = IsEnd (IsLeast v) (members_of v) answer
-GivesUnary unary.Maximum v answer = IsEnd (IsGreatest v) (members_of v) answer
+GivesUnary unary.Negate v answer = IsComputed op.Minus (pos 0) (integer_of v) answer
+GivesUnary unary.Cardinality v answer = answer ≡ Ok (value.Int (pos (length (set_members v))))
+GivesUnary unary.Minimum v answer = IsEnd (IsLeast v) (set_members v) answer
+GivesUnary unary.Maximum v answer = IsEnd (IsGreatest v) (set_members v) answer
 GivesUnary unary.Converse v answer = IsCollected (InConverse v) answer
 GivesUnary unary.Domain v answer = IsCollected (InDomain v) answer
 GivesUnary unary.Range v answer = IsCollected (InRange v) answer
@@ -122,8 +122,8 @@ GivesBinary binary.Equal v w answer = Says (v ≡ w) answer
 GivesBinary binary.Member v w answer = Says (In v w) answer
 GivesBinary binary.ProperSubset v w answer = Says (Within v w × (Within w v → ⊥)) answer
 GivesBinary binary.Subset v w answer = Says (Within v w) answer
-GivesBinary binary.Less v w answer = Says (number_of v <ℤ number_of w) answer
-GivesBinary binary.LessOrEqual v w answer = Says (number_of v ≤ℤ number_of w) answer
+GivesBinary binary.Less v w answer = Says (integer_of v <ℤ integer_of w) answer
+GivesBinary binary.LessOrEqual v w answer = Says (integer_of v ≤ℤ integer_of w) answer
 GivesBinary binary.Maplet v w answer = IsMade (value.Pair v w) answer
 GivesBinary binary.Union v w answer = IsCollected (InUnion v w) answer
 GivesBinary binary.Intersection v w answer = IsCollected (InIntersection v w) answer
@@ -135,13 +135,13 @@ GivesBinary binary.RangeRestriction v w answer = IsCollected (InRangeRestriction
 GivesBinary binary.RangeSubtraction v w answer = IsCollected (InRangeSubtraction v w) answer
 GivesBinary binary.Overriding v w answer = IsCollected (InOverriding v w) answer
 GivesBinary binary.Composition v w answer = IsCollected (InComposition v w) answer
-GivesBinary binary.Interval v w answer = IsCollected (InInterval (number_of v) (number_of w)) answer
-GivesBinary binary.Plus v w answer = IsComputed op.Plus (number_of v) (number_of w) answer
-GivesBinary binary.Minus v w answer = IsComputed op.Minus (number_of v) (number_of w) answer
-GivesBinary binary.Times v w answer = IsComputed op.Times (number_of v) (number_of w) answer
-GivesBinary binary.Divide v w answer = IsComputed op.Divide (number_of v) (number_of w) answer
-GivesBinary binary.Modulo v w answer = IsComputed op.Modulo (number_of v) (number_of w) answer
-GivesBinary binary.Power v w answer = IsComputed op.Power (number_of v) (number_of w) answer
+GivesBinary binary.Interval v w answer = IsCollected (InInterval (integer_of v) (integer_of w)) answer
+GivesBinary binary.Plus v w answer = IsComputed op.Plus (integer_of v) (integer_of w) answer
+GivesBinary binary.Minus v w answer = IsComputed op.Minus (integer_of v) (integer_of w) answer
+GivesBinary binary.Times v w answer = IsComputed op.Times (integer_of v) (integer_of w) answer
+GivesBinary binary.Divide v w answer = IsComputed op.Divide (integer_of v) (integer_of w) answer
+GivesBinary binary.Modulo v w answer = IsComputed op.Modulo (integer_of v) (integer_of w) answer
+GivesBinary binary.Power v w answer = IsComputed op.Power (integer_of v) (integer_of w) answer
 GivesBinary binary.Apply v w answer = IsApplied v w answer
 GivesBinary binary.Image v w answer = IsCollected (InImage v w) answer
 
@@ -208,7 +208,7 @@ least_at other = None
 
 abbrev pub AtLeast : Option ℤ → Value → Type 0
 AtLeast None v = ⊤
-AtLeast (Some least) v = least ≤ℤ number_of v
+AtLeast (Some least) v = least ≤ℤ integer_of v
 
 module _ {X : Type 0} (whole : X → Formula) (means : X → Result Value ValueFault → Type 0) where
   -- from left to right, up to the first fault

@@ -14,9 +14,9 @@ abbrev pub held : Operand → Value
 held (operand.Known v) = v.now
 held (operand.Made v) = v
 
-abbrev pub told : Result Operand ValueFault → Result Value ValueFault
-told (Ok v) = Ok (held v)
-told (Err fault) = Err fault
+abbrev pub answered : Result Operand ValueFault → Result Value ValueFault
+answered (Ok v) = Ok (held v)
+answered (Err fault) = Err fault
 
 -- what a call answers that adds values to a list
 abbrev pub listed : {A : Type 0} → Result A ValueFault → List Value → Result (List Value) ValueFault

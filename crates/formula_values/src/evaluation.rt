@@ -3,7 +3,7 @@ ghost use Rattle.std.specs.Prelude.{◌≡◌, ◌↔◌, [], IsTrue, map};
 ghost use Rattle.formula_core.specs.declared.formula.Formula.{out-Formula};
 ghost use Rattle.value_sets.specs.Sets.{IsTold};
 ghost use Rattle.formula_values.specs.Means.{Means, NodeMeans, AllMean, ByOperands, decided, least_at};
-ghost use Rattle.formula_values.specs.Private.{BindMeans, IsFrom, listed, held, told, is_connective, is_member, second_least};
+ghost use Rattle.formula_values.specs.Private.{BindMeans, IsFrom, listed, held, answered, is_connective, is_member, second_least};
 
 use crate::giving::gives;
 use crate::names::named;
@@ -29,7 +29,7 @@ fn operand_of<'a>(
     formula: &Formula,
     values: &'a Values,
 ) -> Result<Operand<'a>, ValueFault>
-    ensures { IsTold (Means values.now formula.now) (told result) }
+    ensures { IsTold (Means values.now formula.now) (answered result) }
 {
     match formula {
         Formula::Int(n) => Ok(Operand::Made(Value::Int(*n))),
@@ -104,7 +104,7 @@ fn not_computed<'a>(
     parts: &[Formula],
     values: &'a Values,
 ) -> Result<Operand<'a>, ValueFault>
-    ensures { IsTold (BindMeans (Means values.now) parts.now) (told result) }
+    ensures { IsTold (BindMeans (Means values.now) parts.now) (answered result) }
 {
     let mut operands = Vec::new(alloc);
     evaluate_all(alloc, parts, values, &mut operands)?;

@@ -1,7 +1,7 @@
 //! Forms over the values of their operands.
 ghost use Rattle.std.specs.Prelude.{◌≡◌, ◌↔◌, ◌<ℤ◌, ◌≤ℤ◌, IsTrue, IfOk, length, map, pos, []};
 ghost use Rattle.event_values.specs.declared.value.Value.TheVariants as value;
-ghost use Rattle.value_sets.specs.Sets.{members_of, number_of, IsMade, IsTold, Within, IsLeast, IsGreatest};
+ghost use Rattle.value_sets.specs.Sets.{set_members, integer_of, IsMade, IsTold, Within, IsLeast, IsGreatest};
 ghost use Rattle.formula_values.specs.Means.{truth_of, constant_of, GivesUnary, GivesBinary, GivesSome, GivesMany, IsEnd};
 ghost use Rattle.formula_values.specs.Private.{is_extension, held};
 
@@ -29,7 +29,7 @@ pub(crate) fn truth(v: &Value) -> bool
 }
 
 fn cardinality(set: &Value) -> Value
-    ensures { result ≡ value.Int (pos (length (members_of set.now))) }
+    ensures { result ≡ value.Int (pos (length (set_members set.now))) }
 {
     Value::Int(members(set).len() as i128)
 }
@@ -37,7 +37,7 @@ fn cardinality(set: &Value) -> Value
 /// The least number of a set, undefined of the empty one.
 #[tactic(auto, using(crate::proofs::FormRules::least_ends))]
 fn minimum(set: &Value) -> Result<Value, ValueFault>
-    ensures { IsEnd (IsLeast set.now) (members_of set.now) result }
+    ensures { IsEnd (IsLeast set.now) (set_members set.now) result }
 {
     match least(set) {
         Some(n) => Ok(Value::Int(n)),
@@ -48,7 +48,7 @@ fn minimum(set: &Value) -> Result<Value, ValueFault>
 /// The greatest number of a set, undefined of the empty one.
 #[tactic(auto, using(crate::proofs::FormRules::greatest_ends))]
 fn maximum(set: &Value) -> Result<Value, ValueFault>
-    ensures { IsEnd (IsGreatest set.now) (members_of set.now) result }
+    ensures { IsEnd (IsGreatest set.now) (set_members set.now) result }
 {
     match greatest(set) {
         Some(n) => Ok(Value::Int(n)),
@@ -65,13 +65,13 @@ fn are_equivalent(v: &Value, w: &Value) -> bool
 }
 
 fn is_less(v: &Value, w: &Value) -> bool
-    ensures { IsTrue result ↔ (number_of v.now <ℤ number_of w.now) }
+    ensures { IsTrue result ↔ (integer_of v.now <ℤ integer_of w.now) }
 {
     number(v) < number(w)
 }
 
 fn is_at_most(v: &Value, w: &Value) -> bool
-    ensures { IsTrue result ↔ (number_of v.now ≤ℤ number_of w.now) }
+    ensures { IsTrue result ↔ (integer_of v.now ≤ℤ integer_of w.now) }
 {
     number(v) <= number(w)
 }

@@ -5,7 +5,7 @@ ghost use Rattle.std.specs.Option.{option_copied};
 ghost use Rattle.formula_core.specs.declared.ty.Ty.{out-Ty};
 ghost use Rattle.value_sets.specs.Sets.{IsTold};
 ghost use Rattle.formula_values.specs.Means.{given_at, is_carrier, HasSize, IsKnown, IsNamed};
-ghost use Rattle.formula_values.specs.Private.{told};
+ghost use Rattle.formula_values.specs.Private.{answered};
 
 use crate::operand::{Operand, known, made};
 use crate::values::Values;
@@ -77,7 +77,7 @@ fn looked_up<'a>(
     name: &Name,
     entries: &'a [(Name, Value)],
 ) -> Result<Operand<'a>, ValueFault>
-    ensures { IsTold (IsKnown entries.now name.now) (told result) }
+    ensures { IsTold (IsKnown entries.now name.now) (answered result) }
 {
     match value_of(entries, name) {
         Some(v) => known(v),
@@ -93,7 +93,7 @@ pub(crate) fn named<'a>(
     ty: &Ty,
     values: &'a Values,
 ) -> Result<Operand<'a>, ValueFault>
-    ensures { IsTold (IsNamed values.now name.now (is_carrier name.now ty.now)) (told result) }
+    ensures { IsTold (IsNamed values.now name.now (is_carrier name.now ty.now)) (answered result) }
 {
     if is_carrier(name, ty) {
         made(sized(alloc, name, values.sizes.items()))

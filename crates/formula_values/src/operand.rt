@@ -1,8 +1,8 @@
 //! The value of an operand, which is one that is known or a new one.
 ghost use Rattle.std.specs.Prelude.{◌≡◌, ◌++◌, ◌∷◌, [], IfOk, OnOk, map};
-ghost use Rattle.value_sets.specs.Sets.{IsMade, IsTold, number_of};
+ghost use Rattle.value_sets.specs.Sets.{IsMade, IsTold, integer_of};
 ghost use Rattle.formula_values.specs.Means.{truth_of};
-ghost use Rattle.formula_values.specs.Private.{held, told};
+ghost use Rattle.formula_values.specs.Private.{held, answered};
 
 use event_values::Value;
 use formula_core::OutOfMemory;
@@ -46,7 +46,7 @@ impl<'a> Operand<'a> {
 
 /// A new value as an operand.
 pub(crate) fn made<'a>(answer: Result<Value, ValueFault>) -> Result<Operand<'a>, ValueFault>
-    ensures { told result ≡ answer }
+    ensures { answered result ≡ answer }
 {
     match answer {
         Ok(v) => Ok(Operand::Made(v)),
@@ -59,7 +59,7 @@ pub(crate) fn owned(
     alloc: Global,
     answer: Result<Operand<'_>, ValueFault>,
 ) -> Result<Value, ValueFault>
-    ensures { IsTold (λ r. r ≡ told answer.entry) result }
+    ensures { IsTold (λ r. r ≡ answered answer.entry) result }
 {
     match answer {
         Ok(operand) => Ok(operand.into_value(alloc)?),
@@ -79,14 +79,14 @@ pub(crate) fn truth(operand: &Operand<'_>) -> bool
 
 /// The number that an operand is.
 pub(crate) fn number(operand: &Operand<'_>) -> i128
-    ensures { result ≡ number_of (held operand.now) }
+    ensures { result ≡ integer_of (held operand.now) }
 {
     value_sets::number(operand.get())
 }
 
 /// A value that is known, where it isn't too large.
 pub(crate) fn known(v: &Value) -> Result<Operand<'_>, ValueFault>
-    ensures { IsMade v.now (told result) }
+    ensures { IsMade v.now (answered result) }
 {
     if v.nodes() <= 65_536 {
         Ok(Operand::Known(v))

@@ -39,5 +39,5 @@ told_alike P Q same r (inr c) = inr (collected_alike P Q same r c)
 -- the set of a list that is this one
 pub told_list : (found list : List Value) (P : Value → Type 0) → ((x : Value) → Contains list x ↔ P x) → found ≡ list → (r : Result Value ValueFault)
     → IsTold (IsCollected (Contains found)) r → IsTold (IsCollected P) r
-told_list found list P same e r told =
-    told_alike (Contains found) P (λ x. ((λ c. (same x).0 (subst (λ vs. Contains vs x) e c)), (λ p. subst (λ vs. Contains vs x) (sym e) ((same x).1 p)))) r told
+told_list found list P same e r answered =
+    told_alike (Contains found) P (λ x. ((λ c. (same x).0 (subst (λ vs. Contains vs x) e c)), (λ p. subst (λ vs. Contains vs x) (sym e) ((same x).1 p)))) r answered

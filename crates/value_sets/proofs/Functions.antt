@@ -15,8 +15,8 @@ use Rattle.event_values.specs.Order.{value_cmp, value_cmp_step, ascends_behind, 
 use Rattle.event_values.proofs.Orders.{parts_of, cmp_at, equal_is_same, order_turned, ascending_ascends, ascending_members}
 use Rattle.event_values.proofs.Total.{order_total}
 use Rattle.value_sets.specs.declared.fault.ValueFault.TheVariants.{Undefined}
-use Rattle.value_sets.specs.Sets.{members_of, In, IsFunctional, IsApplied, IsTold}
-use Rattle.value_sets.specs.Private.{same_left_at, have_same_left, lefts_differ_behind, lefts_differ, value_by, value_at}
+use Rattle.value_sets.specs.Sets.{set_members, In, IsFunctional, IsApplied, IsTold}
+use Rattle.value_sets.specs.Private.{same_left_at, have_same_left, lefts_differ_behind, lefts_differ, value_by, partner_of}
 use Rattle.value_sets.proofs.Keeping.{no_true, contains_none, some_same, the_pair, right_is, contained_first, contained_later, contained_cases}
 use Rattle.value_sets.proofs.Rows.{less_there, tail_ascends, above_first}
 
@@ -155,27 +155,27 @@ functional_told b r us h same e = (
   (λ f. e ∙ functional_each us h (λ a x y c d. f a x y ((same (value.Pair a x)).0 c) ((same (value.Pair a y)).0 d))),
 )
 
-pub functional_same : (b : Bool) (r : Value) (us : List Value) → us ≡ members_of r → ascends us ≡ true → b ≡ lefts_differ us → IsTrue b ↔ IsFunctional r
+pub functional_same : (b : Bool) (r : Value) (us : List Value) → us ≡ set_members r → ascends us ≡ true → b ≡ lefts_differ us → IsTrue b ↔ IsFunctional r
 functional_same b r us from h e =
     functional_told b r us h (λ x. ((λ c. subst (λ vs. Contains vs x) from c), (λ c. subst (λ vs. Contains vs x) (sym from) c))) e
 
-pub functional_ordered : (b : Bool) (r : Value) (us : List Value) → us ≡ ascending (members_of r) → b ≡ lefts_differ us → IsTrue b ↔ IsFunctional r
+pub functional_ordered : (b : Bool) (r : Value) (us : List Value) → us ≡ ascending (set_members r) → b ≡ lefts_differ us → IsTrue b ↔ IsFunctional r
 functional_ordered b r us from e =
-    functional_told b r (ascending (members_of r)) (ascending_ascends (members_of r)) (ascending_members (members_of r)) (e ∙ ap lefts_differ from)
+    functional_told b r (ascending (set_members r)) (ascending_ascends (set_members r)) (ascending_members (set_members r)) (e ∙ ap lefts_differ from)
 
 pub ruleset tests = (functional_same, functional_ordered)
 
 -- THE VALUE AT AN ARGUMENT
 
-found_by : (l r a b : Value) (x : Value) (xs : List Value) (o : Ordering) → value_cmp l a ≡ o → x ≡ value.Pair l r → (if is_eq o then Some r else value_at xs a) ≡ Some b
-    → (value_at xs a ≡ Some b → Contains xs (value.Pair a b)) → Contains (x ∷ xs) (value.Pair a b)
+found_by : (l r a b : Value) (x : Value) (xs : List Value) (o : Ordering) → value_cmp l a ≡ o → x ≡ value.Pair l r → (if is_eq o then Some r else partner_of xs a) ≡ Some b
+    → (partner_of xs a ≡ Some b → Contains xs (value.Pair a b)) → Contains (x ∷ xs) (value.Pair a b)
 found_by l r a b x xs Less e is h more = contained_later x xs (value.Pair a b) (more h)
 found_by l r a b x xs Equal e is h more =
     subst (Contains (x ∷ xs)) (is ∙ (λ i. value.Pair (equal_is_same l a e i) (some_same r b h i))) (contained_first x xs)
 found_by l r a b x xs Greater e is h more = contained_later x xs (value.Pair a b) (more h)
 
-found_first : (x : Value) (xs : List Value) (a b : Value) (y : Value-F Value) → out-Value x ≡ y → value_by a y (value_at xs a) ≡ Some b
-    → (value_at xs a ≡ Some b → Contains xs (value.Pair a b)) → Contains (x ∷ xs) (value.Pair a b)
+found_first : (x : Value) (xs : List Value) (a b : Value) (y : Value-F Value) → out-Value x ≡ y → value_by a y (partner_of xs a) ≡ Some b
+    → (partner_of xs a ≡ Some b → Contains xs (value.Pair a b)) → Contains (x ∷ xs) (value.Pair a b)
 found_first x xs a b (Int n) e h more = contained_later x xs (value.Pair a b) (more h)
 found_first x xs a b (Truth t) e h more = contained_later x xs (value.Pair a b) (more h)
 found_first x xs a b (Elem s k) e h more = contained_later x xs (value.Pair a b) (more h)
@@ -189,14 +189,14 @@ none_some b e = subst is_none e tt
     is_none None = ⊤
     is_none (Some x) = ⊥
 
-found_only : (xs : List Value) (a b : Value) → value_at xs a ≡ Some b → Contains xs (value.Pair a b)
+found_only : (xs : List Value) (a b : Value) → partner_of xs a ≡ Some b → Contains xs (value.Pair a b)
 found_only [] a b h = absurd (none_some b h)
 found_only (x ∷ xs) a b h = found_first x xs a b (out-Value x) refl h (λ g. found_only xs a b g)
 
 -- a pair with the left side is found
-there_first : (x : Value) (xs : List Value) (a b : Value) → x ≡ value.Pair a b → (value_by a (out-Value x) (value_at xs a) ≡ None) → ⊥
+there_first : (x : Value) (xs : List Value) (a b : Value) → x ≡ value.Pair a b → (value_by a (out-Value x) (partner_of xs a) ≡ None) → ⊥
 there_first x xs a b is h =
-    none_some b (sym h ∙ ap (λ y. value_by a y (value_at xs a)) (ap out-Value is ∙ outs-Pair a b) ∙ ap (λ o. if is_eq o then Some b else value_at xs a) (tied_itself order_total a))
+    none_some b (sym h ∙ ap (λ y. value_by a y (partner_of xs a)) (ap out-Value is ∙ outs-Pair a b) ∙ ap (λ o. if is_eq o then Some b else partner_of xs a) (tied_itself order_total a))
 
 there_by : (l r a : Value) (rest : Option Value) (o : Ordering) → (if is_eq o then Some r else rest) ≡ None → rest ≡ None
 there_by l r a rest Less h = h
@@ -210,21 +210,21 @@ there_later a rest (Elem s k) h = h
 there_later a rest (Pair l r) h = there_by l r a rest (value_cmp l a) h
 there_later a rest (Set vs) h = h
 
-found_none : (xs : List Value) (a b : Value) → value_at xs a ≡ None → Contains xs (value.Pair a b) → ⊥
+found_none : (xs : List Value) (a b : Value) → partner_of xs a ≡ None → Contains xs (value.Pair a b) → ⊥
 found_none [] a b h c = contains_none (value.Pair a b) c
-found_none (x ∷ xs) a b h c = go (contained_cases x xs (value.Pair a b) c) (λ d. found_none xs a b (there_later a (value_at xs a) (out-Value x) h) d)
+found_none (x ∷ xs) a b h c = go (contained_cases x xs (value.Pair a b) c) (λ d. found_none xs a b (there_later a (partner_of xs a) (out-Value x) h) d)
   where
     go : (x ≡ value.Pair a b) ⊎ Contains xs (value.Pair a b) → (Contains xs (value.Pair a b) → ⊥) → ⊥
     go (inl is) more = there_first x xs a b is h
     go (inr d) more = more d
 
-pub applied_value : (r a v b : Value) (ps : List Value) (f : Bool) → ps ≡ members_of r → Some v ≡ value_at ps a → (IsTrue f ↔ IsFunctional r) → f ≡ true → b ≡ v
+pub applied_value : (r a v b : Value) (ps : List Value) (f : Bool) → ps ≡ set_members r → Some v ≡ partner_of ps a → (IsTrue f ↔ IsFunctional r) → f ≡ true → b ≡ v
     → IsTold (IsApplied r a) (Ok b)
 applied_value r a v b ps f from is same t e =
-    inr (same.0 t, found_only (members_of r) a b (sym (ap Some e ∙ is ∙ ap (λ vs. value_at vs a) from)))
+    inr (same.0 t, found_only (set_members r) a b (sym (ap Some e ∙ is ∙ ap (λ vs. partner_of vs a) from)))
 
-pub applied_none : (r a : Value) (ps : List Value) → ps ≡ members_of r → None ≡ value_at ps a → IsTold (IsApplied r a) (Err Undefined)
-applied_none r a ps from is = inr (refl, (λ h. found_none (members_of r) a h.0.0 (sym (is ∙ ap (λ vs. value_at vs a) from)) h.0.1))
+pub applied_none : (r a : Value) (ps : List Value) → ps ≡ set_members r → None ≡ partner_of ps a → IsTold (IsApplied r a) (Err Undefined)
+applied_none r a ps from is = inr (refl, (λ h. found_none (set_members r) a h.0.0 (sym (is ∙ ap (λ vs. partner_of vs a) from)) h.0.1))
 
 pub applied_twice : (r a : Value) (f : Bool) → (IsTrue f ↔ IsFunctional r) → f ≡ false → IsTold (IsApplied r a) (Err Undefined)
 applied_twice r a f same e = inr (refl, (λ h. no_true (sym e ∙ same.1 h.1)))

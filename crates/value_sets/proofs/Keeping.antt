@@ -18,8 +18,8 @@ use Rattle.event_values.proofs.Orders.{equal_is_same}
 use Rattle.event_values.proofs.Total.{order_total}
 use Rattle.value_sets.specs.declared.lists.Side.{Side}
 use Rattle.value_sets.specs.declared.lists.Side.TheVariants as side
-use Rattle.value_sets.specs.Sets.{members_of, In, Within}
-use Rattle.value_sets.specs.Private.{part_at, part_of, converse_at, converse_of, among, agrees, is_kept, all_among}
+use Rattle.value_sets.specs.Sets.{set_members, In, Within}
+use Rattle.value_sets.specs.Private.{side_at, part_of, converse_at, converse_of, among, agrees, is_chosen, all_among}
 
 pub no_true : false ≡ true → ⊥
 no_true e = subst is_false e tt
@@ -87,10 +87,10 @@ pub wanted_all : (w : Bool) (ys : List Value) (x : Value) → Wanted w ys x → 
 wanted_all true ys x h = among_all ys x h
 wanted_all false ys x h = among_not ys x (among ys x) refl h
 
-pub in_told : (b : Bool) (vs : List Value) (x s : Value) → vs ≡ members_of s → b ≡ among vs x → IsTrue b ↔ In x s
+pub in_told : (b : Bool) (vs : List Value) (x s : Value) → vs ≡ set_members s → b ≡ among vs x → IsTrue b ↔ In x s
 in_told b vs x s from is =
-    let e : b ≡ among (members_of s) x = is ∙ ap (λ us. among us x) from in
-    ((λ h. among_only (members_of s) x (sym e ∙ h)), (λ c. e ∙ among_all (members_of s) x c))
+    let e : b ≡ among (set_members s) x = is ∙ ap (λ us. among us x) from in
+    ((λ h. among_only (set_members s) x (sym e ∙ h)), (λ c. e ∙ among_all (set_members s) x c))
 
 all_only : (ys xs : List Value) → all_among ys xs ≡ true → (x : Value) → Contains xs x → Contains ys x
 all_only ys [] h x c = absurd (contains_none x c)
@@ -104,10 +104,10 @@ all_each : (ys xs : List Value) → ((x : Value) → Contains xs x → Contains 
 all_each ys [] f = refl
 all_each ys (v ∷ vs) f = both_true (among ys v) (all_among ys vs) (among_all ys v (f v (contained_first v vs))) (all_each ys vs (λ x c. f x (contained_later v vs x c)))
 
-pub within_told : (b : Bool) (ss ts : List Value) (s t : Value) → ss ≡ members_of s → ts ≡ members_of t → b ≡ all_among ts ss → IsTrue b ↔ Within s t
+pub within_told : (b : Bool) (ss ts : List Value) (s t : Value) → ss ≡ set_members s → ts ≡ set_members t → b ≡ all_among ts ss → IsTrue b ↔ Within s t
 within_told b ss ts s t from of is =
-    let e : b ≡ all_among (members_of t) (members_of s) = is ∙ (λ i. all_among (of i) (from i)) in
-    ((λ h. all_only (members_of t) (members_of s) (sym e ∙ h)), (λ f. e ∙ all_each (members_of t) (members_of s) f))
+    let e : b ≡ all_among (set_members t) (set_members s) = is ∙ (λ i. all_among (of i) (from i)) in
+    ((λ h. all_only (set_members t) (set_members s) (sym e ∙ h)), (λ f. e ∙ all_each (set_members t) (set_members s) f))
 
 pub ruleset tests = (in_told, within_told)
 
@@ -193,15 +193,15 @@ pub the_pair : (x a b : Value) → out-Value x ≡ Pair a b → x ≡ value.Pair
 the_pair x a b e = sym (roll-out-Value x) ∙ ap roll-Value e ∙ rolls-Pair a b
 
 pub left_is : (x a b : Value) → x ≡ value.Pair a b → part_of side.Left x ≡ Some a
-left_is x a b e = ap (part_of side.Left) e ∙ ap (part_at side.Left (value.Pair a b)) (outs-Pair a b)
+left_is x a b e = ap (part_of side.Left) e ∙ ap (side_at side.Left (value.Pair a b)) (outs-Pair a b)
 
 pub right_is : (x a b : Value) → x ≡ value.Pair a b → part_of side.Right x ≡ Some b
-right_is x a b e = ap (part_of side.Right) e ∙ ap (part_at side.Right (value.Pair a b)) (outs-Pair a b)
+right_is x a b e = ap (part_of side.Right) e ∙ ap (side_at side.Right (value.Pair a b)) (outs-Pair a b)
 
 pub left_pair : (x a : Value) → part_of side.Left x ≡ Some a → (b : Value) × (x ≡ value.Pair a b)
 left_pair x a h = go (out-Value x) refl h
   where
-    go : (y : Value-F Value) → out-Value x ≡ y → part_at side.Left x y ≡ Some a → (b : Value) × (x ≡ value.Pair a b)
+    go : (y : Value-F Value) → out-Value x ≡ y → side_at side.Left x y ≡ Some a → (b : Value) × (x ≡ value.Pair a b)
     go (Int n) e f = absurd (none_some a f)
     go (Truth b) e f = absurd (none_some a f)
     go (Elem s k) e f = absurd (none_some a f)
@@ -211,7 +211,7 @@ left_pair x a h = go (out-Value x) refl h
 pub right_pair : (x b : Value) → part_of side.Right x ≡ Some b → (a : Value) × (x ≡ value.Pair a b)
 right_pair x b h = go (out-Value x) refl h
   where
-    go : (y : Value-F Value) → out-Value x ≡ y → part_at side.Right x y ≡ Some b → (a : Value) × (x ≡ value.Pair a b)
+    go : (y : Value-F Value) → out-Value x ≡ y → side_at side.Right x y ≡ Some b → (a : Value) × (x ≡ value.Pair a b)
     go (Int n) e f = absurd (none_some b f)
     go (Truth c) e f = absurd (none_some b f)
     go (Elem s k) e f = absurd (none_some b f)
@@ -242,13 +242,13 @@ kept_part : (s : Side) (w : Bool) (others : List Value) (x : Value) (o : Option 
 kept_part s w others x None e h = absurd (no_true h)
 kept_part s w others x (Some p) e h = (p, e, wanted_only w others p h)
 
-part_kept : (s : Side) (w : Bool) (others : List Value) (x : Value) → HasPart s w others x → is_kept s w others x ≡ true
+part_kept : (s : Side) (w : Bool) (others : List Value) (x : Value) → HasPart s w others x → is_chosen s w others x ≡ true
 part_kept s w others x h = ap (λ o. option_map_or (λ p. agrees w (among others p)) o false) h.1 ∙ wanted_all w others h.0 h.2
 
-pub kept_is : (s : Side) (w : Bool) (others xs : List Value) (x : Value) → Contains (filter (is_kept s w others) xs) x ↔ (Contains xs x × HasPart s w others x)
+pub kept_is : (s : Side) (w : Bool) (others xs : List Value) (x : Value) → Contains (filter (is_chosen s w others) xs) x ↔ (Contains xs x × HasPart s w others x)
 kept_is s w others xs x = (
-  (λ c. let k = kept_only (is_kept s w others) xs x c in (k.0, kept_part s w others x (part_of s x) refl k.1)),
-  (λ h. kept_all (is_kept s w others) xs x (part_kept s w others x h.1) h.0),
+  (λ c. let k = kept_only (is_chosen s w others) xs x c in (k.0, kept_part s w others x (part_of s x) refl k.1)),
+  (λ h. kept_all (is_chosen s w others) xs x (part_kept s w others x h.1) h.0),
 )
 
 -- LOOPS

@@ -23,7 +23,7 @@ use Rattle.event_values.proofs.Total.{order_total}
 use Rattle.value_sets.specs.declared.fault.ValueFault.{ValueFault}
 use Rattle.value_sets.specs.declared.fault.ValueFault.TheVariants.{TooLarge}
 use Rattle.value_sets.specs.Sets.{IsMade, IsCollected, IsTold}
-use Rattle.value_sets.specs.Private.{rows, InRows}
+use Rattle.value_sets.specs.Private.{pairs_from, InRows}
 use Rattle.value_sets.proofs.Keeping.{contains_none, contained_first, contained_later, contained_cases}
 use Rattle.value_sets.proofs.Collected.{all_of}
 
@@ -148,34 +148,34 @@ row_ascends a (b ∷ c ∷ cs) h =
 -- ROWS OF PAIRS
 
 module _ (f : Value → List Value) where
-  pub rows_more : (us : List Value) (a : Value) → rows f (us ++ a ∷ []) ≡ rows f us ++ map (value.Pair a) (f a)
+  pub rows_more : (us : List Value) (a : Value) → pairs_from f (us ++ a ∷ []) ≡ pairs_from f us ++ map (value.Pair a) (f a)
   rows_more [] a = append-nil (map (value.Pair a) (f a))
   rows_more (u ∷ us) a =
-      ap (λ xs. map (value.Pair u) (f u) ++ xs) (rows_more us a) ∙ sym (append_assoc (map (value.Pair u) (f u)) (rows f us) (map (value.Pair a) (f a)))
+      ap (λ xs. map (value.Pair u) (f u) ++ xs) (rows_more us a) ∙ sym (append_assoc (map (value.Pair u) (f u)) (pairs_from f us) (map (value.Pair a) (f a)))
 
-  pub rows_only : (us : List Value) (x : Value) → Contains (rows f us) x → InRows f us x
+  pub rows_only : (us : List Value) (x : Value) → Contains (pairs_from f us) x → InRows f us x
   rows_only [] x c = absurd (contains_none x c)
-  rows_only (u ∷ us) x c = go (Contains-append_cases (map (value.Pair u) (f u)) (rows f us) x c) (λ d. rows_only us x d)
+  rows_only (u ∷ us) x c = go (Contains-append_cases (map (value.Pair u) (f u)) (pairs_from f us) x c) (λ d. rows_only us x d)
     where
-      go : Contains (map (value.Pair u) (f u)) x ⊎ Contains (rows f us) x → (Contains (rows f us) x → InRows f us x) → InRows f (u ∷ us) x
+      go : Contains (map (value.Pair u) (f u)) x ⊎ Contains (pairs_from f us) x → (Contains (pairs_from f us) x → InRows f us x) → InRows f (u ∷ us) x
       go (inl d) more = let r = row_only u (f u) x d in (u, r.0, r.1, contained_first u us, r.2)
       go (inr d) more = let m = more d in (m.0, m.1, m.2, contained_later u us m.0 m.3, m.4)
 
-  pub rows_all : (us : List Value) (a b : Value) → Contains us a → Contains (f a) b → Contains (rows f us) (value.Pair a b)
+  pub rows_all : (us : List Value) (a b : Value) → Contains us a → Contains (f a) b → Contains (pairs_from f us) (value.Pair a b)
   rows_all [] a b c d = absurd (contains_none a c)
   rows_all (u ∷ us) a b c d = go (contained_cases u us a c) (λ e. rows_all us a b e d)
     where
-      go : (u ≡ a) ⊎ Contains us a → (Contains us a → Contains (rows f us) (value.Pair a b)) → Contains (rows f (u ∷ us)) (value.Pair a b)
+      go : (u ≡ a) ⊎ Contains us a → (Contains us a → Contains (pairs_from f us) (value.Pair a b)) → Contains (pairs_from f (u ∷ us)) (value.Pair a b)
       go (inl is) more =
-          Contains-append_left (map (value.Pair u) (f u)) (rows f us) (value.Pair a b)
+          Contains-append_left (map (value.Pair u) (f u)) (pairs_from f us) (value.Pair a b)
           (subst (λ z. Contains (map (value.Pair z) (f z)) (value.Pair a b)) (sym is) (row_all a (f a) b d))
-      go (inr e) more = Contains-append_right (map (value.Pair u) (f u)) (rows f us) (value.Pair a b) (more e)
+      go (inr e) more = Contains-append_right (map (value.Pair u) (f u)) (pairs_from f us) (value.Pair a b) (more e)
 
-  pub rows_ascend : ((a : Value) → ascends (f a) ≡ true) → (us : List Value) → ascends us ≡ true → ascends (rows f us) ≡ true
+  pub rows_ascend : ((a : Value) → ascends (f a) ≡ true) → (us : List Value) → ascends us ≡ true → ascends (pairs_from f us) ≡ true
   rows_ascend g [] h = refl
-  rows_ascend g (u ∷ us) h = ascends_both (map (value.Pair u) (f u)) (rows f us) (row_ascends u (f u) (g u)) (rows_ascend g us (tail_ascends u us h)) lower
+  rows_ascend g (u ∷ us) h = ascends_both (map (value.Pair u) (f u)) (pairs_from f us) (row_ascends u (f u) (g u)) (rows_ascend g us (tail_ascends u us h)) lower
     where
-      lower : (x y : Value) → Contains (map (value.Pair u) (f u)) x → Contains (rows f us) y → value_cmp x y ≡ Less
+      lower : (x y : Value) → Contains (map (value.Pair u) (f u)) x → Contains (pairs_from f us) y → value_cmp x y ≡ Less
       lower x y c d =
           let r = row_only u (f u) x c in
           let m = rows_only us y d in
@@ -186,34 +186,34 @@ module _ (f : Value → List Value) where
 
 module _ (P : Value → Type 0) (f : Value → List Value) (us : List Value) (g : (a : Value) → ascends (f a) ≡ true) (h : ascends us ≡ true)
     (same : (x : Value) → InRows f us x ↔ P x) where
-  rows_are : (x : Value) → Contains (rows f us) x ↔ P x
+  rows_are : (x : Value) → Contains (pairs_from f us) x ↔ P x
   rows_are x = (
     (λ c. (same x).0 (rows_only f us x c)),
-    (λ p. let r = (same x).1 p in subst (Contains (rows f us)) (sym r.2) (rows_all f us r.0 r.1 r.3 r.4)),
+    (λ p. let r = (same x).1 p in subst (Contains (pairs_from f us)) (sym r.2) (rows_all f us r.0 r.1 r.3 r.4)),
   )
 
-  rows_made : (r : Result Value ValueFault) → IsMade (value.Set (rows f us)) r → IsCollected P r
-  rows_made (Ok made) m = (rows f us, m.0, rows_ascend f g us h, rows_are, subst (λ v. value_nodes v ≤ most_nodes) (sym m.0) m.1)
-  rows_made (Err fault) m = (m.0, rows f us, rows_ascend f g us h, all_of P (rows f us) (λ x c. (rows_are x).0 c), m.1)
+  rows_made : (r : Result Value ValueFault) → IsMade (value.Set (pairs_from f us)) r → IsCollected P r
+  rows_made (Ok made) m = (pairs_from f us, m.0, rows_ascend f g us h, rows_are, subst (λ v. value_nodes v ≤ most_nodes) (sym m.0) m.1)
+  rows_made (Err fault) m = (m.0, pairs_from f us, rows_ascend f g us h, all_of P (pairs_from f us) (λ x c. (rows_are x).0 c), m.1)
 
   -- the first of them are too many already
-  first_large : (n : ℕ) → most_nodes < length (rows f (take n us)) → IsCollected P (Err TooLarge)
+  first_large : (n : ℕ) → most_nodes < length (pairs_from f (take n us)) → IsCollected P (Err TooLarge)
   first_large n large = (
     refl,
-    rows f (take n us),
+    pairs_from f (take n us),
     rows_ascend f g (take n us) (taken_ascends n us h),
-    all_of P (rows f (take n us)) (λ x c. let r = rows_only f (take n us) x c in (same x).0 (r.0, r.1, r.2, taken_contained n us r.0 r.3, r.4)),
-    long_is_large (rows f (take n us)) large,
+    all_of P (pairs_from f (take n us)) (λ x c. let r = rows_only f (take n us) x c in (same x).0 (r.0, r.1, r.2, taken_contained n us r.0 r.3, r.4)),
+    long_is_large (pairs_from f (take n us)) large,
   )
 
 pub rows_taken : (f : Value → List Value) (us : List Value) (i : ℕ) (a : Value) → i < length us → a ≡ get_or us i a
-    → rows f (take (i + 1) us) ≡ rows f (take i us) ++ map (value.Pair a) (f a)
-rows_taken f us i a below is = ap (rows f) (take_more us i a below ∙ ap (λ x. take i us ++ x ∷ []) (sym is)) ∙ rows_more f (take i us) a
+    → pairs_from f (take (i + 1) us) ≡ pairs_from f (take i us) ++ map (value.Pair a) (f a)
+rows_taken f us i a below is = ap (pairs_from f) (take_more us i a below ∙ ap (λ x. take i us ++ x ∷ []) (sym is)) ∙ rows_more f (take i us) a
 
 pub told_rows : (P : Value → Type 0) (f : Value → List Value) (us found : List Value) (r : Result Value ValueFault) → ((a : Value) → ascends (f a) ≡ true) → ascends us ≡ true
-    → ((x : Value) → InRows f us x ↔ P x) → found ≡ rows f us → IsMade (value.Set found) r → IsTold (IsCollected P) r
+    → ((x : Value) → InRows f us x ↔ P x) → found ≡ pairs_from f us → IsMade (value.Set found) r → IsTold (IsCollected P) r
 told_rows P f us found r g h same e m = inr (rows_made P f us g h same r (subst (λ vs. IsMade (value.Set vs) r) e m))
 
 pub told_large : (P : Value → Type 0) (f : Value → List Value) (us found : List Value) (n : ℕ) → ((a : Value) → ascends (f a) ≡ true) → ascends us ≡ true
-    → ((x : Value) → InRows f us x ↔ P x) → found ≡ rows f (take n us) → most_nodes < length found → IsTold (IsCollected P) (Err TooLarge)
+    → ((x : Value) → InRows f us x ↔ P x) → found ≡ pairs_from f (take n us) → most_nodes < length found → IsTold (IsCollected P) (Err TooLarge)
 told_large P f us found n g h same e large = inr (first_large P f us g h same n (subst (λ vs. most_nodes < length vs) e large))

@@ -10,20 +10,20 @@ use Rattle.event_values.specs.declared.value.Value.TheVariants as value
 use Rattle.event_values.specs.Order.{value_cmp, ascending}
 use Rattle.value_sets.specs.declared.lists.Side.{Side}
 use Rattle.value_sets.specs.declared.lists.Side.TheVariants as side
-use Rattle.value_sets.specs.Sets.{number_of}
+use Rattle.value_sets.specs.Sets.{integer_of}
 
 -- PARTS OF MEMBERS
 
-abbrev pub part_at : Side → Value → Value-F Value → Option Value
-part_at side.Whole v f = Some v
-part_at side.Left v (Pair a b) = Some a
-part_at side.Left v f = None
-part_at side.Right v (Pair a b) = Some b
-part_at side.Right v f = None
+abbrev pub side_at : Side → Value → Value-F Value → Option Value
+side_at side.Whole v f = Some v
+side_at side.Left v (Pair a b) = Some a
+side_at side.Left v f = None
+side_at side.Right v (Pair a b) = Some b
+side_at side.Right v f = None
 
 -- the value itself, or the one side of a pair
 abbrev pub part_of : Side → Value → Option Value
-part_of s v = part_at s v (out-Value v)
+part_of s v = side_at s v (out-Value v)
 
 abbrev pub converse_at : Value-F Value → Option Value
 converse_at (Pair a b) = Some (value.Pair b a)
@@ -44,8 +44,8 @@ agrees true b = b
 agrees false b = not b
 
 -- whether the part of a member is one of others, as it is wanted
-abbrev pub is_kept : Side → Bool → List Value → Value → Bool
-is_kept s wanted others x = option_map_or (λ p. agrees wanted (among others p)) (part_of s x) false
+abbrev pub is_chosen : Side → Bool → List Value → Value → Bool
+is_chosen s wanted others x = option_map_or (λ p. agrees wanted (among others p)) (part_of s x) false
 
 -- each value of the one list is one of the other
 abbrev pub all_among : List Value → List Value → Bool
@@ -56,7 +56,7 @@ all_among ys (x ∷ xs) = among ys x && all_among ys xs
 
 -- the right sides of the pairs whose left side is one of these
 abbrev pub images : List Value → List Value → List Value
-images xs rs = filter_map (part_of side.Right) (filter (is_kept side.Left true xs) rs)
+images xs rs = filter_map (part_of side.Right) (filter (is_chosen side.Left true xs) rs)
 
 -- what is reached from a value by the one relation and then by the other
 abbrev pub reached : List Value → List Value → Value → List Value
@@ -65,9 +65,9 @@ reached ps qs a = ascending (images (images (a ∷ []) ps) qs)
 -- LISTS THAT ASCEND AS THEY ARE MADE
 
 -- from each value one pair with each of the values that belong to it
-abbrev pub rows : (Value → List Value) → List Value → List Value
-rows f [] = []
-rows f (a ∷ others) = map (value.Pair a) (f a) ++ rows f others
+abbrev pub pairs_from : (Value → List Value) → List Value → List Value
+pairs_from f [] = []
+pairs_from f (a ∷ others) = map (value.Pair a) (f a) ++ pairs_from f others
 
 -- a pair in the rows
 abbrev pub InRows : (Value → List Value) → List Value → Value → Type 0
@@ -110,25 +110,25 @@ value_by a (Pair left right) rest = if is_eq (value_cmp left a) then Some right 
 value_by a f rest = rest
 
 -- the right side of the first pair with this left side
-abbrev pub value_at : List Value → Value → Option Value
-value_at [] a = None
-value_at (x ∷ xs) a = value_by a (out-Value x) (value_at xs a)
+abbrev pub partner_of : List Value → Value → Option Value
+partner_of [] a = None
+partner_of (x ∷ xs) a = value_by a (out-Value x) (partner_of xs a)
 
 -- ENDS
 
 -- the least and the greatest of a number and those of these values
 abbrev pub least_from : ℤ → List Value → ℤ
 least_from n [] = n
-least_from n (v ∷ vs) = least_from (int_min n (number_of v)) vs
+least_from n (v ∷ vs) = least_from (int_min n (integer_of v)) vs
 
 abbrev pub greatest_from : ℤ → List Value → ℤ
 greatest_from n [] = n
-greatest_from n (v ∷ vs) = greatest_from (int_max n (number_of v)) vs
+greatest_from n (v ∷ vs) = greatest_from (int_max n (integer_of v)) vs
 
 abbrev pub least_of : List Value → Option ℤ
 least_of [] = None
-least_of (v ∷ vs) = Some (least_from (number_of v) vs)
+least_of (v ∷ vs) = Some (least_from (integer_of v) vs)
 
 abbrev pub greatest_of : List Value → Option ℤ
 greatest_of [] = None
-greatest_of (v ∷ vs) = Some (greatest_from (number_of v) vs)
+greatest_of (v ∷ vs) = Some (greatest_from (integer_of v) vs)

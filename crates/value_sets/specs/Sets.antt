@@ -11,26 +11,26 @@ use Rattle.value_sets.specs.declared.fault.ValueFault.TheVariants.{TooLarge, Und
 
 -- PARTS OF VALUES. A well formula over values of their types never meets the other cases.
 
-abbrev pub members_at : Value-F Value → List Value
-members_at (Set members) = members
-members_at other = []
+abbrev pub set_members_at : Value-F Value → List Value
+set_members_at (Set members) = members
+set_members_at other = []
 
 -- the members of a set
-abbrev pub members_of : Value → List Value
-members_of v = members_at (out-Value v)
+abbrev pub set_members : Value → List Value
+set_members v = set_members_at (out-Value v)
 
-abbrev pub number_at : Value-F Value → ℤ
-number_at (Int n) = n
-number_at other = pos 0
+abbrev pub integer_at : Value-F Value → ℤ
+integer_at (Int n) = n
+integer_at other = pos 0
 
-abbrev pub number_of : Value → ℤ
-number_of v = number_at (out-Value v)
+abbrev pub integer_of : Value → ℤ
+integer_of v = integer_at (out-Value v)
 
 -- MEMBERS
 
 -- x ∈ s
 abbrev pub In : Value → Value → Type 0
-In x s = Contains (members_of s) x
+In x s = Contains (set_members s) x
 
 -- a ↦ b ∈ r
 abbrev pub Relates : Value → Value → Value → Type 0
@@ -121,10 +121,10 @@ IsApplied r a (Err fault) = (fault ≡ Undefined) × ((InDomain r a × IsFunctio
 
 -- the number of a member, at most that of each other one
 abbrev pub IsLeast : Value → ℤ → Type 0
-IsLeast s n = (x : Value) × In x s × (n ≡ number_of x) × ((y : Value) → In y s → n ≤ℤ number_of y)
+IsLeast s n = (x : Value) × In x s × (n ≡ integer_of x) × ((y : Value) → In y s → n ≤ℤ integer_of y)
 
 abbrev pub IsGreatest : Value → ℤ → Type 0
-IsGreatest s n = (x : Value) × In x s × (n ≡ number_of x) × ((y : Value) → In y s → number_of y ≤ℤ n)
+IsGreatest s n = (x : Value) × In x s × (n ≡ integer_of x) × ((y : Value) → In y s → integer_of y ≤ℤ n)
 
 -- WHAT A CALL ANSWERS
 

@@ -2,7 +2,7 @@
 ghost use Rattle.std.specs.Prelude.{◌≡◌, ◌↔◌, IfOk, IsTrue};
 ghost use Rattle.std.specs.Option.{option_copied};
 ghost use Rattle.value_sets.specs.Sets.{IsApplied, IsFunctional, IsTold};
-ghost use Rattle.value_sets.specs.Private.{lefts_differ, lefts_differ_behind, have_same_left, value_at};
+ghost use Rattle.value_sets.specs.Private.{lefts_differ, lefts_differ_behind, have_same_left, partner_of};
 
 use crate::collecting::in_order;
 use crate::fault::ValueFault;
@@ -64,8 +64,8 @@ fn is_functional(alloc: Global, r: &Value) -> Result<bool, OutOfMemory>
 }
 
 /// The right side of the first pair with this left side.
-fn value_at<'a>(pairs: &'a [Value], a: &Value) -> Option<&'a Value>
-    ensures { option_copied result ≡ value_at pairs.now a.now }
+fn partner_of<'a>(pairs: &'a [Value], a: &Value) -> Option<&'a Value>
+    ensures { option_copied result ≡ partner_of pairs.now a.now }
 {
     for pair in pairs {
         match pair {
@@ -84,7 +84,7 @@ fn value_at<'a>(pairs: &'a [Value], a: &Value) -> Option<&'a Value>
 pub fn applied(alloc: Global, r: &Value, a: &Value) -> Result<Value, ValueFault>
     ensures { IsTold (IsApplied r.now a.now) result }
 {
-    match value_at(members(r), a) {
+    match partner_of(members(r), a) {
         Some(b) => {
             if is_functional(alloc, r)? {
                 Ok(b.copy(alloc)?)

@@ -1,6 +1,6 @@
 //! The least and the greatest number of a set.
 ghost use Rattle.std.specs.Prelude.{◌≡◌, MatchOption, []};
-ghost use Rattle.value_sets.specs.Sets.{members_of, IsLeast, IsGreatest};
+ghost use Rattle.value_sets.specs.Sets.{set_members, IsLeast, IsGreatest};
 ghost use Rattle.value_sets.specs.Private.{least_from, greatest_from, least_of, greatest_of};
 
 use crate::lists::{members, number};
@@ -9,7 +9,7 @@ use event_values::Value;
 /// The least number of a set, and None of the empty one.
 #[tactic(auto, using(crate::proofs::Ends::ends))]
 pub fn least(set: &Value) -> Option<i128>
-    ensures { MatchOption result (members_of set.now ≡ []) (IsLeast set.now) }
+    ensures { MatchOption result (set_members set.now ≡ []) (IsLeast set.now) }
 {
     least_of(members(set))
 }
@@ -26,7 +26,7 @@ fn least_of(values: &[Value]) -> Option<i128>
 /// The greatest number of a set, and None of the empty one.
 #[tactic(auto, using(crate::proofs::Ends::ends))]
 pub fn greatest(set: &Value) -> Option<i128>
-    ensures { MatchOption result (members_of set.now ≡ []) (IsGreatest set.now) }
+    ensures { MatchOption result (set_members set.now ≡ []) (IsGreatest set.now) }
 {
     greatest_of(members(set))
 }

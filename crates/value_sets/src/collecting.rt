@@ -1,7 +1,7 @@
 //! Lists of values as sets.
 ghost use Rattle.std.specs.Prelude.{Contains, IfOk, ◌≡◌};
 ghost use Rattle.event_values.specs.Order.{ascending};
-ghost use Rattle.value_sets.specs.Sets.{IsMade, IsCollected, IsTold, members_of};
+ghost use Rattle.value_sets.specs.Sets.{IsMade, IsCollected, IsTold, set_members};
 
 use crate::fault::ValueFault;
 use crate::lists::{copies, members};
@@ -39,7 +39,7 @@ pub fn extension(alloc: Global, values: &[Value]) -> Result<Value, ValueFault>
 
 /// The members of a set, each once and in ascending order.
 pub(crate) fn in_order(alloc: Global, set: &Value) -> Result<List<Value>, OutOfMemory>
-    ensures { IfOk result (λ vs. vs ≡ ascending (members_of set.now)) }
+    ensures { IfOk result (λ vs. vs ≡ ascending (set_members set.now)) }
 {
     let found = copies(alloc, members(set))?;
     ascending(alloc, found)

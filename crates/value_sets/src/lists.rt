@@ -2,8 +2,8 @@
 ghost use Rattle.std.specs.Prelude.{◌≡◌, ◌↔◌, ◌++◌, ◌∷◌, [], IfOk, OnOk, IsTrue};
 ghost use Rattle.std.specs.Option.{option_copied};
 ghost use Rattle.std.specs.List.{filter, filter_map};
-ghost use Rattle.value_sets.specs.Sets.{members_of, number_of, In, Within};
-ghost use Rattle.value_sets.specs.Private.{part_of, converse_of, among, is_kept, all_among};
+ghost use Rattle.value_sets.specs.Sets.{set_members, integer_of, In, Within};
+ghost use Rattle.value_sets.specs.Private.{part_of, converse_of, among, is_chosen, all_among};
 
 use event_values::Value;
 use formula_core::{Boxed, OutOfMemory};
@@ -20,7 +20,7 @@ pub(crate) enum Side {
 
 /// The members of a set, and none of another value.
 pub fn members(set: &Value) -> &[Value]
-    ensures { result.now ≡ members_of set.now }
+    ensures { result.now ≡ set_members set.now }
 {
     match set {
         Value::Set(members) => members.items(),
@@ -30,7 +30,7 @@ pub fn members(set: &Value) -> &[Value]
 
 /// The number that a value is, and 0 of another value.
 pub fn number(v: &Value) -> i128
-    ensures { result ≡ number_of v.now }
+    ensures { result ≡ integer_of v.now }
 {
     match v {
         Value::Int(n) => *n,
@@ -94,8 +94,8 @@ pub fn is_within(s: &Value, t: &Value) -> bool
     all_among(members(t), members(s))
 }
 
-fn is_kept(side: Side, wanted: bool, others: &[Value], x: &Value) -> bool
-    ensures { result ≡ is_kept side wanted others.now x.now }
+fn is_chosen(side: Side, wanted: bool, others: &[Value], x: &Value) -> bool
+    ensures { result ≡ is_chosen side wanted others.now x.now }
 {
     match part_of(side, x) {
         Some(part) => {
@@ -153,11 +153,11 @@ pub(crate) fn kept(
     xs: &[Value],
     others: &[Value],
 ) -> Result<Vec<Value>, OutOfMemory>
-    ensures { IfOk result (λ found. found.items ≡ filter (is_kept side wanted others.now) xs.now) }
+    ensures { IfOk result (λ found. found.items ≡ filter (is_chosen side wanted others.now) xs.now) }
 {
     let mut found = Vec::new(alloc);
     for x in xs {
-        if is_kept(side, wanted, others, x) {
+        if is_chosen(side, wanted, others, x) {
             add_copy(alloc, x, &mut found)?;
         }
     }
