@@ -1,5 +1,5 @@
 // Stored proofs, with what they ask of a sequent.
-ghost use Rattle.std.specs.Prelude.{◌≡◌, ◌↔◌, map, IsTrue, IfOk, Some};
+ghost use Rattle.std.specs.Prelude.{◌≡◌, ◌↔◌, ◌+◌, map, IsTrue, IfOk, Some};
 ghost use Rattle.sequent_core.specs.declared.Sequent.{Sequent};
 ghost use Rattle.sequent_core.specs.declared.Tree.{Tree};
 ghost use Rattle.sequent_core.specs.Sequents.{IsSequent};
@@ -9,12 +9,13 @@ ghost use Rattle.core_steps.specs.Status.{IsTreeStatus, IsStatus, IsUnsettled, o
 ghost use Rattle.core_steps.specs.Stored.{AreFactsOf, IsSettledAs};
 
 use crate::events::Status;
-use formula_core::{List, OutOfMemory};
+use formula_core::{List, OutOfMemory, Steps};
 use proof_deps::{Deps, fits, fits_by, of};
 use proof_entries::{Origin, Proof};
 use sequent_core::{Sequent, Tree};
 use std::alloc::Global;
 use std::marker::Model;
+use std::sync::ledger::Ledger;
 
 /// What is known of a tree: what it asks of a sequent, if it applies to any, and its status where it applies.
 #[derive(Drop)]
@@ -61,10 +62,16 @@ fn settled(tree: &Tree) -> Status
     Status::Discharged
 }
 
-/// What is known of the tree.
-pub fn facts_of(alloc: Global, tree: &Tree) -> Result<Facts, OutOfMemory>
-    ensures { IfOk result (λ facts. AreFactsOf tree.now facts) }
+/// What is known of the tree. The whole tree is looked through, which is one step of the counter.
+pub fn facts_of<L: Ledger>(
+    alloc: Global,
+    tree: &Tree,
+    steps: &mut Steps<L>,
+) -> Result<Facts, OutOfMemory>
+    ensures facts { IfOk result (λ facts. AreFactsOf tree.now facts) }
+    ensures step { steps.new ≡ steps.old + 1 }
 {
+    steps.tick();
     let deps = of(alloc, tree)?;
     Ok(Facts {
         deps,
@@ -118,11 +125,16 @@ pub fn status_by(facts: &Facts, sequent: &Sequent) -> Status
 }
 
 impl StoredProof {
-    /// The proof with what is known of it.
-    pub fn of(alloc: Global, proof: Proof) -> Result<StoredProof, OutOfMemory>
-        ensures { IfOk result (λ stored. stored ≡ proof) }
+    /// The proof with what is known of it. Its tree is looked through, which is one step of the counter.
+    pub fn of<L: Ledger>(
+        alloc: Global,
+        proof: Proof,
+        steps: &mut Steps<L>,
+    ) -> Result<StoredProof, OutOfMemory>
+        ensures proof { IfOk result (λ stored. stored ≡ proof) }
+        ensures step { steps.new ≡ steps.old + 1 }
     {
-        let facts = facts_of(alloc, &proof.tree)?;
+        let facts = facts_of(alloc, &proof.tree, steps)?;
         Ok(StoredProof { proof, facts })
     }
 

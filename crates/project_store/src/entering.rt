@@ -4,25 +4,32 @@ ghost use Rattle.core_steps.specs.State.{entered};
 ghost use Rattle.project_store.specs.Records.{after_all};
 
 use core_steps::{Durable, Project, StoredProof};
-use formula_core::OutOfMemory;
+use formula_core::{OutOfMemory, Steps};
 use proof_entries::Entry;
 use std::alloc::Global;
+use std::sync::ledger::Ledger;
 
-/// The durable after these entries. After a refusal it is of no use.
-pub(crate) fn enter_all(
+/// The durable after these entries. Each proof is looked through. After a refusal the durable is of no use.
+pub(crate) fn enter_all<L: Ledger>(
     alloc: Global,
     durable: &mut Durable,
     entries: Vec<Entry>,
+    steps: &mut Steps<L>,
 ) -> Result<(), OutOfMemory>
     ensures { OnOk result (durable.new ≡ after_all durable.old entries.items) }
 {
     for entry in entries {
-        enter(alloc, durable, entry)?;
+        enter(alloc, durable, entry, steps)?;
     }
     Ok(())
 }
 
-fn enter(alloc: Global, durable: &mut Durable, entry: Entry) -> Result<(), OutOfMemory>
+fn enter<L: Ledger>(
+    alloc: Global,
+    durable: &mut Durable,
+    entry: Entry,
+    steps: &mut Steps<L>,
+) -> Result<(), OutOfMemory>
     ensures { OnOk result (durable.new ≡ entered durable.old entry) }
 {
     match entry {
@@ -36,7 +43,7 @@ fn enter(alloc: Global, durable: &mut Durable, entry: Entry) -> Result<(), OutOf
             Ok(())
         }
         Entry::SetProof(name, proof) => {
-            let stored = StoredProof::of(alloc, proof)?;
+            let stored = StoredProof::of(alloc, proof, steps)?;
             durable.proofs.put(name, stored)
         }
         Entry::Purge(names) => {

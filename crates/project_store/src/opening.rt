@@ -1,5 +1,5 @@
 // The core that the records of a journal lead to.
-ghost use Rattle.std.specs.Prelude.{◌≡◌, ◌≤◌, ◌+◌, List, IfOk, OnOk, MatchResult, IsErrOf};
+ghost use Rattle.std.specs.Prelude.{◌≡◌, ◌<◌, ◌≤◌, ◌+◌, List, IfOk, OnOk, MatchResult, IsErrOf};
 ghost use Rattle.std.specs.List.{AllByRecursion};
 ghost use Rattle.std.specs.FinMap as map;
 ghost use Rattle.outside.specs.declared.side.Side.{Side};
@@ -22,7 +22,8 @@ use formula_core::Steps;
 use journal_core::Piece;
 use status_core::Core;
 use std::alloc::Global;
-use std::sync::ledger::Ledger;
+use std::marker::Brand;
+use std::sync::ledger::{Blank, Ledger};
 
 /// The most texts of a project.
 const MOST_TEXTS: usize = 256;
@@ -47,7 +48,7 @@ pub(crate) fn open_core<L: Ledger>(
     ensures own { IsErrOf result OpenFault.DiskFault → ⊥ }
     ensures steps { IfOk result (λ core. steps.new ≤ steps.old + map.len core.durable.built) }
 {
-    let durable = match replay(alloc, pieces) {
+    let durable = match replay::<Brand>(alloc, pieces, Blank::new(1)) {
         Ok(durable) => durable,
         Err(fault) => return Err(fault),
     };
@@ -61,9 +62,12 @@ pub(crate) fn open_core<L: Ledger>(
     }
 }
 
-// What these records lead to from nothing, or the first that doesn't lead on.
+// What these records lead to from nothing, or the first that doesn't lead on. Looks through their proofs are counted apart.
 #[tactic(auto, using(crate::proofs::Replays::none_replayed, crate::proofs::Replays::next_replayed, crate::proofs::Replays::stuck_there, crate::proofs::Replays::end_led, crate::proofs::Replays::end_single, crate::proofs::Replays::end_small, crate::proofs::Replays::end_short))]
-fn replay(alloc: Global, pieces: &[Piece]) -> Result<Durable, OpenFault>
+fn replay<L: Ledger>(alloc: Global, pieces: &[Piece], blank: Blank) -> Result<Durable, OpenFault>
+    requires name { blank.name ≡ L.name }
+    requires parts { blank.parts ≡ L.parts }
+    requires some { 0 < blank.parts }
     ensures led { MatchResult result (λ led. Leads no_texts (bodies_of pieces.now) led)
         (λ fault. (on : Side) → ArePlaced on 16 pieces.now → IsReplayFault (bodies_of pieces.now) on fault) }
     ensures single { OnOk result (AllByRecursion IsSingle (bodies_of pieces.now)) }
@@ -71,10 +75,11 @@ fn replay(alloc: Global, pieces: &[Piece]) -> Result<Durable, OpenFault>
     ensures small { IfOk result IsSmall }
     ensures short { IfOk result HasShortTexts }
 {
+    let mut steps = Steps::<L>::open(blank);
     let mut durable = Durable::empty(alloc);
     let mut rest = pieces;
     while let Some((first, behind)) = rest.split_first() {
-        match replay_body(alloc, &mut durable, &first.bytes) {
+        match replay_body(alloc, &mut durable, &first.bytes, &mut steps) {
             Ok(()) => {}
             Err(BodyFault::Bad) => return Err(OpenFault::Damaged(first.side, first.at)),
             Err(BodyFault::OutOfMemory) => return Err(OpenFault::OutOfMemory),
@@ -86,7 +91,12 @@ fn replay(alloc: Global, pieces: &[Piece]) -> Result<Durable, OpenFault>
 
 // What a record leads to, if it leads on.
 #[tactic(auto, using(crate::proofs::Replays::no_body, crate::proofs::Replays::too_many, crate::proofs::Replays::one_reading, crate::proofs::Shorts::stays_short))]
-fn replay_body(alloc: Global, durable: &mut Durable, body: &[u8]) -> Result<(), BodyFault>
+fn replay_body<L: Ledger>(
+    alloc: Global,
+    durable: &mut Durable,
+    body: &[u8],
+    steps: &mut Steps<L>,
+) -> Result<(), BodyFault>
     requires short { HasShortTexts durable.old }
     ensures led { OnOk result ((es : List Entry)
         × IsBody body.now es × IsSmall (after_all durable.old es) × (durable.new ≡ after_all durable.old es)) }
@@ -98,7 +108,7 @@ fn replay_body(alloc: Global, durable: &mut Durable, body: &[u8]) -> Result<(), 
         Ok(entries) => entries,
         Err(fault) => return Err(fault),
     };
-    if enter_all(alloc, durable, entries).is_err() {
+    if enter_all(alloc, durable, entries, steps).is_err() {
         return Err(BodyFault::OutOfMemory);
     }
     if durable.texts.len() > MOST_TEXTS {

@@ -234,10 +234,10 @@ impl<D: Disk, K: Opening> Store<D, K> {
             (λ fault. self.new.kept ≡ Some (met fault chair event)) }
         ensures later { D.faults self.old.journal.disk ≤ D.faults self.new.journal.disk }
 
-        // What a build counts.
+        // What is counted: checks of components, and looks through trees.
         ensures build { event ≡ Event.Build → HasFewSteps (map.entries self.old.core.durable.built)
             (map.entries self.old.core.durable.texts) steps.old steps.new }
-        ensures steps { (event ≡ Event.Build → ⊥) → steps.new ≡ steps.old }
+        ensures steps { (event ≡ Event.Build → ⊥) → steps.new ≤ steps.old + 2 }
     {
         if let Some(kept) = &self.kept {
             return Err(again(kept.fault, event));
@@ -263,7 +263,7 @@ impl<D: Disk, K: Opening> Store<D, K> {
         ensures later { D.faults self.old.journal.disk ≤ D.faults self.new.journal.disk }
         ensures build { event ≡ Event.Build → HasFewSteps
             (map.entries self.old.core.durable.built) (map.entries self.old.core.durable.texts) steps.old steps.new }
-        ensures steps { (event ≡ Event.Build → ⊥) → steps.new ≡ steps.old }
+        ensures steps { (event ≡ Event.Build → ⊥) → steps.new ≤ steps.old + 2 }
     {
         let room = MOST_WEIGHT - self.weight;
         let weight = match weight_within(&event, room) {

@@ -8,6 +8,6 @@ mod places;
 mod steps;
 
 pub use laws::{closed_trees_derive, larger_sequents_keep_trees};
-pub use leaves::leaf;
+pub use leaves::{leaf, leaf_there};
 pub use places::{NoNode, prune};
 pub use steps::{StepFault, step};

@@ -3,7 +3,7 @@
 use crate::items::hint_of;
 use crate::reading::path_of;
 use formula_core::List;
-use proof_steps::{leaf, step};
+use proof_steps::{leaf_there, step};
 use proof_tree::applies_to;
 use rule_making::make;
 use sequent_core::{Rule, Sequent, Tree};
@@ -21,7 +21,10 @@ fn rule_at(
         None => (words, None),
     };
     let hint = hint_of(alloc, items)?;
-    let at = leaf(tree, alloc, sequent, path).ok()??;
+    let Ok(true) = applies_to(tree, alloc, sequent) else {
+        return None;
+    };
+    let at = leaf_there(tree, alloc, sequent, path).ok()??;
     make(alloc, kind.parse::<u8>().ok()?, &hint, &at).ok()
 }
 

@@ -1,12 +1,15 @@
 //! Trees that are put together from their leaves up, and what they are.
+ghost use Rattle.std.specs.Prelude.{◌≡◌, ◌<◌};
 
 use crate::making::times_found;
 use crate::reading::{path_of, put};
-use formula_core::{List, PoName};
+use formula_core::{List, PoName, Steps};
 use proof_steps::{StepFault, leaf, prune, step};
 use proof_tree::{applies_to, derives, is_good};
 use sequent_core::{Obligation, Path, Rule, Sequent, Tree, meets};
 use std::alloc::Global;
+use std::marker::Brand;
+use std::sync::ledger::{Blank, Ledger};
 
 /// Puts the rule over so many of the last trees.
 pub fn put_over(trees: &mut Vec<Tree>, rule: Rule, count: usize) -> Option<()> {
@@ -132,6 +135,22 @@ pub fn add_step(
     write!(out, "{told}, {} nodes", tree.node_count()).ok()
 }
 
+// The sequent at the leaf of the path, with a counter of steps that nobody reads.
+fn leaf_counted<L: Ledger>(
+    alloc: Global,
+    tree: &Tree,
+    sequent: &Sequent,
+    path: &Path,
+    blank: Blank,
+) -> Option<Option<Sequent>>
+    requires name { blank.name ≡ L.name }
+    requires parts { blank.parts ≡ L.parts }
+    requires some { 0 < blank.parts }
+{
+    let mut steps = Steps::<L>::open(blank);
+    leaf(tree, alloc, sequent, path, &mut steps).ok()
+}
+
 /// Writes how many hypotheses there are at the leaf of the path.
 pub fn add_at(
     alloc: Global,
@@ -141,7 +160,7 @@ pub fn add_at(
     out: &mut String,
 ) -> Option<()> {
     let path = path_of(alloc, path)?;
-    match leaf(tree, alloc, sequent, &path).ok()? {
+    match leaf_counted::<Brand>(alloc, tree, sequent, &path, Blank::new(1))? {
         Some(at) => write!(out, "{}", at.hyps.items().len()).ok(),
         None => out.push_str("no leaf").ok(),
     }

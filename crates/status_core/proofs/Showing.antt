@@ -30,12 +30,15 @@ applies_or_not : (proof : Option Proof) (s : Sequent) (status : Status) → IsSt
 applies_or_not None s status is = inl (leaf_applies s)
 applies_or_not (Some proof) s status is = tree_applies proof.tree s status is
 
--- the sequent at the leaf of a path is the one that is shown
-pub shown_at : (tree : Tree) (s : Sequent) (path : List ℕ) (found : Result (Option Sequent) OutOfMemory) →
-    (Applies tree s → IfOk found (λ leaf. leaf ≡ leaf_at path tree s)) → ((Applies tree s → ⊥) → IfOk found (λ leaf. leaf ≡ None)) →
-    IfOk found (λ shown. IsShownAt tree s (Some path) shown)
-shown_at tree s path (Ok leaf) there none = (there, none)
-shown_at tree s path (Err e) there none = tt
+-- the sequent at the leaf of a path is the one that is shown, where the tree applies
+pub shown_leaf : (tree : Tree) (s : Sequent) (path : List ℕ) (found : Result (Option Sequent) OutOfMemory) → Applies tree s →
+    IfOk found (λ leaf. leaf ≡ leaf_at path tree s) → IfOk found (λ shown. IsShownAt tree s (Some path) shown)
+shown_leaf tree s path (Ok leaf) applies there = ((λ a. there), (λ no. absurd (no applies)))
+shown_leaf tree s path (Err e) applies there = tt
+
+-- none is shown where it doesn't
+pub shown_none : (tree : Tree) (s : Sequent) (path : List ℕ) → (Applies tree s → ⊥) → IsShownAt tree s (Some path) None
+shown_none tree s path no = ((λ a. absurd (no a)), (λ n. refl))
 
 module _ (s : State) (name : List ℕ) (sequent : Sequent) (status : Status) (is : IsStatus (get s.durable.proofs name) sequent status) where
   -- no sequent is shown where the tree doesn't apply, or has no leaf at the path

@@ -1,5 +1,5 @@
 // Tickets that come in.
-ghost use Rattle.std.specs.Prelude.{◌≡◌, ◌<◌, length, slice_get, IfOk, IfSome, Some};
+ghost use Rattle.std.specs.Prelude.{◌≡◌, ◌<◌, ◌≤◌, ◌+◌, length, slice_get, IfOk, IfSome, Some};
 ghost use Rattle.std.specs.List.{HoldsAt};
 ghost use Rattle.std.specs.Option.{option_copied, option_map};
 ghost use Rattle.sequent_core.specs.declared.Ticket.{Ticket};
@@ -18,35 +18,44 @@ ghost use Rattle.status_core.specs.PrivateParts.{IsHeldProof, without_at, ComesA
 use crate::core_state::Core;
 use crate::proving::Held;
 use core_steps::{Facts, Reply, Status};
-use formula_core::{OutOfMemory, PoName};
+use formula_core::{OutOfMemory, PoName, Steps};
 use prepared_events::{Prepared, Storing};
 use proof_entries::{Origin, Proof};
-use proof_tree::is_good;
 use sequent_core::{Attempt, Obligation, Tree};
-use table_lookup::{facts_to_store, present_status, ticket_at};
+use std::sync::ledger::Ledger;
+use table_lookup::{facts_to_store, is_good_proof, present_status, ticket_at};
 
 impl Core {
-    /// What comes of a finish.
-    pub(crate) fn prepare_finish(
+    /// What comes of a finish. The tree that it brings is looked through at most twice.
+    pub(crate) fn prepare_finish<L: Ledger>(
         &self,
         number: u64,
         attempt: &Attempt,
+        steps: &mut Steps<L>,
     ) -> Result<Prepared, OutOfMemory>
-        ensures { IfOk result (λ p. Prepares self.now (Event.Finish number attempt.now) p) }
+        ensures prepared { IfOk result (λ p. Prepares self.now (Event.Finish number attempt.now) p) }
+        ensures steps { steps.new ≤ steps.old + 2 }
     {
         match ticket_at(&self.out, number) {
             None => {
                 self.has_table();
                 Ok(self.tell(Reply::NoTicket(number)))
             }
-            Some(at) => self.finish_at(number, at, attempt),
+            Some(at) => self.finish_at(number, at, attempt, steps),
         }
     }
 
     // What comes of the finish of the ticket at the place.
-    fn finish_at(&self, number: u64, at: usize, attempt: &Attempt) -> Result<Prepared, OutOfMemory>
+    fn finish_at<L: Ledger>(
+        &self,
+        number: u64,
+        at: usize,
+        attempt: &Attempt,
+        steps: &mut Steps<L>,
+    ) -> Result<Prepared, OutOfMemory>
         requires { IsTicketAt self.now.out number (Some at) }
-        ensures { IfOk result (λ p. Prepares self.now (Event.Finish number attempt.now) p) }
+        ensures prepared { IfOk result (λ p. Prepares self.now (Event.Finish number attempt.now) p) }
+        ensures steps { steps.new ≤ steps.old + 2 }
     {
         let ticket = &self.out[at];
         let name = ticket.name.copy(self.alloc)?;
@@ -55,32 +64,34 @@ impl Core {
         match attempt {
             Attempt::NoProof => self.try_in(Reply::Noted(name, status), at),
             Attempt::NoMemory => self.try_in(Reply::NoMemory(name, status), at),
-            Attempt::Found(tree) => self.found(at, name, obligation, status, tree),
+            Attempt::Found(tree) => self.found(at, name, obligation, status, tree, steps),
         }
     }
 
     // The tree is stored, or refused, or stale.
-    fn found(
+    fn found<L: Ledger>(
         &self,
         at: usize,
         name: PoName,
         obligation: Option<&Obligation>,
         status: Option<Status>,
         tree: &Tree,
+        steps: &mut Steps<L>,
     ) -> Result<Prepared, OutOfMemory>
         requires within { at < length self.now.out }
         requires name { HoldsAt (λ t. t.name ≡ name) self.now.out at }
         requires sequent { IfSome (option_copied obligation) (λ o. IsSequent o.sequent) }
         requires status { IsPresentStatus self.now.durable.proofs name
             (option_map (λ o. o.sequent) (option_copied obligation)) status }
-        ensures { (ticket : Ticket) → slice_get self.now.out at ≡ Some ticket →
+        ensures comes { (ticket : Ticket) → slice_get self.now.out at ≡ Some ticket →
             IfOk result (λ p. ComesAs self.now (EndsTicket (without_at self.now at) ticket
             (option_map (λ o. o.sequent) (option_copied obligation.entry)) (Attempt.Found tree.now)) p) }
+        ensures steps { steps.new ≤ steps.old + 2 }
     {
-        if let Some(facts) = facts_to_store(self.alloc, status, obligation, tree)? {
+        if let Some(facts) = facts_to_store(self.alloc, status, obligation, tree, steps)? {
             return self.store(at, name, facts, tree);
         }
-        if is_good(tree, self.alloc, &self.out[at].sequent)? {
+        if is_good_proof(self.alloc, tree, &self.out[at].sequent, steps)? {
             return Ok(self.take_in(Reply::Stale(name, status), at));
         }
         self.try_in(Reply::Refused(name, status), at)

@@ -1,5 +1,5 @@
 // A user's work on the proof of an obligation.
-ghost use Rattle.std.specs.Prelude.{◌≡◌, ◌↔◌, IsTrue, IfOk, Ok};
+ghost use Rattle.std.specs.Prelude.{◌≡◌, ◌≤◌, ◌+◌, ◌↔◌, IsTrue, IfOk, Ok};
 ghost use Rattle.std.specs.Option.{option_copied};
 ghost use Rattle.sequent_core.specs.declared.Sequent.{Sequent};
 ghost use Rattle.sequent_core.specs.declared.Tree.{Tree};
@@ -15,12 +15,13 @@ ghost use Rattle.status_core.specs.PrivateParts.{IsHeldProof, IsMade, IsShownAt,
 
 use crate::core_state::Core;
 use core_steps::{Facts, Reply, Room, StoredProof, facts_of, status_by};
-use formula_core::{OutOfMemory, PoName};
+use formula_core::{OutOfMemory, PoName, Steps};
 use prepared_events::{Prepared, Storing};
 use proof_entries::{Origin, Proof};
-use proof_steps::{StepFault, leaf, prune, step};
+use proof_steps::{StepFault, leaf_there, prune, step};
 use rule_making::{RuleFault, make};
 use sequent_core::{Hint, Path, Rule, Sequent, Tree};
+use std::sync::ledger::Ledger;
 use table_lookup::status_of;
 
 /// What is held for a tree that is to be stored: its name, once to be told, what is known of it, and memory.
@@ -55,44 +56,57 @@ pub fn does_apply(stored: Option<&StoredProof>, sequent: &Sequent) -> bool
 }
 
 impl Core {
-    /// What comes of a step.
-    pub(crate) fn prepare_step(
+    /// What comes of a step. The new tree is looked through at most once.
+    pub(crate) fn prepare_step<L: Ledger>(
         &self,
         name: &PoName,
         path: &Path,
         kind: u8,
         hint: &Hint,
+        steps: &mut Steps<L>,
     ) -> Result<Prepared, OutOfMemory>
-        ensures { IfOk result (λ p. Prepares self.now (Event.Step name.now path.now kind hint.now) p) }
+        ensures prepared { IfOk result (λ p. Prepares self.now (Event.Step name.now path.now kind hint.now) p) }
+        ensures steps { steps.new ≤ steps.old + 1 }
     {
         match self.find(name) {
             None => self.tell_none(name),
-            Some(obligation) => self.step_on(name, &obligation.sequent, path, kind, hint),
+            Some(obligation) => { self.step_on(name, &obligation.sequent, path, kind, hint, steps) }
         }
     }
 
     // A step in the proof of the sequent.
-    fn step_on(
+    fn step_on<L: Ledger>(
         &self,
         name: &PoName,
         sequent: &Sequent,
         path: &Path,
         kind: u8,
         hint: &Hint,
+        steps: &mut Steps<L>,
     ) -> Result<Prepared, OutOfMemory>
         requires { IsSequent sequent.now }
-        ensures { IfOk result (λ p. ComesAs self.now (StepsAt self.now name.now path.now kind hint.now sequent.now) p) }
+        ensures comes { IfOk result (λ p.
+            ComesAs self.now (StepsAt self.now name.now path.now kind hint.now sequent.now) p) }
+        ensures steps { steps.new ≤ steps.old + 1 }
     {
         let stored = self.durable.proofs.get(name);
         if does_apply(stored, sequent) {
             let bare = Tree::Leaf;
-            return self.step_in(name, sequent, tree_of(stored, &bare), path, kind, hint);
+            return self.step_in(
+                name,
+                sequent,
+                tree_of(stored, &bare),
+                path,
+                kind,
+                hint,
+                steps,
+            );
         }
         Ok(self.tell(Reply::Broken))
     }
 
     // A step in a tree that applies.
-    fn step_in(
+    fn step_in<L: Ledger>(
         &self,
         name: &PoName,
         sequent: &Sequent,
@@ -100,17 +114,19 @@ impl Core {
         path: &Path,
         kind: u8,
         hint: &Hint,
+        steps: &mut Steps<L>,
     ) -> Result<Prepared, OutOfMemory>
         requires sequent { IsSequent sequent.now }
         requires applies { Applies tree.now sequent.now }
-        ensures { IfOk result (λ p.
+        ensures comes { IfOk result (λ p.
             ComesAs self.now (StepsIn self.now name.now path.now kind hint.now sequent.now tree.now) p) }
+        ensures steps { steps.new ≤ steps.old + 1 }
     {
-        match leaf(tree, self.alloc, sequent, path)? {
+        match leaf_there(tree, self.alloc, sequent, path)? {
             None => Ok(self.tell(Reply::NoLeaf)),
             Some(leaf) => {
                 let rule = self.rule_at(kind, hint, &leaf)?;
-                self.put_made(name, sequent, tree, path, rule)
+                self.put_made(name, sequent, tree, path, rule, steps)
             }
         }
     }
@@ -132,46 +148,51 @@ impl Core {
     }
 
     // The rule is put at the leaf of the path, if one was made.
-    fn put_made(
+    fn put_made<L: Ledger>(
         &self,
         name: &PoName,
         sequent: &Sequent,
         tree: &Tree,
         path: &Path,
         made: Result<Rule, RuleFault>,
+        steps: &mut Steps<L>,
     ) -> Result<Prepared, OutOfMemory>
         requires sequent { IsSequent sequent.now }
         requires applies { Applies tree.now sequent.now }
         requires fits { HasLeaf path.now tree.now sequent.now (λ leaf. IsMade leaf made) }
-        ensures { IfOk result (λ p. ComesAs self.now (Puts self.now name.now sequent.now tree.now path.now made) p) }
+        ensures comes { IfOk result (λ p.
+            ComesAs self.now (Puts self.now name.now sequent.now tree.now path.now made) p) }
+        ensures steps { steps.new ≤ steps.old + 1 }
     {
         match made {
-            Ok(rule) => self.put(name, sequent, tree, path, rule),
+            Ok(rule) => self.put(name, sequent, tree, path, rule, steps),
             Err(fault) => Ok(self.tell(Reply::Rule(fault))),
         }
     }
 
     // The rule is put at the leaf of the path.
-    fn put(
+    fn put<L: Ledger>(
         &self,
         name: &PoName,
         sequent: &Sequent,
         tree: &Tree,
         path: &Path,
         rule: Rule,
+        steps: &mut Steps<L>,
     ) -> Result<Prepared, OutOfMemory>
         requires sequent { IsSequent sequent.now }
         requires applies { Applies tree.now sequent.now }
         requires fits { HasLeaf path.now tree.now sequent.now (FitsAt rule) }
-        ensures { IfOk result (λ p.
+        ensures comes { IfOk result (λ p.
             ComesAs self.now (Puts self.now name.now sequent.now tree.now path.now (Ok rule)) p) }
+        ensures steps { steps.new ≤ steps.old + 1 }
     {
         let Ok(mut tree) = tree.copy(self.alloc) else {
             drop(rule);
             return Err(OutOfMemory);
         };
         match step(&mut tree, self.alloc, sequent, path, rule) {
-            Ok(()) => self.keep_tree(name, sequent, tree),
+            Ok(()) => self.keep_tree(name, sequent, tree, steps),
             Err(StepFault::TreeFull) => {
                 drop(tree);
                 Ok(self.tell(Reply::TreeFull))
@@ -186,16 +207,18 @@ impl Core {
     }
 
     // The tree is stored as the user's, and its status is told.
-    fn keep_tree(
+    fn keep_tree<L: Ledger>(
         &self,
         name: &PoName,
         sequent: &Sequent,
         tree: Tree,
+        steps: &mut Steps<L>,
     ) -> Result<Prepared, OutOfMemory>
         requires { IsSequent sequent.now }
-        ensures { IfOk result (λ p. ComesAs self.now (Keeps self.now name.now sequent.now tree) p) }
+        ensures comes { IfOk result (λ p. ComesAs self.now (Keeps self.now name.now sequent.now tree) p) }
+        ensures steps { steps.new ≤ steps.old + 1 }
     {
-        let Ok(held) = self.hold(name, &tree) else {
+        let Ok(held) = self.hold(name, &tree, steps) else {
             drop(tree);
             return Err(OutOfMemory);
         };
@@ -203,10 +226,16 @@ impl Core {
     }
 
     // What is wanted for the tree to be stored under the name.
-    fn hold(&self, name: &PoName, tree: &Tree) -> Result<Held, OutOfMemory>
-        ensures { IfOk result (λ held. IsHeldProof self.now.durable.proofs name.now tree.now held) }
+    fn hold<L: Ledger>(
+        &self,
+        name: &PoName,
+        tree: &Tree,
+        steps: &mut Steps<L>,
+    ) -> Result<Held, OutOfMemory>
+        ensures held { IfOk result (λ held. IsHeldProof self.now.durable.proofs name.now tree.now held) }
+        ensures steps { steps.new ≤ steps.old + 1 }
     {
-        let facts = facts_of(self.alloc, tree)?;
+        let facts = facts_of(self.alloc, tree, steps)?;
         self.hold_with(name, facts)
     }
 
@@ -251,29 +280,37 @@ impl Core {
         self.keep(reply, storing)
     }
 
-    /// What comes of a prune.
-    pub(crate) fn prepare_prune(&self, name: &PoName, path: &Path) -> Result<Prepared, OutOfMemory>
-        ensures { IfOk result (λ p. Prepares self.now (Event.Prune name.now path.now) p) }
+    /// What comes of a prune. The new tree is looked through at most once.
+    pub(crate) fn prepare_prune<L: Ledger>(
+        &self,
+        name: &PoName,
+        path: &Path,
+        steps: &mut Steps<L>,
+    ) -> Result<Prepared, OutOfMemory>
+        ensures prepared { IfOk result (λ p. Prepares self.now (Event.Prune name.now path.now) p) }
+        ensures steps { steps.new ≤ steps.old + 1 }
     {
         match self.find(name) {
             None => self.tell_none(name),
-            Some(obligation) => self.prune_on(name, &obligation.sequent, path),
+            Some(obligation) => self.prune_on(name, &obligation.sequent, path, steps),
         }
     }
 
     // A prune in the proof of the sequent.
-    fn prune_on(
+    fn prune_on<L: Ledger>(
         &self,
         name: &PoName,
         sequent: &Sequent,
         path: &Path,
+        steps: &mut Steps<L>,
     ) -> Result<Prepared, OutOfMemory>
         requires { IsSequent sequent.now }
-        ensures { IfOk result (λ p. ComesAs self.now (PrunesAt self.now name.now path.now sequent.now) p) }
+        ensures comes { IfOk result (λ p. ComesAs self.now (PrunesAt self.now name.now path.now sequent.now) p) }
+        ensures steps { steps.new ≤ steps.old + 1 }
     {
         let mut tree = self.copy_tree(name)?;
         match prune(&mut tree, path) {
-            Ok(()) => self.keep_tree(name, sequent, tree),
+            Ok(()) => self.keep_tree(name, sequent, tree, steps),
             Err(_) => {
                 drop(tree);
                 Ok(self.tell(Reply::NoNode))
@@ -327,22 +364,26 @@ impl Core {
         }
     }
 
-    // The sequent, or that at the leaf of the path.
+    // The sequent, or that at the leaf of the path, where the tree applies.
     fn shown_sequent(
         &self,
         name: &PoName,
         sequent: &Sequent,
         path: Option<&Path>,
     ) -> Result<Option<Sequent>, OutOfMemory>
+        requires { IsSequent sequent.now }
         ensures { IfOk result (λ shown.
             IsShownAt (stored_tree self.now.durable.proofs name.now) sequent.now (option_copied path.entry) shown) }
     {
         match path {
             None => Ok(Some(sequent.copy(self.alloc)?)),
             Some(path) => {
-                let bare = Tree::Leaf;
-                let tree = tree_of(self.durable.proofs.get(name), &bare);
-                leaf(tree, self.alloc, sequent, path)
+                let stored = self.durable.proofs.get(name);
+                if does_apply(stored, sequent) {
+                    let bare = Tree::Leaf;
+                    return leaf_there(tree_of(stored, &bare), self.alloc, sequent, path);
+                }
+                Ok(None)
             }
         }
     }

@@ -1,5 +1,5 @@
 // Looking for tickets, and for what is known of an obligation.
-ghost use Rattle.std.specs.Prelude.{◌≡◌, ◌≢◌, ◌<◌, ◌↔◌, ℕ, List, length, map, take, IsTrue, IfOk, IfSome, IsSome, MatchOption, Some};
+ghost use Rattle.std.specs.Prelude.{◌≡◌, ◌≢◌, ◌<◌, ◌≤◌, ◌+◌, ◌↔◌, ℕ, List, length, map, take, IsTrue, IfOk, IfSome, IsSome, MatchOption, Some};
 ghost use Rattle.std.specs.Option.{option_copied, option_map};
 ghost use Rattle.std.specs.FinMap.{FinMap, get};
 ghost use Rattle.std.specs.List.{AllByRecursion, HoldsAt};
@@ -17,11 +17,13 @@ ghost use Rattle.table_lookup.specs.Tickets.{IsTicketAt};
 
 use build_core::Numbered;
 use core_steps::{Facts, PoMap, Status, StoredProof, facts_of, is_unsettled, status_by};
-use formula_core::{OutOfMemory, PoName};
+use formula_core::{OutOfMemory, PoName, Steps};
 use proof_entries::Origin;
+use proof_tree::is_good;
 use sequent_core::{Obligation, Sequent, Ticket, Tree};
 use std::alloc::Global;
 use std::sync::Arc;
+use std::sync::ledger::Ledger;
 
 /// The most nodes of a tree that may be stored.
 const MOST_NODES: u64 = 2048;
@@ -197,19 +199,21 @@ fn is_discharged(status: Status) -> bool
 }
 
 // What is known of the tree, where it is a good proof of the sequent. Its nodes are counted first.
-fn facts_if_good(
+fn facts_if_good<L: Ledger>(
     alloc: Global,
     tree: &Tree,
     sequent: &Sequent,
+    steps: &mut Steps<L>,
 ) -> Result<Option<Facts>, OutOfMemory>
     requires { IsSequent sequent.now }
     ensures facts { IfOk result (λ found. IfSome found (AreFactsOf tree.now)) }
     ensures good { IfOk result (λ found. IsSome found ↔ IsGoodTree tree.now sequent.now) }
+    ensures step { steps.new ≤ steps.old + 1 }
 {
     if tree.node_count() > MOST_NODES {
         return Ok(None);
     }
-    let facts = facts_of(alloc, tree)?;
+    let facts = facts_of(alloc, tree, steps)?;
     if is_discharged(status_by(&facts, sequent)) {
         return Ok(Some(facts));
     }
@@ -217,12 +221,13 @@ fn facts_if_good(
 }
 
 /// What is known of the tree, where it may be stored for the present sequent of a name, whose status this is. The tree is
-/// looked through once.
-pub fn facts_to_store(
+/// looked through at most once, which is a step of the counter.
+pub fn facts_to_store<L: Ledger>(
     alloc: Global,
     status: Option<Status>,
     obligation: Option<&Obligation>,
     tree: &Tree,
+    steps: &mut Steps<L>,
 ) -> Result<Option<Facts>, OutOfMemory>
     requires sequent { IfSome (option_copied obligation) (λ o. IsSequent o.sequent) }
     ensures facts { IfOk result (λ found. IfSome found (AreFactsOf tree.now)) }
@@ -230,6 +235,7 @@ pub fn facts_to_store(
         IsPresentStatus proofs name (option_map (λ o. o.sequent) (option_copied obligation.entry)) status →
         IfOk result (λ found.
         IsSome found ↔ CanStore proofs name (option_map (λ o. o.sequent) (option_copied obligation.entry)) tree.now) }
+    ensures step { steps.new ≤ steps.old + 1 }
 {
     let Some(obligation) = obligation else {
         return Ok(None);
@@ -240,5 +246,19 @@ pub fn facts_to_store(
     if !is_unsettled(status) {
         return Ok(None);
     }
-    facts_if_good(alloc, tree, &obligation.sequent)
+    facts_if_good(alloc, tree, &obligation.sequent, steps)
+}
+
+/// Whether the tree may be stored as a proof of the sequent. It is looked through, which is one step of the counter.
+pub fn is_good_proof<L: Ledger>(
+    alloc: Global,
+    tree: &Tree,
+    sequent: &Sequent,
+    steps: &mut Steps<L>,
+) -> Result<bool, OutOfMemory>
+    ensures good { IfOk result (λ good. IsTrue good ↔ IsGoodTree tree.now sequent.now) }
+    ensures step { steps.new ≡ steps.old + 1 }
+{
+    steps.tick();
+    is_good(tree, alloc, sequent)
 }

@@ -1,8 +1,8 @@
 use Rattle.core_steps.proofs.Known.{fits_some}
 use Rattle.core_steps.proofs.stored.facts_of.Goals as goal
 
-pub returns : goal.returns
-returns c = record {
+pub returns-clause-facts : goal.returns-clause-facts
+returns-clause-facts g c = record {
   deps = fits_some c.args.tree.now c.in_ok-deps.deps c.in_ok-deps.ensures.deps c.in_ok-deps.ensures.none;
   settled = c.settled.ensures;
 }

@@ -4,4 +4,4 @@ use Rattle.project_store.proofs.entering.enter_all.Given as goal
 
 -- what is left to enter ends at the same durable
 abbrev pub invariant-loop-entry : goal.invariant-loop-entry
-invariant-loop-entry l = after_all l.durable l.entry-iterator.rest.items ≡ after_all l.initial.durable l.fn.entries.items
+invariant-loop-entry g l = after_all l.durable l.entry-iterator.rest.items ≡ after_all l.initial.durable l.fn.entries.items

@@ -14,13 +14,13 @@ use Rattle.status_core.proofs.Ending.{result_as, noted_named, no_memory_named, f
 use Rattle.status_core.proofs.core_state.Core.finish_at.Goals as goal
 
 pub present_status-status-requires : goal.present_status-status-requires
-present_status-status-requires c = record { sequent = found_sequent _ _ (option_copied c.find-obligation.result) c.find-obligation.ensures }
+present_status-status-requires g c = record { sequent = found_sequent _ _ (option_copied c.find-obligation.result) c.find-obligation.ensures }
 
 pub found-requires-clause-sequent : goal.found-requires-clause-sequent
-found-requires-clause-sequent c = found_sequent _ _ (option_copied c.find-obligation.result) c.find-obligation.ensures
+found-requires-clause-sequent g c = found_sequent _ _ (option_copied c.find-obligation.result) c.find-obligation.ensures
 
-pub returns-in-NoProof : goal.returns-in-NoProof
-returns-in-NoProof c =
+pub returns-in-NoProof-clause-prepared : goal.returns-in-NoProof-clause-prepared
+returns-in-NoProof-clause-prepared g c =
     let s = c.args.self.now in
     let at = c.args.at in
     let found = option_copied c.find-obligation.result in
@@ -35,8 +35,8 @@ returns-in-NoProof c =
     (result_as s (EndsTicket (without_at s at) ticket sequent NoProof) _ c.try_in.result (noted_named (without_at s at) ticket sequent status c.in_ok-name.name c.in_ok-name.ensures shown)
     (c.try_in.ensures ticket some)))
 
-pub returns-in-NoMemory : goal.returns-in-NoMemory
-returns-in-NoMemory c =
+pub returns-in-NoMemory-clause-prepared : goal.returns-in-NoMemory-clause-prepared
+returns-in-NoMemory-clause-prepared g c =
     let s = c.args.self.now in
     let at = c.args.at in
     let found = option_copied c.find-obligation.result in
@@ -51,8 +51,8 @@ returns-in-NoMemory c =
     (result_as s (EndsTicket (without_at s at) ticket sequent NoMemory) _ c.try_in-in-NoMemory.result (no_memory_named (without_at s at) ticket sequent status c.in_ok-name.name c.in_ok-name.ensures shown)
     (c.try_in-in-NoMemory.ensures ticket some)))
 
-pub returns-in-Found : goal.returns-in-Found
-returns-in-Found c =
+pub returns-in-Found-clause-prepared : goal.returns-in-Found-clause-prepared
+returns-in-Found-clause-prepared g c =
     let s = c.args.self.now in
     let at = c.args.at in
     let found = option_copied c.find-obligation.result in
@@ -60,4 +60,4 @@ returns-in-Found c =
     let there = subst (λ (z : State). ticket ≡ get_or z.out at ticket) c.self.view_is c.index-ticket.ensures in
     let some = slice_get-get_or s.out at ticket c.requires.0 ∙ ap Some (sym there) in
     subst (λ (a : Attempt). IfOk c.found.result (λ p. Prepares s (Finish c.args.number a) p)) (sym c.in-Found.is)
-    (finish_result s c.args.number at ticket found (Found c.in-Found.tree) c.found.result c.find-obligation.ensures c.requires there (c.found.ensures ticket some))
+    (finish_result s c.args.number at ticket found (Found c.in-Found.tree) c.found.result c.find-obligation.ensures c.requires there (c.found.ensures.comes ticket some))

@@ -12,8 +12,8 @@ use Rattle.status_core.proofs.Finished.{same_ticket, ticket_there}
 use Rattle.status_core.proofs.Ending.{isnt, result_as, stored_named, stale_named, refused_named}
 use Rattle.status_core.proofs.core_state.Core.found.Goals as goal
 
-pub returns-in-Some : goal.returns-in-Some
-returns-in-Some c = λ ticket there.
+pub returns-in-Some-clause-comes : goal.returns-in-Some-clause-comes
+returns-in-Some-clause-comes g c = λ ticket there.
     let s = c.args.self.now in
     let at = c.args.at in
     let tree = c.args.tree.now in
@@ -23,8 +23,8 @@ returns-in-Some c = λ ticket there.
     let can = (c.in_ok-facts.ensures.can s.durable.proofs name c.requires.status).0 (ap is_some c.in-Some.is) in
     result_as s (EndsTicket (without_at s at) ticket sequent (Found tree)) _ c.store.result (stored_named (without_at s at) ticket sequent c.args.status tree name named can) c.store.ensures
 
-pub returns-then-branch : goal.returns-then-branch
-returns-then-branch c = λ ticket there.
+pub returns-then-branch-clause-comes : goal.returns-then-branch-clause-comes
+returns-then-branch-clause-comes g c = λ ticket there.
     let s = c.args.self.now in
     let at = c.args.at in
     let tree = c.args.tree.now in
@@ -34,13 +34,13 @@ returns-then-branch c = λ ticket there.
     let some = subst (λ (z : State). slice_get z.out at ≡ Some ticket) (sym c.self.view_is) there in
     let lt = subst (λ (z : State). at < length z.out) (sym c.self.view_is) c.requires.within in
     let same = same_ticket c.self.inside.out.items at c.index.result.now ticket lt c.index.ensures some in
-    let good = subst (λ (k : Ticket). IsGoodTree tree k.sequent) same (c.in_ok-is_good.ensures.good.0 c.if-branch.true) in
+    let good = subst (λ (k : Ticket). IsGoodTree tree k.sequent) same (c.in_ok-is_good_proof.ensures.good.0 c.if-branch.true) in
     let cannot = isnt (is_some c.in_ok-facts.field-0) (ap is_some c.in_default.is) (c.in_ok-facts.ensures.can s.durable.proofs name c.requires.status) in
     as_made s (EndsTicket (without_at s at) ticket sequent (Found tree)) c.take_in.result _ c.take_in.ensures
     (stale_named (without_at s at) ticket sequent c.args.status tree name named c.requires.status cannot good)
 
-pub returns : goal.returns
-returns c = λ ticket there.
+pub returns-clause-comes : goal.returns-clause-comes
+returns-clause-comes g c = λ ticket there.
     let s = c.args.self.now in
     let at = c.args.at in
     let tree = c.args.tree.now in
@@ -50,7 +50,7 @@ returns c = λ ticket there.
     let some = subst (λ (z : State). slice_get z.out at ≡ Some ticket) (sym c.self.view_is) there in
     let lt = subst (λ (z : State). at < length z.out) (sym c.self.view_is) c.requires.within in
     let same = same_ticket c.self.inside.out.items at c.index.result.now ticket lt c.index.ensures some in
-    let bad = λ (g : IsGoodTree tree ticket.sequent). isnt _ c.if-branch.false c.in_ok-is_good.ensures.good (subst (λ (k : Ticket). IsGoodTree tree k.sequent) (sym same) g) in
+    let bad = λ (g : IsGoodTree tree ticket.sequent). isnt _ c.if-branch.false c.in_ok-is_good_proof.ensures.good (subst (λ (k : Ticket). IsGoodTree tree k.sequent) (sym same) g) in
     let cannot = isnt (is_some c.in_ok-facts.field-0) (ap is_some c.in_default.is) (c.in_ok-facts.ensures.can s.durable.proofs name c.requires.status) in
     result_as s (EndsTicket (without_at s at) ticket sequent (Found tree)) _ c.try_in.result
     (refused_named (without_at s at) ticket sequent c.args.status tree name named c.requires.status cannot bad) (c.try_in.ensures ticket there)

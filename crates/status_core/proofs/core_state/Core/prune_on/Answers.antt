@@ -15,8 +15,8 @@ where_some : {X : Type 0} (o : Option X) (A K : Type 0) → (o ≡ None → ⊥)
 where_some None A K some k = absurd (some refl)
 where_some (Some x) A K some k = k
 
-pub returns-in-Ok : goal.returns-in-Ok
-returns-in-Ok c =
+pub returns-in-Ok-clause-comes : goal.returns-in-Ok-clause-comes
+returns-in-Ok-clause-comes g c =
     let s = c.args.self.now in
     let name = c.args.name.now in
     let sequent = c.args.sequent.now in
@@ -25,10 +25,10 @@ returns-in-Ok c =
     let some = subst (λ t. rule_at path t ≡ None → ⊥) is (λ none. let no = c.in-Ok.ensures.no_node.1 none in cc) in
     let put_is = c.in-Ok.ensures.put ∙ ap (λ t. put path Leaf t) is in
     if_ok _ _ _ (λ p m. so_made _ _ _ p (λ x y. where_some (rule_at path (stored_tree s.durable.proofs name)) (x ≡ told s NoNode)
-    (Keeps s name sequent (put path Leaf (stored_tree s.durable.proofs name)) x) some (subst (λ t. Keeps s name sequent t x) put_is y)) m) c.keep_tree.ensures
+    (Keeps s name sequent (put path Leaf (stored_tree s.durable.proofs name)) x) some (subst (λ t. Keeps s name sequent t x) put_is y)) m) c.keep_tree.ensures.comes
 
-pub returns-in-Err : goal.returns-in-Err
-returns-in-Err c =
+pub returns-in-Err-clause-comes : goal.returns-in-Err-clause-comes
+returns-in-Err-clause-comes g c =
     let s = c.args.self.now in
     let name = c.args.name.now in
     let path = c.args.path.now in
