@@ -105,7 +105,7 @@ pub enum Reply {
     Refused(PoName, Option<Status>),
     Stale(PoName, Option<Status>),
     /// How many proofs are gone.
-    Purged(u32),
+    Purged(u64),
     /// The status of each obligation, and who made its proof.
     Statuses(List<(PoName, Status, Option<Origin>)>),
     /// The faults, and the warnings: a machine, and an event of its abstraction that none of its events refines.

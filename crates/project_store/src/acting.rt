@@ -24,9 +24,6 @@ use std::alloc::Global;
 use std::sync::ledger::Ledger;
 use store_log::StoreFault;
 
-/// The fewest stored proofs of which a purge couldn't tell the number.
-const TOO_MANY_PROOFS: u64 = 1 << 32;
-
 // Puts the prepared entry on the disk, if there is one. All memory is taken before the first device call.
 fn record_prepared<D: Disk>(
     alloc: Global,
@@ -92,9 +89,6 @@ fn prepare<L: Ledger>(
         → HasFewSteps (map.entries core.old.durable.built) (map.entries core.old.durable.texts) steps.old steps.new }
     ensures steps { (event.now ≡ Event.Build → ⊥) → steps.new ≤ steps.old + 2 }
 {
-    if core.durable().proofs.len() as u64 >= TOO_MANY_PROOFS {
-        return Err(OutOfMemory);
-    }
     let prepared = core.prepare(event, steps)?;
     know(core, event, &prepared);
     Ok(prepared)

@@ -197,7 +197,7 @@ fn add_reply(alloc: Global, out: &mut String, reply: &Reply) -> Result<(), OutOf
         Reply::Stored(name, status) => add_finished(out, "stored", name, *status),
         Reply::Refused(name, status) => add_finished(out, "refused", name, *status),
         Reply::Stale(name, status) => add_finished(out, "stale", name, *status),
-        Reply::Purged(count) => add_counted(out, "purged ", *count as u64),
+        Reply::Purged(count) => add_counted(out, "purged ", *count),
         Reply::Statuses(shown) => add_statuses(out, shown.items()),
         Reply::Faults(told, warned) => add_all_faults(out, told.items(), warned.items()),
         Reply::Shown(name, status, sequent) => {

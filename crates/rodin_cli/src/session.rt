@@ -1,6 +1,5 @@
 // A core with the history of what it did.
 ghost use Rattle.std.specs.Prelude.{◌≡◌, ◌+◌, ◌<◌, ◌^◌, [], ◌∷◌, ◌++◌, None, IfOk, OnOk, OnErr, MatchOption, vec_len, vec_capacity};
-ghost use Rattle.std.specs.FinMap as map;
 ghost use Rattle.core_steps.specs.declared.Event.{Event};
 ghost use Rattle.core_steps.specs.declared.Reply.{Reply};
 ghost use Rattle.core_steps.specs.State.{opened, no_texts};
@@ -54,7 +53,6 @@ pub fn perform<L: Ledger>(
     steps: &mut Steps<L>,
 ) -> Result<Reply, OutOfMemory>
     requires number { IsTake event → session.old.core.next + 1 < 2 ^ 64 }
-    requires few { event ≡ Event.Purge → map.len session.old.core.durable.proofs < 2 ^ 32 }
     ensures done { IfOk result (λ reply. PerformsInSession session.old event reply session.new) }
     ensures err { OnErr result (IsUnchanged session.old session.new) }
 {

@@ -195,7 +195,7 @@ fn add_reply(out: &mut String, reply: &Reply) -> Result<(), AllocError> {
         Reply::Stored(name, status) => add_finished(out, "stored ", name, *status),
         Reply::Refused(name, status) => add_finished(out, "refused ", name, *status),
         Reply::Stale(name, status) => add_finished(out, "stale ", name, *status),
-        Reply::Purged(count) => add_counted(out, "purged ", *count as u64, ""),
+        Reply::Purged(count) => add_counted(out, "purged ", *count, ""),
         Reply::Statuses(statuses) => add_statuses(out, statuses.items()),
         Reply::Faults(faults, warnings) => add_faults(out, faults.items(), warnings.items()),
         Reply::Shown(name, status, sequent) => add_shown(out, name, *status, sequent),

@@ -1,5 +1,5 @@
 // Edits, deletes, builds and purges.
-ghost use Rattle.std.specs.Prelude.{◌≡◌, ◌<◌, ◌≤◌, ◌^◌, ◌+◌, ◌↔◌, List, length, IsTrue, IfOk, OnOk};
+ghost use Rattle.std.specs.Prelude.{◌≡◌, ◌≤◌, ◌↔◌, List, length, IsTrue, IfOk, OnOk};
 ghost use Rattle.std.specs.FinMap as map;
 ghost use Rattle.sequent_core.specs.declared.Obligation.{Obligation};
 ghost use Rattle.build_core.specs.Tables.{IsTableOf};
@@ -131,12 +131,11 @@ impl Core {
 
     /// What comes of a purge.
     pub(crate) fn prepare_purge(&self) -> Result<Prepared, OutOfMemory>
-        requires { map.len self.now.durable.proofs < 2 ^ 32 }
         ensures { IfOk result (λ p. Prepares self.now Event.Purge p) }
     {
         self.has_table();
         let names = names_lacking(self.alloc, &self.durable.proofs, &self.builder)?;
-        let reply = Reply::Purged(names.len() as u32);
+        let reply = Reply::Purged(names.len() as u64);
         Ok(Prepared::purging(self.alloc, reply, List::of(names)))
     }
 }

@@ -15,9 +15,6 @@ prepare_take_named-requires g c =
     let some_is = rw c.in-Take-Some.is at c.in-Take-Some.field-0-is in
     c.requires.number (Some c.in-Take-Some.name, c.in-Take-Some.is ∙ ap Take some_is)
 
-pub prepare_purge-requires : goal.prepare_purge-requires
-prepare_purge-requires g c = c.requires.few c.in-Purge.is
-
 pub returns-in-Edit-clause-prepared : goal.returns-in-Edit-clause-prepared
 returns-in-Edit-clause-prepared g c =
     subst (λ (e : Event). IfOk c.prepare_edit.result (λ p. Prepares c.args.self.now e p)) (sym c.in-Edit.is) c.prepare_edit.ensures
