@@ -1,5 +1,5 @@
 -- The verdict on each component of a project: the checked component, or its first fault.
-use Rattle.std.specs.Prelude.{◌≡◌, ◌<◌, ◌≤◌, ◌^◌, length, ℕ, zero, suc, Bool, true, false, List, [], ◌∷◌, ◌++◌, map, ◌⊎◌, if◌then◌else◌, Option, Some, None, Result, Ok, Err, MatchOption}
+use Rattle.std.specs.Prelude.{◌≡◌, ◌≤◌, length, ℕ, zero, suc, Bool, true, false, List, [], ◌∷◌, ◌++◌, map, ◌⊎◌, if◌then◌else◌, Option, Some, None, Result, Ok, Err, MatchOption}
 use Rattle.std.specs.Option.{option_to_list}
 use Rattle.std.specs.List.{Contains, AllZip, AllByRecursion, filter_map}
 use Rattle.std.specs.Map.{keys_of}
@@ -29,9 +29,9 @@ Reading = Result RawComponent Fault
 abbrev pub IsSmallList : Project → Type 0
 IsSmallList project = (length project ≤ 256) × AllByRecursion (λ entry. length entry.1 ≤ 65536) project
 
--- fewer than 2^32 components, whose texts have at most 65,536 bytes each
+-- texts of at most 65,536 bytes each
 abbrev pub IsBuildableList : Project → Type 0
-IsBuildableList project = (length project < 2 ^ 32) × AllByRecursion (λ entry. length entry.1 ≤ 65536) project
+IsBuildableList project = AllByRecursion (λ entry. length entry.1 ≤ 65536) project
 
 abbrev pub has_text : Project → List ℕ → Bool
 has_text project name = is_among (keys_of project) name

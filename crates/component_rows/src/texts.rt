@@ -28,9 +28,6 @@ pub fn add_texts(alloc: Global, text: &str, texts: &mut BTreeMap<Name, Text>) ->
 pub fn are_buildable(texts: &BTreeMap<Name, Text>) -> bool
     ensures { IsTrue result → IsBuildableList texts.now.entries }
 {
-    if texts.len() > MOST {
-        return false;
-    }
     for (_, text) in texts {
         if text.as_text().len() > LONGEST {
             return false;

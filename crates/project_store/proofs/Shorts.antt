@@ -1,5 +1,5 @@
 -- Texts that entries put are short, and so are those of the project that they lead to.
-use Rattle.std.proofs.Common.{◌≡◌, ◌∙◌, sym, ap, subst, refl, ⊎_elim, ℕ, ◌<◌, ◌≤◌, ◌^◌, Bool, true, false, not, cond, T, List, [], ◌∷◌, length, None, arith}
+use Rattle.std.proofs.Common.{◌≡◌, ◌∙◌, sym, ap, subst, refl, ⊎_elim, ℕ, ◌≤◌, Bool, true, false, not, cond, T, List, [], ◌∷◌, length, None, arith}
 use Rattle.std.specs.List.{AllByRecursion}
 use Rattle.std.specs.Ordering.{eq_by_cmp, is_eq}
 use Rattle.std.specs.declared.cmp.Ordering.TheVariants.{Less, Equal, Greater}
@@ -132,8 +132,8 @@ nothing_small = omega (arith, len-empty text_cmp (List ℕ))
 pub small_project : (d : Durable) → IsSmall d → HasShortTexts d → IsSmallProject d.texts
 small_project d small s = (omega (arith, small, len-entries d.texts), s.texts)
 
-pub buildable : (d : Durable) → len d.built < 2 ^ 32 → HasShortTexts d → IsBuildable d.built
-buildable d few s = (omega (arith, few, len-entries d.built), s.built)
+pub buildable : (d : Durable) → HasShortTexts d → IsBuildable d.built
+buildable d s = s.built
 
 pub led_too_far : (bodies : List (List ℕ)) (d : Durable) (n : ℕ) → Leads no_texts bodies d → AllByRecursion IsSingle bodies → IsTooLarge d.built n → LeadsTooFar bodies n
 led_too_far bodies d n leads single full = record { durable = d; leads = leads; single = single; full = full }

@@ -28,9 +28,6 @@ use std::sync::ledger::{Blank, Ledger};
 /// The most texts of a project.
 const MOST_TEXTS: usize = 256;
 
-/// The fewest built texts that aren't a project to build.
-const TOO_MANY_TEXTS: u64 = 1 << 32;
-
 /// The core that these records lead to from nothing.
 #[tactic(auto, using(crate::proofs::Shorts::small_project, crate::proofs::Shorts::buildable, crate::proofs::Shorts::led_too_far, crate::proofs::Shorts::stop_of_core))]
 pub(crate) fn open_core<L: Ledger>(
@@ -52,9 +49,6 @@ pub(crate) fn open_core<L: Ledger>(
         Ok(durable) => durable,
         Err(fault) => return Err(fault),
     };
-    if durable.built.len() as u64 >= TOO_MANY_TEXTS {
-        return Err(OpenFault::OutOfMemory);
-    }
     match Core::start(alloc, durable, steps) {
         Ok(core) => Ok(core),
         Err(BuildFault::TableFull(n)) => Err(OpenFault::TableFull(n)),

@@ -33,7 +33,7 @@ use Rattle.rodin_cli.proofs.Sessions.{Run-split, comes}
 
 -- the empty project may be built
 pub empty_buildable : IsBuildable (empty {X = List ℕ} {R = text_cmp})
-empty_buildable = rw (entries-empty {X = List ℕ}) (omega arith, tt)
+empty_buildable = rw (entries-empty {X = List ℕ}) tt
 
 -- ---- edits
 edited_to : (s : State) (x : StepOutcome) (name text : List ℕ) → Edits s name text x → is_identifier name ≡ true → length text ≤ 65536 → len s.durable.texts < 256 →

@@ -8,7 +8,7 @@ use Rattle.core_steps.specs.State.{State}
 
 -- a copy of a small project may be built
 pub buildable : (project copy : ProjectMap) (es : Project) → IsSmallProject project → copy ≡ project → entries copy ≡ es → IsBuildableList es
-buildable project copy es small is listed = subst IsBuildableList (sym (ap entries is) ∙ listed) (omega (arith, small.0), small.1)
+buildable project copy es small is listed = subst IsBuildableList (sym (ap entries is) ∙ listed) small.1
 
 -- the steps of a build are few beside the built texts and the present ones
 pub few_steps : (s : State) (before new : Project) (a b : ℕ) → before ≡ entries s.durable.built → new ≡ entries s.durable.texts → HasFewSteps before new a b →

@@ -36,4 +36,4 @@ table_within table within = omega (arith, length_within table, within)
 
 -- the empty project may be built
 pub empty_buildable : IsBuildable (empty {X = List ℕ} {R = text_cmp})
-empty_buildable = rw (entries-empty {X = List ℕ}) (omega arith, tt)
+empty_buildable = rw (entries-empty {X = List ℕ}) tt
