@@ -1,5 +1,5 @@
 // When trees apply to a sequent, and when they derive it.
-ghost use Rattle.std.specs.Prelude.{◌≡◌, ◌↔◌, ◌+◌, IsTrue, IfOk, None, Contains, IfSome};
+ghost use Rattle.std.specs.Prelude.{◌≡◌, ◌↔◌, IsTrue, IfOk, None, Contains, IfSome};
 ghost use Rattle.std.specs.List.{AllByRecursion};
 ghost use Rattle.formula_core.specs.Env.{type_in};
 ghost use Rattle.formula_core.specs.Typed.{Stands};
@@ -9,28 +9,13 @@ ghost use Rattle.sequent_core.specs.Trees.{Applies, Derives, IsFresh, Meets, ext
 ghost use Rattle.proof_tree.specs.Ways.{antecedents_of};
 
 use crate::way::Way;
-use formula_core::{Formula, Name, OutOfMemory, Steps, Ty};
+use formula_core::{Formula, Name, OutOfMemory, Ty};
 use rule_kernel::is_rule;
 use sequent_core::{Antecedent, Rule, Sequent, Tree};
 use std::alloc::Global;
-use std::sync::ledger::Ledger;
 
 /// The most nodes of a tree that may be stored.
 const MOST_NODES: u64 = 2048;
-
-/// Whether the tree applies to the sequent.
-pub fn applies<L: Ledger>(
-    tree: &Tree,
-    alloc: Global,
-    sequent: &Sequent,
-    steps: &mut Steps<L>,
-) -> Result<bool, OutOfMemory>
-    ensures applies { IfOk result (λ applies. IsTrue applies ↔ Applies tree.now sequent.now) }
-    ensures step { steps.new ≡ steps.old + 1 }
-{
-    steps.tick();
-    applies_to(tree, alloc, sequent)
-}
 
 /// Whether the tree derives the sequent.
 pub fn derives(tree: &Tree, alloc: Global, sequent: &Sequent) -> Result<bool, OutOfMemory>
@@ -52,7 +37,7 @@ pub fn is_good(tree: &Tree, alloc: Global, sequent: &Sequent) -> Result<bool, Ou
     derives(tree, alloc, sequent)
 }
 
-/// Whether the tree applies to the sequent. No step is counted.
+/// Whether the tree applies to the sequent.
 pub fn applies_to(tree: &Tree, alloc: Global, sequent: &Sequent) -> Result<bool, OutOfMemory>
     ensures applies { IfOk result (λ applies. IsTrue applies ↔ Applies tree.now sequent.now) }
 {

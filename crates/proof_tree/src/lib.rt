@@ -6,6 +6,6 @@ mod fits;
 mod hyp;
 mod way;
 
-pub use applying::{applies, applies_to, derives, is_good};
+pub use applying::{applies_to, derives, is_good};
 pub use hyp::hypothesis;
 pub use way::Way;
