@@ -9,6 +9,7 @@ use Rattle.sequent_core.specs.declared.Ticket.{Ticket}
 use Rattle.sequent_core.specs.declared.Attempt.{Attempt}
 use Rattle.sequent_core.specs.declared.Attempt.TheVariants.{Found, NoProof, NoMemory as AttemptNoMemory}
 use Rattle.build_core.specs.declared.FaultLine.{FaultLine}
+use Rattle.build_core.specs.Tables.{IsTooLargeOf, counted_nodes}
 use Rattle.proof_entries.specs.declared.Origin.{Origin}
 use Rattle.proof_entries.specs.declared.Entry.TheVariants.{Put}
 use Rattle.core_steps.specs.declared.Status.{Status}
@@ -17,6 +18,7 @@ use Rattle.core_steps.specs.declared.Question.TheVariants.{Statuses as AskStatus
 use Rattle.core_steps.specs.declared.Reply.TheVariants.{TableFull, Built}
 use Rattle.core_steps.specs.Durable.{ProjectMap, text_cmp, IsBuildable}
 use Rattle.core_steps.specs.State.{State, entered, opened, no_texts}
+use Rattle.core_steps.specs.Table.{IsTooLarge}
 use Rattle.core_steps.specs.Outcomes.{StepOutcome}
 use Rattle.core_steps.specs.Editing.{Edits, bad_name, text_too_long, project_full, edited, Builds}
 use Rattle.core_steps.specs.Tickets.{EndsTicket}
@@ -34,6 +36,15 @@ use Rattle.rodin_cli.proofs.Sessions.{Run-split, comes}
 -- the empty project may be built
 pub empty_buildable : IsBuildable (empty {X = List ℕ} {R = text_cmp})
 empty_buildable = rw (entries-empty {X = List ℕ}) tt
+
+-- and its table isn't too large
+none_too_large : (n : ℕ) → IsTooLargeOf [] n → ⊥
+none_too_large n large =
+    let none : n ≡ 0 = subst (λ table. n ≡ counted_nodes table) large.1 large.3 in
+    omega (arith, large.2, none)
+
+pub empty_fits : (n : ℕ) → IsTooLarge (empty {X = List ℕ} {R = text_cmp}) n → ⊥
+empty_fits n large = none_too_large n (subst (λ es. IsTooLargeOf es n) (entries-empty {X = List ℕ}) large)
 
 -- ---- edits
 edited_to : (s : State) (x : StepOutcome) (name text : List ℕ) → Edits s name text x → is_identifier name ≡ true → length text ≤ 65536 → len s.durable.texts < 256 →

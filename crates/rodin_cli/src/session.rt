@@ -7,7 +7,7 @@ ghost use Rattle.core_steps.specs.Step.{IsTake, take_reply};
 ghost use Rattle.sequent_core.specs.declared.Ticket.{Ticket};
 ghost use Rattle.rodin_cli.specs.PrivateSession.{PerformsInSession, IsUnchanged};
 
-use core_steps::{Durable, Event, Reply};
+use core_steps::{BuildFault, Durable, Event, Reply};
 use formula_core::{OutOfMemory, Steps};
 use sequent_core::{Attempt, Ticket};
 use status_core::Core;
@@ -31,7 +31,8 @@ pub fn start<L: Ledger>(alloc: Global, steps: &mut Steps<L>) -> Result<Session, 
             core,
             history: Vec::new(alloc),
         }),
-        Err(_) => Err(OutOfMemory),
+        Err(BuildFault::OutOfMemory) => Err(OutOfMemory),
+        Err(BuildFault::TableFull(_)) => unreachable!(),
     }
 }
 
