@@ -87,7 +87,7 @@ impl Formula {
     {
         let mut out = Vec::with_capacity(alloc, 1)?;
         self.copy_onto(alloc, &mut out)?;
-        only_of(out)
+        Ok(only_of(out))
     }
 
     /// Adds a copy at the end of a list. The lists in it have no room for more.
@@ -210,13 +210,14 @@ pub(crate) fn add_binder(
 }
 
 /// The formula of a list of one.
-pub(crate) fn only_of(made: Vec<Formula>) -> Result<Formula, OutOfMemory>
-    ensures { (f : Formula) → made.items ≡ f ∷ [] → IfOk result (λ g. g ≡ f) }
+pub(crate) fn only_of(made: Vec<Formula>) -> Formula
+    requires { length made.items ≡ 1 }
+    ensures { (f : Formula) → made.items ≡ f ∷ [] → result ≡ f }
 {
     let mut made = made;
     match made.pop() {
-        Some(f) => Ok(f),
-        None => Err(OutOfMemory),
+        Some(f) => f,
+        None => unreachable!(),
     }
 }
 
@@ -247,7 +248,7 @@ impl Formula {
     {
         let mut out = Vec::new(alloc);
         self.substitute_onto(alloc, pairs, &mut out)?;
-        only_of(out)
+        Ok(only_of(out))
     }
 
     #[cycle(substitute)]
@@ -328,7 +329,7 @@ impl Formula {
     {
         let mut out = Vec::new(alloc);
         self.instantiate_onto(alloc, terms, 0, &mut out)?;
-        only_of(out)
+        Ok(only_of(out))
     }
 
     /// The body of a quantifier.

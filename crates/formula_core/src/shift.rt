@@ -29,7 +29,7 @@ impl Formula {
     {
         let mut out = Vec::new(alloc);
         self.shift_onto(alloc, by, depth as u64, &mut out)?;
-        only_of(out)
+        Ok(only_of(out))
     }
 
     #[cycle(shift)]
@@ -129,7 +129,7 @@ impl Formula {
     {
         let mut out = Vec::new(alloc);
         self.bind_onto(alloc, identifiers, 0, &mut out)?;
-        only_of(out)
+        Ok(only_of(out))
     }
 
     #[cycle(bind)]

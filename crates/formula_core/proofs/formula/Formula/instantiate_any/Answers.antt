@@ -1,4 +1,4 @@
-use Rattle.std.proofs.Common.{◌∙◌, ap, refl, [], ◌∷◌, ◌++◌}
+use Rattle.std.proofs.Common.{◌∙◌, ap, refl, [], ◌∷◌, ◌++◌, length}
 use Rattle.formula_core.specs.Formulas.{instantiated}
 use Rattle.formula_core.proofs.formula.Formula.instantiate_any.Goals as goal
 
@@ -6,3 +6,8 @@ pub returns : goal.returns
 returns c =
     let made = instantiated c.args.terms.now 0 c.args.self.now in
     c.only_of.ensures made (c.in_ok-instantiate_onto.ensures 0 refl ∙ ap (λ before. before ++ made ∷ []) c.new-out.ensures.items)
+
+pub only_of-requires : goal.only_of-requires
+only_of-requires c =
+    let made = instantiated c.args.terms.now 0 c.args.self.now in
+    ap length (c.in_ok-instantiate_onto.ensures 0 refl ∙ ap (λ before. before ++ made ∷ []) c.new-out.ensures.items)
