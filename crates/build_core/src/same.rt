@@ -3,7 +3,7 @@
 ghost use Rattle.std.specs.Prelude.{◌≡◌, ◌↔◌, IsTrue};
 
 use formula_core::{Action, Formula, Label, Name, same_identifiers};
-use model_core::{Checked, CheckedContext, CheckedEvent, CheckedMachine, Labelled};
+use model_core::{Checked, CheckedContext, CheckedEvent, CheckedMachine, Labelled, Shared};
 
 /// What stands in lists of a checked component.
 trait Same {
@@ -17,11 +17,17 @@ impl Same for Name {
     }
 }
 
+impl Same for Shared<Name> {
+    fn is_same(&self, other: &Shared<Name>) -> bool {
+        self.get().same(other.get())
+    }
+}
+
 impl Same for Labelled {
     fn is_same(&self, other: &Labelled) -> bool {
-        self.label.same(&other.label)
+        self.label.get().same(other.label.get())
             && self.theorem == other.theorem
-            && self.formula.same(&other.formula)
+            && self.formula.get().same(other.formula.get())
     }
 }
 

@@ -25,7 +25,7 @@ use crate::typing::{add_in_order, first_never_typed, type_all};
 use crate::visible::{Placed, View, add_referenced, nothing_seen};
 use formula_core::{Env, List, Name, OutOfMemory, Ref, Ty};
 use model_core::{
-    Checked, CheckedContext, Fault, FaultKind, Labelled, RawComponent, RawLabelled, earlier,
+    Checked, CheckedContext, Fault, FaultKind, Labelled, RawComponent, RawLabelled, Shared, earlier,
 };
 use std::alloc::Global;
 use std::collections::BTreeSet;
@@ -130,7 +130,7 @@ fn checked_env_of(
     name: &Name,
     sets: &[Ref],
     declared: &[Ref],
-) -> Result<List<Name>, OutOfMemory>
+) -> Result<List<Shared<Name>>, OutOfMemory>
     ensures { IfOk result (λ all.
         all ≡ origins (map placed constants.now) ++ map (λ r. name.now) (sets.now ++ declared.now)) }
 {
@@ -145,7 +145,7 @@ fn checked_axioms_of(
     axioms: &[Placed<'_, Labelled>],
     name: &Name,
     own: &[Labelled],
-) -> Result<List<Name>, OutOfMemory>
+) -> Result<List<Shared<Name>>, OutOfMemory>
     ensures { IfOk result (λ all. all ≡ origins (map placed axioms.now) ++ map (λ l. name.now) own.now) }
 {
     let mut names = copy_origins(alloc, axioms)?;
@@ -178,9 +178,9 @@ fn of_parts(
     name: Name,
     ancestors: List<Name>,
     env: Env,
-    env_of: List<Name>,
+    env_of: List<Shared<Name>>,
     axioms: List<Labelled>,
-    axioms_of: List<Name>,
+    axioms_of: List<Shared<Name>>,
     own_from: u32,
 ) -> CheckedContext
     ensures { result ≡ record {

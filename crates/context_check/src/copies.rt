@@ -7,7 +7,7 @@ ghost use Rattle.context_check.specs.Views.{placed};
 
 use crate::visible::Placed;
 use formula_core::{Boxed, Env, Name, OutOfMemory, Ref, Ty};
-use model_core::Labelled;
+use model_core::{Labelled, Shared};
 use std::alloc::Global;
 
 /// The names of references.
@@ -32,12 +32,15 @@ pub(crate) fn copy_names(alloc: Global, names: &[&Name]) -> Result<Vec<Name>, Ou
 }
 
 /// The components in which the parts stand.
-pub fn copy_origins<T>(alloc: Global, parts: &[Placed<'_, T>]) -> Result<Vec<Name>, OutOfMemory>
+pub fn copy_origins<T>(
+    alloc: Global,
+    parts: &[Placed<'_, T>],
+) -> Result<Vec<Shared<Name>>, OutOfMemory>
     ensures { IfOk result (λ copies. copies.items ≡ origins (map placed parts.now)) }
 {
     let mut copies = Vec::new(alloc);
     for part in parts {
-        copies.push(part.1.copy(alloc)?)?;
+        copies.push(part.1.share()?)?;
     }
     Ok(copies)
 }
@@ -55,13 +58,13 @@ pub fn copy_entries(
     Ok(copies)
 }
 
-pub fn copy_labelled(alloc: Global, labelled: &Labelled) -> Result<Labelled, OutOfMemory>
+pub fn copy_labelled(labelled: &Labelled) -> Result<Labelled, OutOfMemory>
     ensures { IfOk result (λ copy. copy ≡ labelled.now) }
 {
     Ok(Labelled {
-        label: labelled.label.copy(alloc)?,
+        label: labelled.label.share()?,
         theorem: labelled.theorem,
-        formula: labelled.formula.copy(alloc)?,
+        formula: labelled.formula.share()?,
     })
 }
 
@@ -74,7 +77,7 @@ pub fn copy_formulas(
 {
     let mut copies = Vec::new(alloc);
     for part in parts {
-        copies.push(copy_labelled(alloc, part.0)?)?;
+        copies.push(copy_labelled(part.0)?)?;
     }
     Ok(copies)
 }
@@ -82,14 +85,15 @@ pub fn copy_formulas(
 /// Adds the name as often as there are items.
 pub fn add_for_each<T>(
     alloc: Global,
-    names: &mut Vec<Name>,
+    names: &mut Vec<Shared<Name>>,
     name: &Name,
     items: &[T],
 ) -> Result<(), OutOfMemory>
     ensures { OnOk result (names.new.items ≡ names.old.items ++ map (λ x. name.now) items.now) }
 {
+    let origin = Shared::new(alloc, name.copy(alloc)?)?;
     for _item in items {
-        names.push(name.copy(alloc)?)?;
+        names.push(origin.share()?)?;
     }
     Ok(())
 }

@@ -12,7 +12,9 @@ ghost use Rattle.context_check.specs.Typings.{AreTypedSoFar, AreTypedStepsSoFar}
 ghost use Rattle.context_check.specs.Private.{IsCollected, IsToldBy, IsTypedFormula, IsTypedStep};
 
 use formula_core::{Action, Env, Formula, Label, Name, OutOfMemory, RawAction, Ref, Ty};
-use model_core::{Fault, FaultKind, Labelled, RawLabelled, RawStep, RawVariant, earlier, fault_at};
+use model_core::{
+    Fault, FaultKind, Labelled, RawLabelled, RawStep, RawVariant, Shared, earlier, fault_at,
+};
 use std::alloc::Global;
 use type_action::type_action;
 use type_formula::{TypeFault, type_expression, type_predicate};
@@ -51,9 +53,9 @@ fn labelled_of(
     ensures { IfOk result (λ labelled. labelled ≡ labelled_of written.now formula) }
 {
     Ok(Labelled {
-        label: written.label.copy(alloc)?,
+        label: Shared::new(alloc, written.label.copy(alloc)?)?,
         theorem: written.theorem,
-        formula,
+        formula: Shared::new(alloc, formula)?,
     })
 }
 

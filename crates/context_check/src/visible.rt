@@ -19,12 +19,12 @@ ghost use Rattle.context_check.specs.Brought.{clash_in};
 use crate::brought::{add_once, clash_of, nothing_brought};
 use crate::declarations::{Texts, has, put};
 use formula_core::{Name, OutOfMemory, Ref, Ty};
-use model_core::{CheckedContext, Fault, FaultKind, Labelled, earlier, fault_at};
+use model_core::{CheckedContext, Fault, FaultKind, Labelled, Shared, earlier, fault_at};
 use std::alloc::Global;
 use std::collections::{BTreeMap, BTreeSet};
 
 /// A part of a component, with the component's name.
-pub type Placed<'a, T> = (&'a T, &'a Name);
+pub type Placed<'a, T> = (&'a T, &'a Shared<Name>);
 
 /// The components in which a name stands.
 #[derive(Clone, Copy)]
@@ -54,7 +54,7 @@ pub struct View<'a> {
 fn add_pair<'a, T>(
     pairs: &mut Vec<Placed<'a, T>>,
     part: Option<&'a T>,
-    origin: &'a Name,
+    origin: &'a Shared<Name>,
 ) -> Result<(), OutOfMemory>
     ensures { OnOk result (map placed pairs.new.items ≡ map placed pairs.old.items
         ++ option_to_list (option_map (λ x. (x, origin.entry.now)) (option_copied part.entry))) }
@@ -69,7 +69,7 @@ fn add_pair<'a, T>(
 pub fn pairs<'a, T>(
     alloc: Global,
     parts: &'a [T],
-    origins: &'a [Name],
+    origins: &'a [Shared<Name>],
 ) -> Result<Vec<Placed<'a, T>>, OutOfMemory>
     ensures { IfOk result (λ pairs. map placed pairs.items ≡ zip parts.entry.now origins.entry.now) }
 {
@@ -88,7 +88,7 @@ fn add_fresh<'a, T>(
     ensures { OnOk result (map placed fresh.new.items ≡ map placed fresh.old.items
         ++ filter (λ x. not (has known.now x.1)) (placed pair.now ∷ [])) }
 {
-    if !has(known, pair.1.as_text()) {
+    if !has(known, pair.1.get().as_text()) {
         fresh.push(*pair)?;
     }
     Ok(())
@@ -118,7 +118,7 @@ fn push_part<'a, T>(
     ensures parts { OnOk result (map placed parts.new.items ≡ map placed parts.old.items ++ placed pair.now ∷ []) }
     ensures known { OnOk result ((x : List ℕ) → has known.new x ≡ (has known.old x || bytes_eq x pair.now.1.now)) }
 {
-    put(known, pair.1.as_text())?;
+    put(known, pair.1.get().as_text())?;
     parts.push(*pair)?;
     Ok(())
 }
@@ -228,7 +228,7 @@ pub fn note_all<'a>(
         → clashes names.new x o ≡ (clashes names.old x o || clashes_with (map placed pairs.now) x o)) }
 {
     for pair in pairs {
-        note(names, &pair.0.0, pair.1)?;
+        note(names, &pair.0.0, pair.1.get())?;
     }
     Ok(())
 }
@@ -239,7 +239,7 @@ fn add_new<'a, T>(
     parts: &mut Vec<Placed<'a, T>>,
     known: &mut Texts<'a>,
     more: &'a [T],
-    components: &'a [Name],
+    components: &'a [Shared<Name>],
 ) -> Result<Vec<Placed<'a, T>>, OutOfMemory>
     requires { (x : List ℕ) → has known.now x ≡ is_among (origins (map placed parts.now.items)) x }
     ensures parts { OnOk result
@@ -335,7 +335,7 @@ fn is_clash(names: &Origins<'_>, pair: &Placed<'_, (Name, Ty)>) -> bool
     match names.get(pair.0.0.as_text()) {
         None => false,
         Some(Origin::Several) => true,
-        Some(Origin::One(name)) => !pair.1.same(name),
+        Some(Origin::One(name)) => !pair.1.get().same(name),
     }
 }
 

@@ -137,7 +137,7 @@ fn add_formula_labels<'a>(
         ≡ (has texts.old x || list_any (λ l. bytes_eq x l.label) labelled.entry.now)) }
 {
     for one in labelled {
-        put(texts, one.label.as_text())?;
+        put(texts, one.label.get().as_text())?;
     }
     Ok(())
 }

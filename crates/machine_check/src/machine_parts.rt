@@ -27,7 +27,7 @@ use context_check::declarations::{Texts, has};
 use context_check::typing::add_typed;
 use context_check::visible::{Placed, View};
 use formula_core::{Env, Formula, List, Name, OutOfMemory, Ref, Ty};
-use model_core::{CheckedEvent, CheckedMachine, Labelled};
+use model_core::{CheckedEvent, CheckedMachine, Labelled, Shared};
 use std::alloc::Global;
 use std::collections::BTreeSet;
 
@@ -217,7 +217,7 @@ fn checked_env_of(
     view: &View<'_>,
     component: &Name,
     new: &[Name],
-) -> Result<List<Name>, OutOfMemory>
+) -> Result<List<Shared<Name>>, OutOfMemory>
     ensures { IfOk result (λ all. all ≡ origins (visible view.now).constants ++ origins (visible view.now).variables
         ++ map (λ n. component.now) new.now) }
 {

@@ -30,7 +30,7 @@ fn copy_all_labelled(alloc: Global, items: &[Labelled]) -> Result<Vec<Labelled>,
 {
     let mut copies = Vec::new(alloc);
     for item in items {
-        copies.push(copy_labelled(alloc, item)?)?;
+        copies.push(copy_labelled(item)?)?;
     }
     Ok(copies)
 }
@@ -85,10 +85,9 @@ fn add_witness(
 ) -> Result<(), OutOfMemory>
     ensures { OnOk result (found.new.items ≡ found.old.items ++ witnesses_of (witness ∷ [])) }
 {
-    let Labelled { label, formula, .. } = witness;
-    match Name::read(alloc, label.as_text()) {
+    match Name::read(alloc, witness.label.get().as_text()) {
         Ok(name) => {
-            found.push((name, formula))?;
+            found.push((name, witness.formula.get().copy(alloc)?))?;
             Ok(())
         }
         Err(NameFault::BadName) => Ok(()),

@@ -1,14 +1,15 @@
 //! Components without fault.
 
 use crate::component::Convergence;
+use crate::shared::Shared;
 use formula_core::{Action, Env, Formula, Label, List, Name, Ty};
 
-/// A labelled formula.
+/// A labelled formula. Those who inherit it share it.
 #[derive(Drop)]
 pub struct Labelled {
-    pub label: Label,
+    pub label: Shared<Label>,
     pub theorem: bool,
-    pub formula: Formula,
+    pub formula: Shared<Formula>,
 }
 
 /// A context without fault. Inherited axioms stand first.
@@ -17,9 +18,9 @@ pub struct CheckedContext {
     pub name: Name,
     pub ancestors: List<Name>,
     pub env: Env,
-    pub env_of: List<Name>,
+    pub env_of: List<Shared<Name>>,
     pub axioms: List<Labelled>,
-    pub axioms_of: List<Name>,
+    pub axioms_of: List<Shared<Name>>,
     pub own_from: u32,
 }
 
@@ -43,11 +44,11 @@ pub struct CheckedMachine {
     pub name: Name,
     pub abstraction: Option<Name>,
     pub env: Env,
-    pub env_of: List<Name>,
+    pub env_of: List<Shared<Name>>,
     /// How many carrier sets and constants `env` has.
     pub variables_from: u32,
     pub axioms: List<Labelled>,
-    pub axioms_of: List<Name>,
+    pub axioms_of: List<Shared<Name>>,
     pub invariants: List<Labelled>,
     pub own_from: u32,
     pub variables: List<Name>,

@@ -4,7 +4,9 @@
 mod checked;
 mod component;
 mod fault;
+mod shared;
 
 pub use checked::{Checked, CheckedContext, CheckedEvent, CheckedMachine, Labelled};
 pub use component::{Convergence, RawComponent, RawEvent, RawLabelled, RawStep, RawVariant};
 pub use fault::{Fault, FaultKind, earlier, fault_at};
+pub use shared::Shared;

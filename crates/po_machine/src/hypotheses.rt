@@ -23,7 +23,7 @@ pub(crate) fn add_labelled<'a>(
     ensures { OnOk result (referenced found.new.items ≡ referenced found.old.items ++ formulas labelled.entry.now) }
 {
     for one in labelled {
-        found.push(&one.formula)?;
+        found.push(one.formula.get())?;
     }
     Ok(())
 }

@@ -52,7 +52,7 @@ fn is_to_keep(
     if initialises(event) {
         return Ok(true);
     }
-    has_changed(alloc, changed, &invariant.formula)
+    has_changed(alloc, changed, invariant.formula.get())
 }
 
 /// Adds that the event keeps the invariant.
@@ -73,8 +73,15 @@ fn add_invariant_row(
     if !is_to_keep(alloc, parts.event, changed, invariant)? {
         return Ok(());
     }
-    let goal = invariant.formula.substitute_any(alloc, &parts.after)?;
-    add_from_witnesses(alloc, out, parts, label_part(&invariant.label), "INV", goal)
+    let goal = invariant.formula.get().substitute_any(alloc, &parts.after)?;
+    add_from_witnesses(
+        alloc,
+        out,
+        parts,
+        label_part(invariant.label.get()),
+        "INV",
+        goal,
+    )
 }
 
 /// Adds invariant preservation: of each own invariant that the event may change, and for INITIALISATION of each.

@@ -92,8 +92,8 @@ fn add_theorem(
     if !labelled.theorem {
         return Ok(());
     }
-    let goal = labelled.formula.copy(alloc)?;
-    add_at(alloc, out, site, hyps, &labelled.label, "THM", goal)
+    let goal = labelled.formula.get().copy(alloc)?;
+    add_at(alloc, out, site, hyps, labelled.label.get(), "THM", goal)
 }
 
 /// Adds that a labelled formula has a value and, where it is a theorem, that it holds.
@@ -110,8 +110,8 @@ fn add_row(
     if is_full(out) {
         return Ok(());
     }
-    let goal = wd(alloc, &labelled.formula)?;
-    add_at(alloc, out, site, hyps, &labelled.label, "WD", goal)?;
+    let goal = wd(alloc, labelled.formula.get())?;
+    add_at(alloc, out, site, hyps, labelled.label.get(), "WD", goal)?;
     add_theorem(alloc, out, site, hyps, labelled)
 }
 
@@ -129,7 +129,7 @@ fn add_rows<'a>(
     let mut hyps = hyps;
     for labelled in own {
         add_row(alloc, out, site, &hyps, labelled)?;
-        hyps.push(&labelled.formula)?;
+        hyps.push(labelled.formula.get())?;
     }
     Ok(())
 }

@@ -20,7 +20,7 @@ fn conditions_of(alloc: Global, guards: &[Labelled]) -> Result<Vec<Formula>, Out
     let mut conditions = Vec::new(alloc);
     for guard in guards {
         if !guard.theorem {
-            conditions.push(guard.formula.copy(alloc)?)?;
+            conditions.push(guard.formula.get().copy(alloc)?)?;
         }
     }
     Ok(conditions)

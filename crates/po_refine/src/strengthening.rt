@@ -27,8 +27,15 @@ fn add_strengthening_row(
     if guard.theorem {
         return Ok(());
     }
-    let goal = guard.formula.copy(alloc)?;
-    add_from_witnesses(alloc, out, parts, label_part(&guard.label), "GRD", goal)
+    let goal = guard.formula.get().copy(alloc)?;
+    add_from_witnesses(
+        alloc,
+        out,
+        parts,
+        label_part(guard.label.get()),
+        "GRD",
+        goal,
+    )
 }
 
 fn add_each_guard(

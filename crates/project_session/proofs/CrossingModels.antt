@@ -33,6 +33,8 @@ use Rattle.model_core.specs.contracts.component.RawStep as RawStep
 use Rattle.model_core.specs.contracts.component.RawEvent as RawEvent
 use Rattle.model_core.specs.contracts.component.RawComponent as RawComponent
 use Rattle.model_core.specs.contracts.checked.Labelled as Labelled
+use Rattle.model_core.specs.contracts.shared.Shared.TheInside as SharedInside
+use Rattle.model_core.specs.contracts.shared.Shared as Shared
 use Rattle.model_core.specs.contracts.checked.CheckedContext as CheckedContext
 use Rattle.model_core.specs.contracts.checked.CheckedEvent as CheckedEvent
 use Rattle.model_core.specs.contracts.checked.CheckedMachine as CheckedMachine
@@ -116,14 +118,23 @@ raw_component = enum_crosses RawComponent.enum (
   ),
 )
 
+shared_parts : (R : RattleType) → Crosses R → Crosses (SharedInside.the_row R)
+shared_parts R s = struct_crosses (SharedInside.the_type R) (arc_crosses R s, tt)
+
+shared : (R : RattleType) → Crosses R → Crosses (Shared.the_row R)
+shared R s = (view_send _ _ _ _ _ (shared_parts R s).0, view_sync _ _ _ _ _ (shared_parts R s).1)
+
+shared_names : Crosses (List.the_row (Shared.the_row Name.the_row))
+shared_names = list_crosses (Shared.the_row Name.the_row) (shared Name.the_row name)
+
 labelled : Crosses Labelled.the_row
-labelled = struct_crosses Labelled.the_type (label, (truth, (formula, tt)))
+labelled = struct_crosses Labelled.the_type (shared Label.the_row label, (truth, (shared Formula.the_row formula, tt)))
 
 labelled_list : Crosses (List.the_row Labelled.the_row)
 labelled_list = list_crosses Labelled.the_row labelled
 
 checked_context : Crosses CheckedContext.the_row
-checked_context = struct_crosses CheckedContext.the_type (name, (names, (env, (names, (labelled_list, (names, (index, tt)))))))
+checked_context = struct_crosses CheckedContext.the_type (name, (names, (env, (shared_names, (labelled_list, (shared_names, (index, tt)))))))
 
 checked_event : Crosses CheckedEvent.the_row
 checked_event = struct_crosses CheckedEvent.the_type (
@@ -157,13 +168,13 @@ checked_machine = struct_crosses CheckedMachine.the_type (
     (
       env,
       (
-        names,
+        shared_names,
         (
           index,
           (
             labelled_list,
             (
-              names,
+              shared_names,
               (
                 labelled_list,
                 (index, (names, (names, (option_crosses Formula.the_row formula, (list_crosses CheckedEvent.the_row checked_event, (names, tt)))))),

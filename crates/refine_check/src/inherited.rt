@@ -59,7 +59,7 @@ fn add_free_of_guards(
         ≡ found.old.items ++ joined (map (λ g. free_names_of g.formula) guards.entry.now)) }
 {
     for guard in guards {
-        add_free(alloc, &guard.formula, found)?;
+        add_free(alloc, guard.formula.get(), found)?;
     }
     Ok(())
 }

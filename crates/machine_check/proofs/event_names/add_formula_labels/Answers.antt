@@ -9,4 +9,4 @@ loop-one-init c = none_yet (has c.args.texts.now)
 pub loop-one-preserved : goal.loop-one-preserved
 loop-one-preserved c =
     texts_more (λ p x. bytes_eq x p.label) c.args.labelled.now c.loop-one.one-index c.one-item.result (has c.args.texts.now) (has c.loop-one.texts) (has c.put.new.texts) c.loop-one-test.true c.one-item.is c.loop-one.invariant
-    (λ x. c.in_ok-put.ensures x ∙ ap (λ n. has c.loop-one.texts x || bytes_eq x n) c.as_text.ensures.text)
+    (λ x. c.in_ok-put.ensures x ∙ ap (λ n. has c.loop-one.texts x || bytes_eq x n) (c.as_text.ensures.text ∙ c.get.ensures))

@@ -16,8 +16,9 @@ returns c =
     let i = c.args.invariant.now in
     let row = from_witnesses p (of_kind i.label (codes "INV")) (substituted p.after i.formula) in
     subst (λ rows. OnOk c.add_from_witnesses.result (view c.add_from_witnesses.new.out ≡ gathered (view c.args.out.now) rows))
-    (ap (λ label. from_witnesses p (of_kind label (codes "INV")) c.in_ok-goal.goal) c.label_part.ensures.text
-    ∙ ap (from_witnesses p (of_kind i.label (codes "INV"))) (c.in_ok-goal.ensures ∙ ap (λ pairs. substituted pairs i.formula) c.deref.ensures.value)
+    (ap (λ label. from_witnesses p (of_kind label (codes "INV")) c.in_ok-goal.goal) (c.label_part.ensures.text ∙ c.get-2.ensures)
+    ∙ ap (from_witnesses p (of_kind i.label (codes "INV")))
+    (c.in_ok-goal.ensures ∙ ap (λ pairs. substituted pairs c.get.result.now) c.deref.ensures.value ∙ ap (substituted p.after) c.get.ensures)
     ∙ sym (if_wanted c.in_ok-is_to_keep.field-0 (is_to_keep e (keys_of p.after) i) row c.if-not-branch.false (c.in_ok-is_to_keep.ensures ∙ ap (λ names. is_to_keep e names i) c.requires)))
     c.add_from_witnesses.ensures
 

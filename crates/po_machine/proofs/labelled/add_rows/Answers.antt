@@ -1,4 +1,4 @@
-use Rattle.std.proofs.Common.{◌∙◌, ap, [], ◌∷◌}
+use Rattle.std.proofs.Common.{◌∙◌, ap, [], ◌∷◌, ◌++◌}
 use Rattle.po_rules.specs.Gathering.{gathered}
 use Rattle.po_machine.specs.Shared.{view}
 use Rattle.po_machine.specs.Private.{referenced, row_at}
@@ -15,4 +15,4 @@ loop-labelled-preserved c =
     next_rows site c.args.own.now c.loop-labelled.labelled-index x (referenced before) (referenced c.push.new.self.items) now (view c.add_row.new.out) _
     c.loop-labelled-test.true c.labelled-item.is c.loop-labelled.invariant
     (c.in_ok-add_row.ensures ∙ ap (λ hyps. gathered now (row_at site (referenced hyps) x)) c.deref.ensures.value)
-    (ap referenced c.in_ok-push.ensures.items ∙ map_append (λ f. f.now) before (_ ∷ []))
+    (ap referenced c.in_ok-push.ensures.items ∙ map_append (λ f. f.now) before (c.get.result ∷ []) ∙ ap (λ f. referenced before ++ f ∷ []) c.get.ensures)

@@ -1,4 +1,4 @@
-use Rattle.std.proofs.Common.{◌≡◌, ◌∙◌, sym, [], false}
+use Rattle.std.proofs.Common.{◌≡◌, ◌∙◌, ap, sym, [], false}
 use Rattle.std.specs.Prelude.{codes}
 use Rattle.po_rules.specs.Rows.{from_witnesses, of_kind}
 use Rattle.po_machine.specs.Shared.{view, parts_in}
@@ -19,5 +19,7 @@ returns c =
     let condition : g.theorem ≡ false = cc in
     same_rows c.add_from_witnesses.result (view c.args.out.now) (view c.add_from_witnesses.new.out)
     (from_witnesses p (of_kind c.label_part.result.now (codes "GRD")) c.in_ok-goal.goal) (strengthening_row p g)
-    ((λ i. from_witnesses p (of_kind (c.label_part.ensures.text i) (codes "GRD")) (c.in_ok-goal.ensures i)) ∙ sym (when_false g.theorem [] row condition))
+    (ap (λ label. from_witnesses p (of_kind label (codes "GRD")) c.in_ok-goal.goal) (c.label_part.ensures.text ∙ c.get-2.ensures)
+    ∙ ap (from_witnesses p (of_kind g.label (codes "GRD"))) (c.in_ok-goal.ensures ∙ c.get.ensures)
+    ∙ sym (when_false g.theorem [] row condition))
     c.add_from_witnesses.ensures
