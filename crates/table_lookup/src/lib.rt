@@ -4,6 +4,6 @@
 mod lookup;
 
 pub use lookup::{
-    facts_to_store, first_open, is_free, is_good_proof, present_status, status_and_origin,
-    status_of, ticket_at,
+    facts_to_store, first_open, follows_by, is_free, is_good_proof, present_status,
+    status_and_origin, status_of, ticket_at,
 };

@@ -8,7 +8,9 @@ ghost use Rattle.sequent_core.specs.Provers.{IsGoodTree};
 ghost use Rattle.sequent_core.specs.Sequents.{IsSequent};
 ghost use Rattle.po_rules.specs.Sequents.{AreSequents};
 ghost use Rattle.proof_entries.specs.declared.Proof.{Proof};
+ghost use Rattle.readings_core.specs.Follows.{IsFollowsAnswer};
 ghost use Rattle.core_steps.specs.Durable.{text_cmp};
+ghost use Rattle.core_steps.specs.Proving.{tree_in};
 ghost use Rattle.core_steps.specs.Stored.{AreFactsOf};
 ghost use Rattle.core_steps.specs.declared.events.Status.{Status};
 ghost use Rattle.core_steps.specs.Status.{IsStatus, IsUnsettledBy, origin_of};
@@ -16,10 +18,11 @@ ghost use Rattle.core_steps.specs.Tickets.{CanTake, IsFor, IsPresentStatus, CanS
 ghost use Rattle.table_lookup.specs.Tickets.{IsTicketAt};
 
 use build_core::Numbered;
-use core_steps::{Facts, PoMap, Status, StoredProof, facts_of, is_unsettled, status_by};
+use core_steps::{Facts, Follows, PoMap, Status, StoredProof, facts_of, is_unsettled, status_by};
 use formula_core::{OutOfMemory, PoName, Steps};
 use proof_entries::Origin;
 use proof_tree::is_good;
+use readings_core::follows;
 use sequent_core::{Obligation, Sequent, Ticket, Tree};
 use std::alloc::Global;
 use std::sync::Arc;
@@ -261,4 +264,21 @@ pub fn is_good_proof<L: Ledger>(
 {
     steps.tick();
     is_good(tree, alloc, sequent)
+}
+
+/// What is said of the tree of the stored proof, or of a bare leaf. It is looked through, which is one step of the counter.
+pub fn follows_by<L: Ledger>(
+    alloc: Global,
+    stored: Option<&StoredProof>,
+    sequent: &Sequent,
+    steps: &mut Steps<L>,
+) -> Result<Follows, OutOfMemory>
+    ensures answer { IfOk result (IsFollowsAnswer (tree_in (option_copied stored.entry)) sequent.now) }
+    ensures step { steps.new ≡ steps.old + 1 }
+{
+    steps.tick();
+    match stored {
+        None => follows(&Tree::Leaf, alloc, sequent),
+        Some(stored) => follows(&stored.proof().tree, alloc, sequent),
+    }
 }

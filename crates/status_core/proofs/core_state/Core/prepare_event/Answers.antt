@@ -115,4 +115,4 @@ pub returns-in-Ask-clause-build : goal.returns-in-Ask-clause-build
 returns-in-Ask-clause-build g c = λ is. absurd (let no = sym c.in-Ask.is ∙ is in cc)
 
 pub returns-in-Ask-clause-steps : goal.returns-in-Ask-clause-steps
-returns-in-Ask-clause-steps g c = λ other. omega arith
+returns-in-Ask-clause-steps g c = λ other. omega (arith, c.prepare_answer.ensures.steps)
