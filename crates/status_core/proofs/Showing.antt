@@ -38,7 +38,7 @@ shown_leaf tree s path (Err e) applies there = tt
 
 -- none is shown where it doesn't
 pub shown_none : (tree : Tree) (s : Sequent) (path : List ℕ) → (Applies tree s → ⊥) → IsShownAt tree s (Some path) None
-shown_none tree s path no = ((λ a. absurd (no a)), (λ n. refl))
+shown_none tree s path fails = ((λ a. absurd (fails a)), (λ n. refl))
 
 module _ (s : State) (name : List ℕ) (sequent : Sequent) (status : Status) (is : IsStatus (get s.durable.proofs name) sequent status) where
   -- no sequent is shown where the tree doesn't apply, or has no leaf at the path

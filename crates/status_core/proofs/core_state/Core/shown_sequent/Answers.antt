@@ -25,8 +25,8 @@ returns-then-does_apply c =
 pub leaf_there-requires : goal.leaf_there-requires
 leaf_there-requires c = record { applies = rw c.tree_of.ensures (c.does_apply.ensures.0 c.if-does_apply.true) }
 
-pub returns-in-Some : goal.returns-in-Some
-returns-in-Some c =
+pub returns-else-does_apply : goal.returns-else-does_apply
+returns-else-does_apply c =
     let name = c.args.name.now in
     let sequent = c.args.sequent.now in
     let get_is = c.get-stored.ensures ∙ ap (λ (s : State). get s.durable.proofs name) c.self.view_is in
