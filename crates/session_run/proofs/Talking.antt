@@ -1,4 +1,4 @@
--- How the dialogue of chair 0 grows by its acts, while others act between.
+-- How the dialogue of a user's chair grows by its acts, while others act between.
 use Rattle.std.proofs.Common.{◌≡◌, ℕ, List, [], ◌∷◌, ◌++◌, map, refl, sym, ap, ◌∙◌, subst}
 use Rattle.std.proofs.lemmas.List.{append-nil, append_assoc, map-append}
 use Rattle.sequent_core.specs.declared.Sequent.{Sequent}
@@ -69,46 +69,46 @@ module _ (laws : CoreLaws) (base : StoreBase) where
             (run_both (opened base.durable) p.before p.now (exchanges_of p.xs) (x ∷ []) p.log.run (p.now, p.step, refl));
       }
 
-  module _ (fair : Sequent → Attempt → Type 0) where
+  module _ (fair : Sequent → Attempt → Type 0) (user : ℕ) where
     -- at the beginning nothing was read
-    pub talk_begins : HasTalked fair base [] [] []
+    pub talk_begins : HasTalked fair base user [] [] []
     talk_begins = record { xs = []; state = opened base.durable; log = record { entries = refl; run = refl }; dialogue = begins }
 
     -- a line is begun
-    pub line_begins : (seen : List Logged) (lines : List Line) (text : List ℕ) (line : Line) (next : Next) → HasTalked fair base seen lines text →
-        Answering fair line [] next → IsTalking fair base seen lines text line next
+    pub line_begins : (seen : List Logged) (lines : List Line) (text : List ℕ) (line : Line) (next : Next) → HasTalked fair base user seen lines text →
+        Answering fair line [] next → IsTalking fair base user seen lines text line next
     line_begins seen lines text line next t a = record {
       xs = t.xs;
       state = t.state;
       log = t.log;
-      within = record { whole = own 0 t.xs; cut = []; in_order = sym (append-nil (own 0 t.xs)); dialogue = t.dialogue; answering = a };
+      within = record { whole = own user t.xs; cut = []; in_order = sym (append-nil (own user t.xs)); dialogue = t.dialogue; answering = a };
     }
 
-    -- an act of chair 0 goes on with the answer
+    -- an act of the chair goes on with the answer
     pub line_goes_on : (seen found left : List Logged) (lines : List Line) (text : List ℕ) (line : Line) (next more : Next) (event : Event) (reply : Reply) →
-        IsTalking fair base seen lines text line next → HasSeen chair_of 0 seen found → PerformsInLog base 0 event reply found left →
+        IsTalking fair base user seen lines text line next → HasSeen chair_of user seen found → PerformsInLog base user event reply found left →
         ((cut : List Exchange) (x : Exchange) → x.event ≡ event → x.reply ≡ reply → Answering fair line cut next → Answering fair line (cut ++ x ∷ []) more) →
-        IsTalking fair base left lines text line more
+        IsTalking fair base user left lines text line more
     line_goes_on seen found left lines text line next more event reply t has p goes =
         let x : Exchange = record { event = event; reply = reply; entry = p.entry } in
         let w = t.within in
-        let same : own 0 p.xs ≡ own 0 t.xs = hears 0 seen found t.xs p.xs t.state p.before t.log has (ap plain p.log.entries ∙ plain_done p.xs) p.log.run in
+        let same : own user p.xs ≡ own user t.xs = hears user seen found t.xs p.xs t.state p.before t.log has (ap plain p.log.entries ∙ plain_done p.xs) p.log.run in
         record {
-          xs = p.xs ++ (0, x) ∷ [];
+          xs = p.xs ++ (user, x) ∷ [];
           state = p.now;
-          log = grown 0 event reply found left p;
+          log = grown user event reply found left p;
           within = record {
             whole = w.whole;
             cut = w.cut ++ x ∷ [];
-            in_order = own_last 0 p.xs (0, x) refl ∙ (ap (λ l. l ++ x ∷ []) (same ∙ w.in_order) ∙ append_assoc w.whole w.cut (x ∷ []));
+            in_order = own_last user p.xs (user, x) refl ∙ (ap (λ l. l ++ x ∷ []) (same ∙ w.in_order) ∙ append_assoc w.whole w.cut (x ∷ []));
             dialogue = w.dialogue;
             answering = goes w.cut x refl refl w.answering;
           };
         }
 
     -- a line is answered
-    pub line_ends : (seen : List Logged) (lines : List Line) (text more : List ℕ) (line : Line) → IsTalking fair base seen lines text line (tells more) →
-        HasTalked fair base seen (lines ++ line ∷ []) (text ++ more)
+    pub line_ends : (seen : List Logged) (lines : List Line) (text more : List ℕ) (line : Line) → IsTalking fair base user seen lines text line (tells more) →
+        HasTalked fair base user seen (lines ++ line ∷ []) (text ++ more)
     line_ends seen lines text more line t = record {
       xs = t.xs;
       state = t.state;
@@ -116,13 +116,13 @@ module _ (laws : CoreLaws) (base : StoreBase) where
       dialogue = subst (λ l. Dialogue fair (lines ++ line ∷ []) l (text ++ more)) (sym t.within.in_order) (answers_line t.within.dialogue t.within.answering);
     }
 
-    -- what was so of the log that chair 0 had seen is so of the last log
-    pub talk_stands : (seen log : List Logged) (lines : List Line) (text : List ℕ) (xs : List (ℕ × Exchange)) (t : State) → HasTalked fair base seen lines text →
-        HasSeen chair_of 0 seen log → plain log ≡ map done xs → Runs (opened base.durable) (exchanges_of xs) t → Dialogue fair lines (own 0 xs) text
+    -- what was so of the log that the chair had seen is so of the last log
+    pub talk_stands : (seen log : List Logged) (lines : List Line) (text : List ℕ) (xs : List (ℕ × Exchange)) (t : State) → HasTalked fair base user seen lines text →
+        HasSeen chair_of user seen log → plain log ≡ map done xs → Runs (opened base.durable) (exchanges_of xs) t → Dialogue fair lines (own user xs) text
     talk_stands seen log lines text xs t h has is run =
-        subst (λ l. Dialogue fair lines l text) (sym (hears 0 seen log h.xs xs h.state t h.log has is run)) h.dialogue
+        subst (λ l. Dialogue fair lines l text) (sym (hears user seen log h.xs xs h.state t h.log has is run)) h.dialogue
 
-    pub talking_stands : (seen log : List Logged) (lines : List Line) (text : List ℕ) (line : Line) (next : Next) (xs : List (ℕ × Exchange)) (t : State) → IsTalking fair base seen lines text line next →
-        HasSeen chair_of 0 seen log → plain log ≡ map done xs → Runs (opened base.durable) (exchanges_of xs) t → IsPartway fair lines line (own 0 xs) text next
+    pub talking_stands : (seen log : List Logged) (lines : List Line) (text : List ℕ) (line : Line) (next : Next) (xs : List (ℕ × Exchange)) (t : State) → IsTalking fair base user seen lines text line next →
+        HasSeen chair_of user seen log → plain log ≡ map done xs → Runs (opened base.durable) (exchanges_of xs) t → IsPartway fair lines line (own user xs) text next
     talking_stands seen log lines text line next xs t h has is run =
-        subst (λ l. IsPartway fair lines line l text next) (sym (hears 0 seen log h.xs xs h.state t h.log has is run)) h.within
+        subst (λ l. IsPartway fair lines line l text next) (sym (hears user seen log h.xs xs h.state t h.log has is run)) h.within

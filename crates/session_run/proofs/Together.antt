@@ -1,11 +1,10 @@
--- The one history of chair 0 and the workers, from what each of them knows.
+-- The one history of the users and the workers, from what each of them knows.
 use Rattle.std.proofs.Common.{◌≡◌, ◌≢◌, ◌⊎◌, inl, inr, ℕ, ◌+◌, ◌<◌, ◌≤◌, Bool, false, true, List, [], ◌∷◌, ◌++◌, map, refl, sym, ap, ◌∙◌, subst, arith, cond, eq-eqb}
 use Rattle.std.proofs.lemmas.List.{append-nil}
 use Rattle.std.proofs.lemmas.List.Elements.{filter-append}
 use Rattle.std.specs.Prelude.{◌==◌, Option, Some, None}
 use Rattle.std.specs.List.{AllByRecursion}
 use mathlib.Core.Logic.{dite}
-use native.Mathlib.Decide.{ℕ_discrete}
 use Rattle.std.proofs.Math.Decide.{dec_lt}
 use Rattle.sequent_core.specs.declared.Sequent.{Sequent}
 use Rattle.sequent_core.specs.declared.Ticket.{Ticket}
@@ -27,7 +26,7 @@ use Rattle.store_log.specs.History.{exchanges_of, own}
 use Rattle.store_log.specs.StoreLog.{chair_of, done, marks, store_meaning}
 use Rattle.session_run.specs.Workers.{Works, begins as none_yet, finds_nothing, takes, finishes, HaveWorked, HaveFinished}
 use Rattle.session_run.specs.Dialogue.{Next, owes, Answering, one_begins, one_answered, auto_begins, auto_takes, auto_refused, auto_finishes, wait_begins, wait_takes, wait_finishes, wait_finds_nothing, wait_is_busy, wait_is_idle, refused, Dialogue, begins, answers_line}
-use Rattle.session_run.specs.OneHistory.{IsUsersEvent, IsUsersLine, with_begun, Reached, Played, IsFailedEvent, next_of_chair_0, take_of_worker, fair_finish, OneHistory}
+use Rattle.session_run.specs.OneHistory.{IsUsersEvent, IsUsersLine, with_begun, Progress, Reached, Played, IsFailedEvent, next_of_user, take_of_worker, fair_finish, OneHistory}
 use Rattle.session_run.proofs.Runs.{CoreLaws}
 use Rattle.session_run.proofs.Steps.{is_finish, is_take}
 use Rattle.session_run.proofs.Legal.{Hands, hands_both, hands_one, given, GivesByTakes, takes_give, own_all, EndsFairly, ends_fairly, fair_legal}
@@ -57,7 +56,7 @@ module _ (fair : Sequent → Attempt → Type 0) where
   works_hands (takes {xs = xs} w x t e r) = hands_both fair None None (Some t) xs (x ∷ []) (works_hands w) (ap is_finish e, sym (ap given r))
   works_hands (finishes {xs = xs} {t = t} w x a e good) = hands_both fair None (Some t) None xs (x ∷ []) (works_hands w) (a, e, good, refl)
 
-  -- what chair 0 has in hand
+  -- what a user's chair has in hand
   pub answering_hands : {line : Line} {ys : List Exchange} {next : Next} → Answering fair line ys next → IsUsersLine line → GivesByTakes ys → Hands fair None ys (in_hand next)
   answering_hands one_begins users gives = refl
   answering_hands (one_answered {event = e} x is) users gives = (ap is_finish is ∙ not_finish e users, sym (gives.0 (ap is_take is ∙ not_take e users)))
@@ -147,7 +146,7 @@ module _ (laws : CoreLaws) (fair : Sequent → Attempt → Type 0) (base : Store
       inr (t, a, serving laws fair base k shift xs s (unmarked log after e0 adds both.0 ∙ is) run, ap (λ (z : Logged). z.event) (sym (last_one log before e0 e (sym adds ∙ cut))) ∙ both.1, good)
 
 module _ (fair : Sequent → Attempt → Type 0) where
-  -- what chair 0 has in hand
+  -- what a user's chair has in hand
   reached_hands : (lines : List Line) (begun : Option (Line × Next)) (ys : List Exchange) (text : List ℕ) → Reached fair lines begun ys text → AllByRecursion IsUsersLine (with_begun lines begun) → GivesByTakes ys →
       (t : Option Ticket) × Hands fair None ys t
   reached_hands lines None ys text d users gives = (None, dialogue_hands fair d users gives)
@@ -159,8 +158,8 @@ module _ (fair : Sequent → Attempt → Type 0) where
             (answering_hands fair w.answering (all_last IsUsersLine lines (begun.0 ∷ []) users).0 (all_last (λ z. is_take z.event ≡ false → given z.reply ≡ None) w.whole w.cut cut_gives))),
       )
 
-  module _ (laws : CoreLaws) (base : StoreBase) (log : List Logged) (xs : List (ℕ × Exchange)) (mark : Option (ℕ × Event)) (s : State) (workers : ℕ) (lines : List Line) (begun : Option (Line × Next)) (text : List ℕ)
-      (p : Played fair base log xs mark s workers lines begun text) where
+  module _ (laws : CoreLaws) (base : StoreBase) (log : List Logged) (xs : List (ℕ × Exchange)) (mark : Option (ℕ × Event)) (s : State) (users workers : ℕ) (progress : ℕ → Progress)
+      (p : Played fair base log xs mark s users workers progress) where
     plain_is : plain log ≡ map done xs
     plain_is = ap plain p.store.entries ∙ (plain_both (map done xs) (marks mark) ∙ (ap (λ l. plain (map done xs) ++ l) (plain_marks mark) ∙ (append-nil (plain (map done xs)) ∙ plain_done xs)))
 
@@ -193,34 +192,35 @@ module _ (fair : Sequent → Attempt → Type 0) where
       by (inl is) = free_works k w is
       by (inr (is, ends)) = absurd (open_log none ends)
 
-    none_beyond : (k : ℕ) → workers < k → own k xs ≡ []
-    none_beyond k high = own_quiet_log k log xs plain_is (p.unmade k (omega arith))
+    none_beyond : (k : ℕ) → users + workers ≤ k → own k xs ≡ []
+    none_beyond k high = own_quiet_log k log xs plain_is (p.unmade k high)
 
     -- the workers did nothing but what workers do
-    have_worked : HaveWorked fair workers xs
-    have_worked = record { each = λ k low high. any_works k (p.served k low (omega arith)); others = none_beyond }
+    have_worked : HaveWorked fair users workers xs
+    have_worked = record { each = λ k low high. any_works k (p.served k low high); others = none_beyond }
 
     -- where no fault is kept, each took at least once and finished what it took
-    have_finished : mark ≡ None → HaveFinished fair workers xs
+    have_finished : mark ≡ None → HaveFinished fair users workers xs
     have_finished none = record {
-      each = λ k low high. (unmarked_free k (p.served k low (omega arith)) none).0;
-      some = λ k low high. (unmarked_free k (p.served k low (omega arith)) none).1;
+      each = λ k low high. (unmarked_free k (p.served k low high) none).0;
+      some = λ k low high. (unmarked_free k (p.served k low high) none).1;
     }
 
     gives : GivesByTakes (exchanges_of xs)
     gives = takes_give (exchanges_of xs) (opened base.durable) s p.store.run
 
-    mine : (t : Option Ticket) × Hands fair None (own 0 xs) t
-    mine = reached_hands lines begun (own 0 xs) text p.reached p.users (own_all (λ z. is_take z.event ≡ false → given z.reply ≡ None) 0 xs gives)
+    mine : (user : ℕ) → user < users → (t : Option Ticket) × Hands fair None (own user xs) t
+    mine user is =
+        let c = p.each user is in let q = progress user in
+        reached_hands q.lines q.begun (own user xs) q.text c.reached c.users (own_all (λ z. is_take z.event ≡ false → given z.reply ≡ None) user xs gives)
 
     each_hands : (k : ℕ) → (t : Option Ticket) × Hands fair None (own k xs) t
-    each_hands k = dite (ℕ_discrete k 0) (λ is. subst (λ j. (t : Option Ticket) × Hands fair None (own j xs) t) (sym is) mine)
-        (λ other. let above : 0 < k = omega (arith, other) in by above)
+    each_hands k = dite (dec_lt k users) (λ is. mine k is) (λ other. let above : users ≤ k = omega (arith, other) in by above)
       where
-        by : 0 < k → (t : Option Ticket) × Hands fair None (own k xs) t
-        by above = dite (dec_lt workers k)
-            (λ high. (None, subst (λ l. Hands fair None l None) (sym (none_beyond k high)) refl))
-            (λ low. let w = any_works k (p.served k above (omega (arith, low))) in (w.0, works_hands fair w.1))
+        by : users ≤ k → (t : Option Ticket) × Hands fair None (own k xs) t
+        by above = dite (dec_lt k (users + workers))
+            (λ low. let w = any_works k (p.served k above low) in (w.0, works_hands fair w.1))
+            (λ high. let beyond : users + workers ≤ k = omega (arith, high) in (None, subst (λ l. Hands fair None l None) (sym (none_beyond k beyond)) refl))
 
     fairly : EndsFairly fair (opened base.durable) s (exchanges_of xs) (λ k. (each_hands k).0)
     fairly = ends_fairly fair laws xs (opened base.durable) s (λ k. (each_hands k).0) refl p.store.run (λ k. (each_hands k).1)
@@ -229,28 +229,28 @@ module _ (fair : Sequent → Attempt → Type 0) where
     marked_log : (chair : ℕ) (event : Event) → mark ≡ Some (chair, event) → log ≡ map done xs ++ record { chair = chair; event = event; failed = true } ∷ []
     marked_log chair event is = p.store.entries ∙ ap (λ m. map done xs ++ marks m) is
 
-    failed_worker : (chair : ℕ) (event : Event) → mark ≡ Some (chair, event) → Fails laws fair base chair event (own chair xs) → IsFailedEvent fair begun s event
+    failed_worker : (chair : ℕ) (event : Event) → mark ≡ Some (chair, event) → Fails laws fair base chair event (own chair xs) → IsFailedEvent fair users (λ user. (progress user).begun) s event
     failed_worker chair event is (inl take) = take_of_worker take
     failed_worker chair event is (inr (t, a, works, finish, good)) =
         fair_finish t a (fairly.out chair t (hands_one fair None (each_hands chair).0 (Some t) (own chair xs) (each_hands chair).1 (works_hands fair works))) finish good
 
-    failed_event : (chair : ℕ) (event : Event) → mark ≡ Some (chair, event) → IsFailedEvent fair begun s event
-    failed_event chair event is = dite (ℕ_discrete chair 0)
-        (λ zero_. next_of_chair_0 (p.own_mark event (is ∙ ap (λ c. Some (c, event)) zero_)))
-        (λ other. let above : 0 < chair = omega (arith, other) in by above)
+    failed_event : (chair : ℕ) (event : Event) → mark ≡ Some (chair, event) → IsFailedEvent fair users (λ user. (progress user).begun) s event
+    failed_event chair event is = dite (dec_lt chair users)
+        (λ low. next_of_user chair low ((p.each chair low).own_mark event is))
+        (λ other. let above : users ≤ chair = omega (arith, other) in by above)
       where
-        by : 0 < chair → IsFailedEvent fair begun s event
-        by above = dite (dec_lt workers chair)
-            (λ high. absurd (not_quiet chair (map done xs) (record { chair = chair; event = event; failed = true }) refl
-            (ap (entries_of chair_of chair) (sym (marked_log chair event is)) ∙ p.unmade chair (omega arith))))
-            (λ low. failed_worker chair event is (failing laws fair base chair (p.served chair above (omega (arith, low))).shift (map done xs) (record { chair = chair; event = event; failed = true })
+        by : users ≤ chair → IsFailedEvent fair users (λ user. (progress user).begun) s event
+        by above = dite (dec_lt chair (users + workers))
+            (λ low. failed_worker chair event is (failing laws fair base chair (p.served chair above low).shift (map done xs) (record { chair = chair; event = event; failed = true })
             (marked_log chair event is) refl refl xs s plain_is p.store.run))
+            (λ high. let beyond : users + workers ≤ chair = omega (arith, high) in absurd (not_quiet chair (map done xs) (record { chair = chair; event = event; failed = true }) refl
+            (ap (entries_of chair_of chair) (sym (marked_log chair event is)) ∙ p.unmade chair beyond)))
 
 pub one_history : CoreLaws → (fair : Sequent → Attempt → Type 0) → OneHistory fair
-one_history laws fair base log xs mark s workers lines begun text p = record {
-  legal = fair_legal fair (exchanges_of xs) (opened base.durable) s (fairly fair laws base log xs mark s workers lines begun text p).fair_run;
-  fair_run = (fairly fair laws base log xs mark s workers lines begun text p).fair_run;
-  worked = have_worked fair laws base log xs mark s workers lines begun text p;
-  finished = have_finished fair laws base log xs mark s workers lines begun text p;
-  failed = failed_event fair laws base log xs mark s workers lines begun text p;
+one_history laws fair base log xs mark s users workers progress p = record {
+  legal = fair_legal fair (exchanges_of xs) (opened base.durable) s (fairly fair laws base log xs mark s users workers progress p).fair_run;
+  fair_run = (fairly fair laws base log xs mark s users workers progress p).fair_run;
+  worked = have_worked fair laws base log xs mark s users workers progress p;
+  finished = have_finished fair laws base log xs mark s users workers progress p;
+  failed = failed_event fair laws base log xs mark s users workers progress p;
 }

@@ -1,4 +1,4 @@
--- The dialogue with the user: lines, the exchanges of chair 0, and what is printed.
+-- The dialogue with a user: lines, the exchanges of its chair, and what is printed.
 use Rattle.std.specs.Prelude.{◌≡◌, ◌≢◌, ◌⊎◌, ℕ, List, [], ◌∷◌, ◌++◌, Some, None, true, false}
 use Rattle.sequent_core.specs.declared.Sequent.{Sequent}
 use Rattle.sequent_core.specs.declared.Ticket.{Ticket}

@@ -1,4 +1,4 @@
-//! Acts of chair 0.
+//! Acts of a user's chair.
 ghost use Rattle.std.specs.Prelude.{◌≡◌, ◌≢◌, ◌+◌, ◌<◌, ◌^◌, ⊤, None, Some, Ok, Err, IfOk, OnErr, MatchOption, MatchResult};
 ghost use Rattle.sequent_core.specs.Sequents.{IsSequent};
 ghost use Rattle.sequent_core.specs.declared.Attempt.{Attempt};
@@ -22,33 +22,34 @@ use store_log::{Apply, EventStore, StoreFault};
 use turn_desk::{Chair, Desk};
 use typed_tables::typed_tables;
 
-/// Does an event as the next act of chair 0.
+/// Does an event as the next act of the chair.
 pub(crate) fn act_on<R: Wait, V: EventStore>(
     rt: &R,
     desk: &Desk<V>,
     chair: &mut Chair<V>,
     event: Event,
 ) -> Result<Reply, StoreFault>
-    requires { IsOf desk.now chair.old × (chair.old.number ≡ 0) }
+    requires { IsOf desk.now chair.old }
     ensures chair { chair.new ≡ record chair.old { acts = chair.old.acts + 1; seen = chair.new.seen } }
-    ensures acted { ActsOn desk.now.base event chair.old.seen result chair.new.seen }
+    ensures acted { ActsOn desk.now.base chair.old.number event chair.old.seen result chair.new.seen }
 {
     desk.act(rt, chair, Apply { event })
 }
 
-/// Asks the prover on a ticket that chair 0 took, and hands in what it answers.
+/// Asks the prover on a ticket that the chair took, and hands in what it answers.
 pub(crate) fn finish_ticket<R: Wait, V: EventStore, P: Prover, G: Gate>(
     tools: &Tools<'_, R, P, G>,
     desk: &Desk<V>,
     chair: &mut Chair<V>,
     ticket: Ticket,
 ) -> Result<Reply, StoreFault>
-    requires chair { IsOf desk.now chair.old × (chair.old.number ≡ 0) }
+    requires chair { IsOf desk.now chair.old }
     requires sequent { IsSequent ticket.sequent }
     ensures chair { chair.new ≡ record chair.old { acts = chair.old.acts + 1; seen = chair.new.seen } }
     ensures acted { (attempt : Attempt)
         × fair (P.answers tools.now.prover.now) (P.sure tools.now.prover.now) ticket.sequent attempt
-        × ActsOn desk.now.base (Event.Finish ticket.number attempt) chair.old.seen result chair.new.seen }
+        × ActsOn desk.now.base chair.old.number (Event.Finish ticket.number attempt) chair.old.seen
+        result chair.new.seen }
 {
     let number = ticket.number;
     let attempt = tools.prover.attempt(tools.alloc, &ticket.sequent);
@@ -64,13 +65,14 @@ pub(crate) fn take_next<R: Wait, V: EventStore>(
     desk: &Desk<V>,
     chair: &mut Chair<V>,
 ) -> Result<Option<Ticket>, StoreFault>
-    requires { IsOf desk.now chair.old × (chair.old.number ≡ 0) }
+    requires { IsOf desk.now chair.old }
     ensures chair { IsSameChair chair.old chair.new }
     ensures took { IfOk result (λ ticket.
-        ActsOn desk.now.base (Event.Take None) chair.old.seen (Ok (take_reply ticket)) chair.new.seen) }
+        ActsOn desk.now.base chair.old.number (Event.Take None) chair.old.seen
+        (Ok (take_reply ticket)) chair.new.seen) }
     ensures typed { IfOk result (λ ticket. MatchOption ticket ⊤ (λ k. IsSequent k.sequent)) }
     ensures stopped { OnErr result ((fault : Fault)
-        × ActsOn desk.now.base (Event.Take None) chair.old.seen (Err fault) chair.new.seen) }
+        × ActsOn desk.now.base chair.old.number (Event.Take None) chair.old.seen (Err fault) chair.new.seen) }
 {
     typed_tables();
     match act_on(rt, desk, chair, Event::Take(None)) {
@@ -99,11 +101,12 @@ pub(crate) fn take_named<R: Wait, V: EventStore>(
     chair: &mut Chair<V>,
     name: PoName,
 ) -> Result<Result<Ticket, Reply>, StoreFault>
-    requires { IsOf desk.now chair.old × (chair.old.number ≡ 0) }
+    requires { IsOf desk.now chair.old }
     ensures chair { IsSameChair chair.old chair.new }
-    ensures took { IfOk result (λ taken. TookNamed desk.now.base name chair.old.seen taken chair.new.seen) }
+    ensures took { IfOk result (λ taken.
+        TookNamed desk.now.base chair.old.number name chair.old.seen taken chair.new.seen) }
     ensures stopped { OnErr result ((fault : Fault)
-        × ActsOn desk.now.base (Event.Take (Some name)) chair.old.seen (Err fault) chair.new.seen) }
+        × ActsOn desk.now.base chair.old.number (Event.Take (Some name)) chair.old.seen (Err fault) chair.new.seen) }
 {
     typed_tables();
     match act_on(rt, desk, chair, Event::Take(Some(name))) {
@@ -118,12 +121,13 @@ pub(crate) fn ask_idle<R: Wait, V: EventStore>(
     desk: &Desk<V>,
     chair: &mut Chair<V>,
 ) -> Result<bool, StoreFault>
-    requires { IsOf desk.now chair.old × (chair.old.number ≡ 0) }
+    requires { IsOf desk.now chair.old }
     ensures chair { IsSameChair chair.old chair.new }
     ensures asked { IfOk result (λ idle.
-        ActsOn desk.now.base (Event.Ask Question.Idle) chair.old.seen (Ok (Reply.Idle idle)) chair.new.seen) }
+        ActsOn desk.now.base chair.old.number (Event.Ask Question.Idle) chair.old.seen
+        (Ok (Reply.Idle idle)) chair.new.seen) }
     ensures stopped { OnErr result ((fault : Fault)
-        × ActsOn desk.now.base (Event.Ask Question.Idle) chair.old.seen (Err fault) chair.new.seen) }
+        × ActsOn desk.now.base chair.old.number (Event.Ask Question.Idle) chair.old.seen (Err fault) chair.new.seen) }
 {
     match act_on(rt, desk, chair, Event::Ask(Question::Idle)) {
         Ok(Reply::Idle(idle)) => Ok(idle),

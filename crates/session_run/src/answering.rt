@@ -88,10 +88,10 @@ fn answer_one<R: Wait, V: EventStore, P: Prover, G>(
     chair: &mut Chair<V>,
     event: Event,
 ) -> Result<String, Stop>
-    requires { IsOf office.now.desk.now chair.old × (chair.old.number ≡ 0) }
+    requires { IsOf office.now.desk.now chair.old }
     ensures chair { IsSameChair chair.old chair.new }
     ensures answered { ComesOfLine (fair (P.answers tools.now.prover.now) (P.sure tools.now.prover.now))
-        office.now.desk.now.base (Line.One event) chair.old.seen result chair.new.seen }
+        office.now.desk.now.base chair.old.number (Line.One event) chair.old.seen result chair.new.seen }
 {
     one_answer();
     stays_orderly();
@@ -112,14 +112,14 @@ fn finish_told<R: Wait, V: EventStore, P: Prover, G: Gate>(
     chair: &mut Chair<V>,
     ticket: Ticket,
 ) -> Result<String, Stop>
-    requires chair { IsOf office.now.desk.now chair.old × (chair.old.number ≡ 0) }
+    requires chair { IsOf office.now.desk.now chair.old }
     requires sequent { IsSequent ticket.sequent }
     ensures chair { IsSameChair chair.old chair.new }
     ensures finished { (name : List ℕ) (old : List Logged) →
         AnswersUpTo (fair (P.answers tools.now.prover.now) (P.sure tools.now.prover.now))
-        office.now.desk.now.base (Line.Auto name) old (owes ticket) chair.old.seen →
+        office.now.desk.now.base chair.old.number (Line.Auto name) old (owes ticket) chair.old.seen →
         ComesOfLine (fair (P.answers tools.now.prover.now) (P.sure tools.now.prover.now))
-        office.now.desk.now.base (Line.Auto name) old result chair.new.seen }
+        office.now.desk.now.base chair.old.number (Line.Auto name) old result chair.new.seen }
 {
     one_answer();
     stays_orderly();
@@ -137,10 +137,10 @@ fn auto<R: Wait, V: EventStore, P: Prover, G: Gate>(
     chair: &mut Chair<V>,
     name: PoName,
 ) -> Result<String, Stop>
-    requires { IsOf office.now.desk.now chair.old × (chair.old.number ≡ 0) }
+    requires { IsOf office.now.desk.now chair.old }
     ensures chair { IsSameChair chair.old chair.new }
     ensures answered { ComesOfLine (fair (P.answers tools.now.prover.now) (P.sure tools.now.prover.now))
-        office.now.desk.now.base (Line.Auto name) chair.old.seen result chair.new.seen }
+        office.now.desk.now.base chair.old.number (Line.Auto name) chair.old.seen result chair.new.seen }
 {
     one_answer();
     stays_orderly();
@@ -159,17 +159,17 @@ fn wait_turn<R: Wait, V: EventStore, P: Prover, G: Gate>(
     office: &Office<'_, V>,
     chair: &mut Chair<V>,
 ) -> Result<bool, StoreFault>
-    requires { IsOf office.now.desk.now chair.old × (chair.old.number ≡ 0) }
+    requires { IsOf office.now.desk.now chair.old }
     ensures chair { IsSameChair chair.old chair.new }
     ensures turned { IfOk result (λ idle. MatchBool idle
         (GoesOn (fair (P.answers tools.now.prover.now) (P.sure tools.now.prover.now))
-        office.now.desk.now.base Line.Wait (asks (Event.Take None)) chair.old.seen
+        office.now.desk.now.base chair.old.number Line.Wait (asks (Event.Take None)) chair.old.seen
         (tells (reply_text (Reply.Idle true))) chair.new.seen)
         (GoesOn (fair (P.answers tools.now.prover.now) (P.sure tools.now.prover.now))
-        office.now.desk.now.base Line.Wait (asks (Event.Take None)) chair.old.seen
+        office.now.desk.now.base chair.old.number Line.Wait (asks (Event.Take None)) chair.old.seen
         (asks (Event.Take None)) chair.new.seen)) }
     ensures stopped { OnErr result (StoppedWithin (fair (P.answers tools.now.prover.now) (P.sure tools.now.prover.now))
-        office.now.desk.now.base Line.Wait (asks (Event.Take None)) chair.old.seen chair.new.seen) }
+        office.now.desk.now.base chair.old.number Line.Wait (asks (Event.Take None)) chair.old.seen chair.new.seen) }
 {
     one_answer();
     stays_orderly();
@@ -200,12 +200,13 @@ fn wait<R: Wait, V: EventStore, P: Prover, G: Gate>(
     office: &Office<'_, V>,
     chair: &mut Chair<V>,
 ) -> Result<(), StoreFault>
-    requires { IsOf office.now.desk.now chair.old × (chair.old.number ≡ 0) }
+    requires { IsOf office.now.desk.now chair.old }
     ensures chair { IsSameChair chair.old chair.new }
     ensures answered { OnOk result (AnswersUpTo (fair (P.answers tools.now.prover.now) (P.sure tools.now.prover.now))
-        office.now.desk.now.base Line.Wait chair.old.seen (tells (reply_text (Reply.Idle true))) chair.new.seen) }
+        office.now.desk.now.base chair.old.number Line.Wait chair.old.seen
+        (tells (reply_text (Reply.Idle true))) chair.new.seen) }
     ensures stopped { OnErr result (StoppedIn (fair (P.answers tools.now.prover.now) (P.sure tools.now.prover.now))
-        office.now.desk.now.base Line.Wait chair.old.seen chair.new.seen) }
+        office.now.desk.now.base chair.old.number Line.Wait chair.old.seen chair.new.seen) }
 {
     one_answer();
     stays_orderly();
@@ -236,10 +237,10 @@ fn answer_wait<R: Wait, V: EventStore, P: Prover, G: Gate>(
     office: &Office<'_, V>,
     chair: &mut Chair<V>,
 ) -> Result<String, Stop>
-    requires { IsOf office.now.desk.now chair.old × (chair.old.number ≡ 0) }
+    requires { IsOf office.now.desk.now chair.old }
     ensures chair { IsSameChair chair.old chair.new }
     ensures answered { ComesOfLine (fair (P.answers tools.now.prover.now) (P.sure tools.now.prover.now))
-        office.now.desk.now.base Line.Wait chair.old.seen result chair.new.seen }
+        office.now.desk.now.base chair.old.number Line.Wait chair.old.seen result chair.new.seen }
 {
     one_answer();
     stays_orderly();
@@ -257,7 +258,7 @@ fn answer_refused<V: EventStore, P: Prover>(
     _prover: &P,
     fault: LineFault,
 ) -> Result<String, Stop>
-    ensures { ComesOfLine (fair (P.answers _prover.now) (P.sure _prover.now)) _desk.now.base
+    ensures { ComesOfLine (fair (P.answers _prover.now) (P.sure _prover.now)) _desk.now.base _chair.now.number
         (Line.Refused fault) _chair.now.seen result _chair.now.seen }
 {
     one_answer();
@@ -275,11 +276,11 @@ pub fn answer<R: Wait, V: EventStore, P: Prover, G: Gate>(
     chair: &mut Chair<V>,
     line: Line,
 ) -> Result<String, Stop>
-    requires chair { IsOf office.now.desk.now chair.old × (chair.old.number ≡ 0) }
+    requires chair { IsOf office.now.desk.now chair.old }
     requires line { (line ≢ Line.Quit) × (line ≢ Line.CutEdit) }
     ensures chair { IsSameChair chair.old chair.new }
     ensures answered { ComesOfLine (fair (P.answers tools.now.prover.now) (P.sure tools.now.prover.now))
-        office.now.desk.now.base line chair.old.seen result chair.new.seen }
+        office.now.desk.now.base chair.old.number line chair.old.seen result chair.new.seen }
 {
     match line {
         Line::One(event) => answer_one(tools, office, chair, event),

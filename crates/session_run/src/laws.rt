@@ -5,7 +5,7 @@ ghost use Rattle.session_run.specs.OneHistory.{OneHistory, CompleteWhenIdle};
 use core_steps::{decides_sequents, one_answer, stays_orderly};
 use sequent_core::Prover;
 
-/// What chair 0 and the workers know of a session makes one legal history, in which each finish is fair.
+/// What the users' chairs and the workers know of a session makes one legal history, in which each finish is fair.
 pub fn one_history<P: Prover>(_prover: &P)
     ensures { OneHistory (fair (P.answers _prover.now) (P.sure _prover.now)) }
 {
