@@ -1,4 +1,4 @@
--- How the dialogue of chair 0 goes on from line to line, and ends.
+-- How the dialogue of a user's chair goes on from line to line, and ends.
 use Rattle.std.proofs.Common.{◌≡◌, ◌∙◌, inl, inr, sym, ap, subst, refl, ℕ, ◌≤◌, Bool, List, [], ◌∷◌, ◌++◌, take, arith}
 use Rattle.std.proofs.lemmas.List.{append_assoc}
 use Rattle.std.specs.Prelude.{⊤, Option, Result, Ok, Err}
@@ -61,14 +61,14 @@ unread_line first last taken ended lines line left h =
       (f.1, left, refl, f.4),
     )
 
-module _ (fair : Sequent → Attempt → Type 0) (base : StoreBase) where
+module _ (fair : Sequent → Attempt → Type 0) (base : StoreBase) (user : ℕ) where
   -- at the beginning nothing was said
-  pub talk_begins : HasTalked fair base [] [] []
+  pub talk_begins : HasTalked fair base user [] [] []
   talk_begins = record { xs = []; state = opened base.durable; log = record { entries = refl; run = refl }; dialogue = begins }
 
   -- a line is answered
-  line_ends : (seen : List Logged) (lines : List Line) (text more : List ℕ) (line : Line) → IsTalking fair base seen lines text line (tells more) →
-      HasTalked fair base seen (lines ++ line ∷ []) (text ++ more)
+  line_ends : (seen : List Logged) (lines : List Line) (text more : List ℕ) (line : Line) → IsTalking fair base user seen lines text line (tells more) →
+      HasTalked fair base user seen (lines ++ line ∷ []) (text ++ more)
   line_ends seen lines text more line t = record {
     xs = t.xs;
     state = t.state;
@@ -78,13 +78,13 @@ module _ (fair : Sequent → Attempt → Type 0) (base : StoreBase) where
 
   -- nothing was read
   pub serving_begins : (left : Option (List ℕ)) (faults : ℕ) (written : Option (List ℕ)) (losses : ℕ) (seen : List Logged) (reader : Reader) → seen ≡ [] → IsUnread reader →
-      IsServing fair base (reading left left faults faults) (writing written written losses losses) seen reader
+      IsServing fair base user (reading left left faults faults) (writing written written losses losses) seen reader
   serving_begins left faults written losses seen reader none fresh = record {
     taken = [];
     lines = [];
     text = [];
     reads = unread left reader fresh;
-    talked = subst (λ l. HasTalked fair base l [] []) (sym none) talk_begins;
+    talked = subst (λ l. HasTalked fair base user l [] []) (sym none) talk_begins;
     writes = Appends-nothing written;
     source_later = omega arith;
     sink_later = omega arith;
@@ -92,8 +92,8 @@ module _ (fair : Sequent → Attempt → Type 0) (base : StoreBase) where
 
   -- the reading ended
   pub reading_ends : (left before now : Option (List ℕ)) (faults faults_before faults_now : ℕ) (sink : Writing) (seen : List Logged) (old : Reader) (end : ReadEnd) →
-      EndsReading before old now end faults_before faults_now → IsServing fair base (reading left before faults faults_before) sink seen old →
-      Converses fair base (reading left now faults faults_now) sink seen (Read end)
+      EndsReading before old now end faults_before faults_now → IsServing fair base user (reading left before faults faults_before) sink seen old →
+      Converses fair base user (reading left now faults faults_now) sink seen (Read end)
   reading_ends left before now faults faults_before faults_now sink seen old end ends s =
       let e = ends left s.taken s.lines s.reads in record {
         taken = s.taken ++ e.more;
@@ -112,13 +112,13 @@ module _ (fair : Sequent → Attempt → Type 0) (base : StoreBase) where
     pub lines : List Line
     pub text : List ℕ
     pub reads : IsReading left now taken (lines ++ line ∷ []) reader
-    pub talked : HasTalked fair base seen lines text
+    pub talked : HasTalked fair base user seen lines text
     pub writes : Writes sink text
     pub later : faults ≤ faults_now
     pub sink_later : sink.faults ≤ sink.faults_then
 
   pub line_read : (left before now : Option (List ℕ)) (faults faults_before faults_now : ℕ) (sink : Writing) (seen : List Logged) (old new : Reader) (line : Line) →
-      ReadsOn before old now new (line ∷ []) → faults_before ≤ faults_now → IsServing fair base (reading left before faults faults_before) sink seen old → HasLine left now faults faults_now sink seen new line
+      ReadsOn before old now new (line ∷ []) → faults_before ≤ faults_now → IsServing fair base user (reading left before faults faults_before) sink seen old → HasLine left now faults faults_now sink seen new line
   line_read left before now faults faults_before faults_now sink seen old new line on low s =
       let r = on left s.taken s.lines s.reads in record {
         taken = s.taken ++ r.0;
@@ -133,22 +133,22 @@ module _ (fair : Sequent → Attempt → Type 0) (base : StoreBase) where
 
   module _ (left now : Option (List ℕ)) (faults faults_now : ℕ) (seen : List Logged) (reader : Reader) where
     -- the session ends at the line
-    quits : (sink : Writing) → HasLine left now faults faults_now sink seen reader LineQuit → Converses fair base (reading left now faults faults_now) sink seen Quit
+    quits : (sink : Writing) → HasLine left now faults faults_now sink seen reader LineQuit → Converses fair base user (reading left now faults faults_now) sink seen Quit
     quits sink h =
         let u = unread_line left now h.taken reader.ended h.lines LineQuit _ (has_read left now h.taken (h.lines ++ LineQuit ∷ []) reader h.reads) in
         record { taken = h.taken; ended = reader.ended; lines = h.lines; left = u.0; text = h.text; read = u.1; over = (h.talked, h.writes, u.2); sink_later = h.sink_later }
 
-    is_cut : (sink : Writing) → HasLine left now faults faults_now sink seen reader LineCutEdit → Converses fair base (reading left now faults faults_now) sink seen CutEdit
+    is_cut : (sink : Writing) → HasLine left now faults faults_now sink seen reader LineCutEdit → Converses fair base user (reading left now faults faults_now) sink seen CutEdit
     is_cut sink h =
         let u = unread_line left now h.taken reader.ended h.lines LineCutEdit _ (has_read left now h.taken (h.lines ++ LineCutEdit ∷ []) reader h.reads) in
         record { taken = h.taken; ended = reader.ended; lines = h.lines; left = u.0; text = h.text; read = u.1; over = (h.talked, h.writes, u.2); sink_later = h.sink_later }
 
     pub ends_at_line : (sink : Writing) (line : Line) (ending : Ending) → EndsAt line ending → HasLine left now faults faults_now sink seen reader line →
-        Converses fair base (reading left now faults faults_now) sink seen ending
+        Converses fair base user (reading left now faults faults_now) sink seen ending
     ends_at_line sink line ending (inl (is, e)) h =
-        subst (Converses fair base (reading left now faults faults_now) sink seen) (sym e) (quits sink (subst (HasLine left now faults faults_now sink seen reader) is h))
+        subst (Converses fair base user (reading left now faults faults_now) sink seen) (sym e) (quits sink (subst (HasLine left now faults faults_now sink seen reader) is h))
     ends_at_line sink line ending (inr (is, e)) h =
-        subst (Converses fair base (reading left now faults faults_now) sink seen) (sym e) (is_cut sink (subst (HasLine left now faults faults_now sink seen reader) is h))
+        subst (Converses fair base user (reading left now faults faults_now) sink seen) (sym e) (is_cut sink (subst (HasLine left now faults faults_now sink seen reader) is h))
 
     -- the line is served
     module _ (line : Line) (written before after : Option (List ℕ)) (losses losses_before losses_after : ℕ) (sees : List Logged)
@@ -159,8 +159,8 @@ module _ (fair : Sequent → Attempt → Type 0) (base : StoreBase) where
       sinks_low : losses ≤ losses_after
       sinks_low = let a = h.sink_later in omega (arith, a, low)
 
-      pub serves : (result : Result ⊤ Ending) → ServesLine fair base line seen result sees (writing before after losses_before losses_after) →
-          TurnsTo fair base (reading left now faults faults_now) (writing written after losses losses_after) sees reader result
+      pub serves : (result : Result ⊤ Ending) → ServesLine fair base user line seen result sees (writing before after losses_before losses_after) →
+          TurnsTo fair base user (reading left now faults faults_now) (writing written after losses losses_after) sees reader result
       serves (Ok done) (said, answers, writes) =
           record {
             taken = h.taken;
@@ -218,9 +218,9 @@ module _ (fair : Sequent → Attempt → Type 0) (base : StoreBase) where
 
 -- THE ANSWER TO ONE LINE
 
-module _ (fair : Sequent → Attempt → Type 0) (base : StoreBase) (line : Line) (old new : List Logged) where
+module _ (fair : Sequent → Attempt → Type 0) (base : StoreBase) (user : ℕ) (line : Line) (old new : List Logged) where
   -- its text is made
-  pub served : (said : List ℕ) (sink : Writing) (r : Result ⊤ Ending) → AnswersUpTo fair base line old (tells said) new → SaysOrEnds sink said r → ServesLine fair base line old r new sink
+  pub served : (said : List ℕ) (sink : Writing) (r : Result ⊤ Ending) → AnswersUpTo fair base user line old (tells said) new → SaysOrEnds sink said r → ServesLine fair base user line old r new sink
   served said sink (Ok done) answers writes = (said, answers, writes)
   served said sink (Err WriteFault) answers writes = (said, answers, writes)
   served said sink (Err Untold) answers wrong = absurd wrong
@@ -230,7 +230,7 @@ module _ (fair : Sequent → Attempt → Type 0) (base : StoreBase) (line : Line
   served said sink (Err CutEdit) answers wrong = absurd wrong
 
   -- it isn't
-  pub unserved : (stop : Stop) (written : Option (List ℕ)) (losses : ℕ) → ComesOfLine fair base line old (Err stop) new → ServesLine fair base line old (Err (ending_of stop)) new (writing written written losses losses)
+  pub unserved : (stop : Stop) (written : Option (List ℕ)) (losses : ℕ) → ComesOfLine fair base user line old (Err stop) new → ServesLine fair base user line old (Err (ending_of stop)) new (writing written written losses losses)
   unserved stops.OutOfMemory written losses (said, answers) = (said, answers, Keeps-same written)
   unserved (stops.Store fault) written losses stopped = (stopped, Keeps-same written)
 
@@ -238,3 +238,6 @@ module _ (fair : Sequent → Attempt → Type 0) (base : StoreBase) (line : Line
 
 pub same_chair : (a b c : ChairState Logged StoreBase) → IsSameChair a b → IsSameChair b c → IsSameChair a c
 same_chair a b c p q = q ∙ ap (λ (z : ChairState Logged StoreBase). record z { acts = c.acts; seen = c.seen }) p
+
+pub same_number : (a b : ChairState Logged StoreBase) → IsSameChair a b → b.number ≡ a.number
+same_number a b is = ap (λ (z : ChairState Logged StoreBase). z.number) is

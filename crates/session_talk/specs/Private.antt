@@ -1,4 +1,4 @@
--- The dialogue of chair 0 between its lines.
+-- The dialogue of a user's chair between its lines.
 use Rattle.std.specs.Prelude.{◌≡◌, ◌⊎◌, ◌≤◌, ⊤, ℕ, List, Result, Ok, Err}
 use Rattle.sequent_core.specs.declared.Sequent.{Sequent}
 use Rattle.sequent_core.specs.declared.Attempt.{Attempt}
@@ -32,14 +32,14 @@ SaysOrEnds sink said (Ok done) = Writes sink said
 SaysOrEnds sink said (Err WriteFault) = WritesCut sink said
 SaysOrEnds sink said (Err ending) = ⊥
 
-module _ (fair : Sequent → Attempt → Type 0) (base : StoreBase) where
-  -- So far chair 0 has answered all lines that it read, and written the answers.
+module _ (fair : Sequent → Attempt → Type 0) (base : StoreBase) (user : ℕ) where
+  -- So far the chair has answered all lines that it read, and written the answers.
   pub record IsServing (source : SourceState) (sink : Writing) (seen : List Logged) (reader : Reader) : Type 0 where
     pub taken : List ℕ
     pub lines : List Line
     pub text : List ℕ
     pub reads : IsReading source.left source.left_then taken lines reader
-    pub talked : HasTalked fair base seen lines text
+    pub talked : HasTalked fair base user seen lines text
     pub writes : Writes sink text
     pub source_later : source.faults ≤ source.faults_then
     pub sink_later : sink.faults ≤ sink.faults_then
@@ -47,15 +47,15 @@ module _ (fair : Sequent → Attempt → Type 0) (base : StoreBase) where
   -- what the answer to a line did, and what of it was written
   abbrev pub ServesLine : Line → List Logged → Result ⊤ Ending → List Logged → Writing → Type 0
   ServesLine line old (Ok done) new sink =
-      (said : List ℕ) × AnswersUpTo fair base line old (tells said) new × Writes sink said
+      (said : List ℕ) × AnswersUpTo fair base user line old (tells said) new × Writes sink said
   ServesLine line old (Err WriteFault) new sink =
-      (said : List ℕ) × AnswersUpTo fair base line old (tells said) new × WritesCut sink said
+      (said : List ℕ) × AnswersUpTo fair base user line old (tells said) new × WritesCut sink said
   ServesLine line old (Err OutOfMemory) new sink =
-      (said : List ℕ) × AnswersUpTo fair base line old (tells said) new × WritesNothing sink
-  ServesLine line old (Err (Store fault)) new sink = StoppedIn fair base line old new × WritesNothing sink
+      (said : List ℕ) × AnswersUpTo fair base user line old (tells said) new × WritesNothing sink
+  ServesLine line old (Err (Store fault)) new sink = StoppedIn fair base user line old new × WritesNothing sink
   ServesLine line old (Err ending) new sink = ⊥
 
   -- one more line was answered, or the commands ended
   abbrev pub TurnsTo : SourceState → Writing → List Logged → Reader → Result ⊤ Ending → Type 0
   TurnsTo source sink seen reader (Ok done) = IsServing source sink seen reader
-  TurnsTo source sink seen reader (Err ending) = Converses fair base source sink seen ending
+  TurnsTo source sink seen reader (Err ending) = Converses fair base user source sink seen ending

@@ -1,4 +1,4 @@
-//! The dialogue of chair 0 with the user.
+//! The dialogue of a user's chair with the user.
 ghost use Rattle.std.specs.Prelude.{◌≡◌, ◌≢◌, ◌≤◌, ℕ, List, [], Option, MatchResult, string_bytes};
 ghost use Rattle.turn_desk.specs.Chairs.{IsOf, IsSameChair};
 ghost use Rattle.prover_pool.specs.Shift.{fair};
@@ -76,11 +76,11 @@ fn serve_line<R: Wait, V: EventStore, O: Sink, P: Prover, G: Gate>(
     output: &mut O,
     line: Line,
 ) -> Result<(), Ending>
-    requires chair { IsOf office.now.desk.now chair.old × (chair.old.number ≡ 0) }
+    requires chair { IsOf office.now.desk.now chair.old }
     requires line { (line ≢ Line.Quit) × (line ≢ Line.CutEdit) }
     ensures chair { IsSameChair chair.old chair.new }
     ensures served { ServesLine (fair (P.answers tools.now.prover.now) (P.sure tools.now.prover.now))
-        office.now.desk.now.base line chair.old.seen result chair.new.seen
+        office.now.desk.now.base chair.old.number line chair.old.seen result chair.new.seen
         (writing (O.written output.old) (O.written output.new) (O.faults output.old) (O.faults output.new)) }
     ensures later { O.faults output.old ≤ O.faults output.new }
 {
@@ -99,13 +99,15 @@ fn turn<R: Wait, V: EventStore, I: Source, O: Sink, P: Prover, G: Gate>(
     reader: &mut Reader,
     output: &mut O,
 ) -> Result<(), Ending>
-    requires { IsOf office.now.desk.now chair.old × (chair.old.number ≡ 0) }
+    requires { IsOf office.now.desk.now chair.old }
     ensures chair { IsSameChair chair.old chair.new }
     ensures turned { (left : Option (List ℕ)) (faults : ℕ) (written : Option (List ℕ)) (losses : ℕ) →
-        IsServing (fair (P.answers tools.now.prover.now) (P.sure tools.now.prover.now)) office.now.desk.now.base
+        IsServing (fair (P.answers tools.now.prover.now) (P.sure tools.now.prover.now))
+        office.now.desk.now.base chair.old.number
         (reading left (I.left input.old) faults (I.faults input.old))
         (writing written (O.written output.old) losses (O.faults output.old)) chair.old.seen reader.old →
-        TurnsTo (fair (P.answers tools.now.prover.now) (P.sure tools.now.prover.now)) office.now.desk.now.base
+        TurnsTo (fair (P.answers tools.now.prover.now) (P.sure tools.now.prover.now))
+        office.now.desk.now.base chair.old.number
         (reading left (I.left input.new) faults (I.faults input.new))
         (writing written (O.written output.new) losses (O.faults output.new)) chair.new.seen reader.new result }
 {
@@ -127,10 +129,10 @@ pub fn converse<R: Wait, V: EventStore, I: Source, O: Sink, P: Prover, G: Gate>(
     input: &mut I,
     output: &mut O,
 ) -> Ending
-    requires { IsOf office.now.desk.now chair.old × (chair.old.number ≡ 0) × (chair.old.seen ≡ []) }
+    requires { IsOf office.now.desk.now chair.old × (chair.old.seen ≡ []) }
     ensures chair { IsSameChair chair.old chair.new }
     ensures ended { Converses (fair (P.answers tools.now.prover.now) (P.sure tools.now.prover.now))
-        office.now.desk.now.base
+        office.now.desk.now.base chair.old.number
         (reading (I.left input.old) (I.left input.new) (I.faults input.old) (I.faults input.new))
         (writing (O.written output.old) (O.written output.new) (O.faults output.old) (O.faults output.new))
         chair.new.seen result }
