@@ -19,7 +19,7 @@ module _ (chair_of : Logged → ℕ) (means : Meaning Logged StoreBase) (fair : 
     (unseen : first.seen ≡ []) (new : AreNew first 1 cs) (count : length cs ≡ workers) (same : AreSame cs ds) (served : EachServed chair_of means fair at cs ds)
     (taken : HasJoined chair_of last ds 0) (made : last.made ≡ 1 + workers) (seen : HasSeen chair_of 0 talked.seen last.seen)
     (log : List Logged) (whole : log ≡ last.seen) (stay : JoinedStay chair_of last.joined log) (unmade : NoneFrom chair_of last.made log) (marks : HasMarkLast means log)
-    (source : SourceState) (sink : Writing) (ending : Ending) (talks : Converses fair at source sink talked.seen ending) where
+    (source : SourceState) (sink : Writing) (ending : Ending) (talks : Converses fair at 0 source sink talked.seen ending) where
   each : (k : ℕ) → 0 < k → k < workers + 1 → WasServed chair_of means fair at k [] log
   each k low high = subst (λ s. WasServed chair_of means fair at k s log) unseen
       (each_was_served chair_of means fair at first last cs ds new same served taken log whole stay marks k low (subst (λ n. k < n + 1) (sym count) high))

@@ -21,4 +21,4 @@ module _ (chair_of : Logged → ℕ) (means : Meaning Logged StoreBase) (fair : 
     pub unmade : NoneFrom chair_of (workers + 1) log
     pub seen : List Logged
     pub has_seen : HasSeen chair_of 0 seen log
-    pub converses : Converses fair base source sink seen ending
+    pub converses : Converses fair base 0 source sink seen ending

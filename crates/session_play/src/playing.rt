@@ -30,7 +30,7 @@ fn lead<R: Wait, V: EventStore, I: Source, O: Sink, P: Prover, G: Gate>(
     requires { IsOf office.now.desk.now chair.old × (chair.old.number ≡ 0) × (chair.old.seen ≡ []) }
     ensures chair { IsSameChair chair.old chair.new }
     ensures ended { Converses (fair (P.answers tools.now.prover.now) (P.sure tools.now.prover.now))
-        office.now.desk.now.base
+        office.now.desk.now.base 0
         (reading (I.left input.old) (I.left input.new) (I.faults input.old) (I.faults input.new))
         (writing (O.written output.old) (O.written output.new) (O.faults output.old) (O.faults output.new))
         chair.new.seen result }
@@ -100,7 +100,7 @@ fn converse_beside<
         (fair (P.answers tools.now.prover.now) (P.sure tools.now.prover.now))
         office.now.desk.now.base chairs.old.items chairs.new.items }
     ensures ended { Converses (fair (P.answers tools.now.prover.now) (P.sure tools.now.prover.now))
-        office.now.desk.now.base
+        office.now.desk.now.base 0
         (reading (I.left input.old) (I.left input.new) (I.faults input.old) (I.faults input.new))
         (writing (O.written output.old) (O.written output.new) (O.faults output.old) (O.faults output.new))
         first.new.seen result }
@@ -109,7 +109,7 @@ fn converse_beside<
         requires { IsOf office.now.desk.now first.now × (first.now.number ≡ 0) × (first.now.seen ≡ []) }
         ensures { IsSameChair first.entry.now first.exit.now
             × Converses (fair (P.answers tools.entry.now.prover.now) (P.sure tools.entry.now.prover.now))
-            office.entry.now.desk.now.base
+            office.entry.now.desk.now.base 0
             (reading (I.left input.entry.now) (I.left input.exit.now)
             (I.faults input.entry.now) (I.faults input.exit.now))
             (writing (O.written output.entry.now) (O.written output.exit.now)
