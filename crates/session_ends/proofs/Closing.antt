@@ -68,10 +68,10 @@ module _ (laws : CoreLaws) (fair : Sequent → Attempt → Type 0) (base : Store
     (store : IsStoreLog base log xs mark s) (seen : List Logged) (has : HasSeen chair_of 0 seen log) (source : SourceState) (sink : Writing)
     (taken : List ℕ) (ended : Bool) (lines : List Line) (left : List Command) (text : List ℕ) (read : HasRead source.left source.left_then taken ended lines left) where
   abbrev pub Over : Ending → Type 0
-  Over ending = IsOver fair base source sink seen taken ended lines left text ending
+  Over ending = IsOver fair base 0 source sink seen taken ended lines left text ending
 
   -- all its lines were answered
-  abbrev pub answered : HasTalked fair base seen lines text → HasAnswered fair source xs
+  abbrev pub answered : HasTalked fair base 0 seen lines text → HasAnswered fair source xs
   answered t = record {
     taken = taken;
     ended = ended;
@@ -87,7 +87,7 @@ module _ (laws : CoreLaws) (fair : Sequent → Attempt → Type 0) (base : Store
     pub reach : HasReached fair source xs
     pub own_mark : (event : Event) → mark ≡ Some (0, event) → IsNextOf fair reach.begun event
 
-  abbrev between : HasTalked fair base seen lines text → Came
+  abbrev between : HasTalked fair base 0 seen lines text → Came
   between t = record {
     reach = record {
       taken = taken;
@@ -103,7 +103,7 @@ module _ (laws : CoreLaws) (fair : Sequent → Attempt → Type 0) (base : Store
     own_mark = λ event is. no_own_mark laws fair base log xs mark s store t.xs seen t.log.entries has event is;
   }
 
-  abbrev untold : (line : Line) (said : List ℕ) → IsNextLine left line → IsTalking fair base seen lines text line (tells said) → Came
+  abbrev untold : (line : Line) (said : List ℕ) → IsNextLine left line → IsTalking fair base 0 seen lines text line (tells said) → Came
   untold line said next t = record {
     reach = record {
       taken = taken;
@@ -119,7 +119,7 @@ module _ (laws : CoreLaws) (fair : Sequent → Attempt → Type 0) (base : Store
     own_mark = λ event is. no_own_mark laws fair base log xs mark s store t.xs seen t.log.entries has event is;
   }
 
-  abbrev halted : (line : Line) → IsNextLine left line → StopsAtLine fair base lines text line seen → Came
+  abbrev halted : (line : Line) → IsNextLine left line → StopsAtLine fair base 0 lines text line seen → Came
   halted line next t =
       let q = stopped laws fair base log xs mark s store seen lines text line t has in
       record {

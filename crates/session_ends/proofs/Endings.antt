@@ -57,7 +57,7 @@ module _ (laws : CoreLaws) (fair : Sequent → Attempt → Type 0) (workers : �
   abbrev comes : (ending : Ending) → Overs ending → Came laws fair base log xs (mark_in kept) s store seen has source (writing before after_ f g) taken ended lines left text read
   comes ending over = came laws fair base log xs (mark_in kept) s store seen has source (writing before after_ f g) taken ended lines left text read ending over
 
-  abbrev all : HasTalked fair base seen lines text → HasAnswered fair source xs
+  abbrev all : HasTalked fair base 0 seen lines text → HasAnswered fair source xs
   all = answered laws fair base log xs (mark_in kept) s store seen has source (writing before after_ f g) taken ended lines left text read
 
   abbrev Wrote : List ℕ → Type 0
@@ -75,7 +75,7 @@ module _ (laws : CoreLaws) (fair : Sequent → Attempt → Type 0) (workers : �
   -- A FAULT OF THE STORE
 
   abbrev Failed : (ending : Ending) → Overs ending → Type 0
-  Failed ending over = (chair : ℕ) (event : Event) → mark_in kept ≡ Some (chair, event) → IsFailedEvent fair (comes ending over).reach.begun s event
+  Failed ending over = (chair : ℕ) (event : Event) → mark_in kept ≡ Some (chair, event) → IsFailedEvent fair 1 (λ user. (comes ending over).reach.begun) s event
 
   written_at : (line : List ℕ) (ending : Ending) (over : Overs ending) → ending ≢ Untold → Wrote line →
       WritesUpTo (comes ending over).reach.begun sink (comes ending over).reach.text line
@@ -120,7 +120,7 @@ module _ (laws : CoreLaws) (fair : Sequent → Attempt → Type 0) (workers : �
   no_line_read over failed w = record {
     reached = (comes (Read OutOfMemory) over).reach;
     done = tt;
-    failed = if_failed kept (IsFailedEvent fair (comes (Read OutOfMemory) over).reach.begun s) failed;
+    failed = if_failed kept (IsFailedEvent fair 1 (λ user. (comes (Read OutOfMemory) over).reach.begun) s) failed;
     written = nothing_then text over.1 w;
   }
 
@@ -128,7 +128,7 @@ module _ (laws : CoreLaws) (fair : Sequent → Attempt → Type 0) (workers : �
   not_told (line, said, next, t, writes) failed w = record {
     reached = (comes Untold (line, said, next, t, writes)).reach;
     done = (said, refl);
-    failed = if_failed kept (IsFailedEvent fair (comes Untold (line, said, next, t, writes)).reach.begun s) failed;
+    failed = if_failed kept (IsFailedEvent fair 1 (λ user. (comes Untold (line, said, next, t, writes)).reach.begun) s) failed;
     written = nothing_then text writes w;
   }
 
@@ -144,7 +144,7 @@ module _ (laws : CoreLaws) (fair : Sequent → Attempt → Type 0) (workers : �
   faulted k is e = at_store_fault k is refl e
 
   -- no fault of the store
-  pub by_none : kept ≡ None → HaveFinished fair workers xs → (ending : Ending) (over : Overs ending) → Failed ending over → Wrote (end_line ending) → By (end_status ending)
+  pub by_none : kept ≡ None → HaveFinished fair 1 workers xs → (ending : Ending) (over : Overs ending) → Failed ending over → Wrote (end_line ending) → By (end_status ending)
   by_none none finished (Read Ended) (t, writes, why) failed w =
       read_to_its_end refl none (record { answered = all t; finished = finished; over = inl why; written = nothing_then text writes w })
   by_none none finished Quit (t, writes, next) failed w =

@@ -67,12 +67,12 @@ module _ (laws : CoreLaws) (fair : Sequent → Attempt → Type 0) (base : Store
   plain_is : plain log ≡ map done xs
   plain_is = ap plain store.entries ∙ (plain_both (map done xs) (marks mark) ∙ (ap (λ l. plain (map done xs) ++ l) (plain_marks mark) ∙ (append-nil (plain (map done xs)) ∙ plain_done xs)))
 
-  pub talked : (seen : List Logged) (lines : List Line) (text : List ℕ) → HasTalked fair base seen lines text → HasSeen chair_of 0 seen log → Dialogue fair lines (own 0 xs) text
-  talked seen lines text h has = talk_stands laws base fair seen log lines text xs s h has plain_is store.run
+  pub talked : (seen : List Logged) (lines : List Line) (text : List ℕ) → HasTalked fair base 0 seen lines text → HasSeen chair_of 0 seen log → Dialogue fair lines (own 0 xs) text
+  talked seen lines text h has = talk_stands laws base fair 0 seen log lines text xs s h has plain_is store.run
 
-  pub told : (seen : List Logged) (lines : List Line) (text : List ℕ) (line : Line) (next : Next) → IsTalking fair base seen lines text line next → HasSeen chair_of 0 seen log →
+  pub told : (seen : List Logged) (lines : List Line) (text : List ℕ) (line : Line) (next : Next) → IsTalking fair base 0 seen lines text line next → HasSeen chair_of 0 seen log →
       IsPartway fair lines line (own 0 xs) text next
-  told seen lines text line next h has = talking_stands laws base fair seen log lines text line next xs s h has plain_is store.run
+  told seen lines text line next h has = talking_stands laws base fair 0 seen log lines text line next xs s h has plain_is store.run
 
   -- a chair whose log had no mark, and which has made no act since, has none of its own
   pub no_own_mark : (us : List (ℕ × Exchange)) (seen : List Logged) → seen ≡ map done us → HasSeen chair_of 0 seen log → (event : Event) → mark ≡ Some (0, event) → ⊥
@@ -96,7 +96,7 @@ module _ (laws : CoreLaws) (fair : Sequent → Attempt → Type 0) (base : Store
     pub waits : (event : Event) × IsNext fair next event
     pub marked : mark ≢ None
 
-  pub stopped : (seen : List Logged) (lines : List Line) (text : List ℕ) (line : Line) → StopsAtLine fair base lines text line seen → HasSeen chair_of 0 seen log → IsStopped lines text line
+  pub stopped : (seen : List Logged) (lines : List Line) (text : List ℕ) (line : Line) → StopsAtLine fair base 0 lines text line seen → HasSeen chair_of 0 seen log → IsStopped lines text line
   stopped seen lines text line h has = by h.refused.0 where
     e : Logged
     e = h.refused.1.1

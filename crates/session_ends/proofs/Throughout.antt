@@ -56,14 +56,14 @@ module _ {D : Type 0} (told : Type 0) (bytes_of : D → Sides) (images : D → S
       events = p.plays.events;
       run = p.plays.run;
       reached = how.reached;
-      next = subst (λ (f : KeptFault). IsFailedEvent fair how.reached.begun p.store.core f.act.1) (one_fault p.store.kept j k is met) how.failed;
+      next = subst (λ (f : KeptFault). IsFailedEvent fair 1 (λ user. how.reached.begun) p.store.core f.act.1) (one_fault p.store.kept j k is met) how.failed;
     }
     in_hand k met (without_memory is how) = record {
       xs = p.xs;
       events = p.plays.events;
       run = p.plays.run;
       reached = how.reached;
-      next = subst (λ (f : Option KeptFault). IfSome (option_map (λ y. y.act.1) f) (IsFailedEvent fair how.reached.begun p.store.core)) met how.failed;
+      next = subst (λ (f : Option KeptFault). IfSome (option_map (λ y. y.act.1) f) (IsFailedEvent fair 1 (λ user. how.reached.begun) p.store.core)) met how.failed;
     }
 
     whole : (c : Sides) → Recovers c p.store.core.durable → StandsAtFront p.store.base history c

@@ -80,7 +80,7 @@ module _ {D : Type 0} (told : Type 0) (bytes_of : D → Sides) (images : D → S
     opened_base : p.store.base ≡ free.base
     opened_base = sym (durable_is free.base p.store.base (p.opens.exactly tells (durable free.base) free.stands))
 
-    next : (event : Event) (reached : HasReached fair source p.xs) → IsFailedEvent fair reached.begun p.store.core event → MayComeNext fair free.base source history p.store.core event
+    next : (event : Event) (reached : HasReached fair source p.xs) → IsFailedEvent fair 1 (λ user. reached.begun) p.store.core event → MayComeNext fair free.base source history p.store.core event
     next event reached failed = record {
       xs = p.xs;
       events = p.plays.events;

@@ -1,5 +1,5 @@
 -- A whole session on an opened store, from what its play and its store tell.
-use Rattle.std.proofs.Common.{◌≡◌, ◌∙◌, sym, ap, subst, refl, ℕ, ◌≤◌, true, false, List, [], ◌∷◌, ◌++◌, map, arith}
+use Rattle.std.proofs.Common.{◌≡◌, ◌∙◌, sym, ap, subst, refl, ℕ, ◌+◌, ◌≤◌, true, false, List, [], ◌∷◌, ◌++◌, map, arith}
 use Rattle.std.specs.Prelude.{Option, Some, None}
 use Rattle.std.specs.Option.{option_map}
 use Rattle.outside.specs.Disk.{Sides, LeavesOnly}
@@ -10,6 +10,7 @@ use Rattle.core_steps.specs.declared.Event.{Event}
 use Rattle.core_steps.specs.Laws.{EntersAll, TellsTheRebuilt, TellsRebuilt}
 use Rattle.core_steps.specs.State.{State, opened, after}
 use Rattle.core_steps.specs.Run.{Exchange, Runs}
+use Rattle.turn_desk.specs.Log.{NoneFrom}
 use Rattle.store_log.specs.declared.Logged.{Logged}
 use Rattle.store_log.specs.declared.StoreBase.{StoreBase}
 use Rattle.store_log.specs.History.{exchanges_of, events_of}
@@ -22,7 +23,7 @@ use Rattle.core_steps.specs.Table.{IsTableWithin}
 use Rattle.sequent_core.specs.declared.Obligation.{Obligation}
 use Rattle.project_store.specs.Store.{StoreState, IsSoundStore, Rests, logged, mark_in, log_in, base_in}
 use Rattle.session_run.specs.Dialogue.{begins}
-use Rattle.session_run.specs.OneHistory.{OneHistory, CompleteWhenIdle, MakesHistory}
+use Rattle.session_run.specs.OneHistory.{OneHistory, CompleteWhenIdle, Progress, CameSoFar, MakesHistory}
 use Rattle.session_run.specs.Workers.{begins as none_yet}
 use Rattle.session_run.proofs.Runs.{CoreLaws, run_cut}
 use Rattle.session_streams.specs.Streams.{SourceState, Writing, reading, writing}
@@ -80,14 +81,23 @@ module _ {D : Type 0} (told : Type 0) (bytes_of : D → Sides) (images : D → S
   comes = came laws fair (base_in st) (log_in st) sound.exchanges (mark_in st.kept) st.core store p.seen p.has_seen source (writing before after_ f g)
       p.converses.taken p.converses.ended p.converses.lines p.converses.left p.converses.text p.converses.read ending p.converses.over
 
-  makes : MakesHistory fair (base_in st) sound.exchanges (mark_in st.kept) st.core workers comes.reach.begun
-  makes = history_law (base_in st) (log_in st) sound.exchanges (mark_in st.kept) st.core workers comes.reach.lines comes.reach.begun comes.reach.text (record {
-    store = store;
-    served = p.served;
-    unmade = p.unmade;
+  abbrev progress : ℕ → Progress
+  progress user = record { lines = comes.reach.lines; begun = comes.reach.begun; text = comes.reach.text }
+
+  came_so_far : CameSoFar fair sound.exchanges (mark_in st.kept) 0 (progress 0)
+  came_so_far = record {
     users = users fair source sound.exchanges comes.reach;
     reached = comes.reach.reached;
     own_mark = comes.own_mark;
+  }
+
+  makes : MakesHistory fair (base_in st) sound.exchanges (mark_in st.kept) st.core 1 workers progress
+  makes = history_law (base_in st) (log_in st) sound.exchanges (mark_in st.kept) st.core 1 workers progress (record {
+    store = store;
+    served = λ k low high. p.served k (omega (arith, low)) (omega (arith, high));
+    unmade = let same_count : workers + 1 ≡ 1 + workers = omega arith in subst (λ n. NoneFrom chair_of n (log_in st)) same_count p.unmade;
+    each = λ user low. let zero_ : 0 ≡ user = omega (arith, low) in
+        subst (λ n. CameSoFar fair sound.exchanges (mark_in st.kept) n (progress n)) zero_ came_so_far;
   })
 
   has_history : HasHistory fair sure workers st.base st.history st.core.durable sound.exchanges st.core

@@ -90,7 +90,7 @@ module _ (fair : Sequent → Attempt → Type 0) (sure : Sequent → Type 0) (wo
     pub folds : last ≡ after d (map (λ x. x.entry) (exchanges_of xs))
     pub clean : IsClean d (exchanges_of xs)
     pub truthful : IsTruthful d (exchanges_of xs)
-    pub worked : HaveWorked fair workers xs
+    pub worked : HaveWorked fair 1 workers xs
     pub complete : IsCompleteWhenIdle sure d (exchanges_of xs)
 
 module _ (fair : Sequent → Attempt → Type 0) (workers : ℕ)
@@ -98,14 +98,14 @@ module _ (fair : Sequent → Attempt → Type 0) (workers : ℕ)
   -- STATUS 0: all lines were answered, to the end of the input or to `quit`, and the whole text is written
   pub record EndsWell : Type 0 where
     pub answered : HasAnswered fair source xs
-    pub finished : HaveFinished fair workers xs
+    pub finished : HaveFinished fair 1 workers xs
     pub over : ((answered.ended ≡ true) × (answered.left ≡ [])) ⊎ IsNextLine answered.left Quit
     pub written : Writes sink answered.text
 
   -- STATUS 1: all lines were answered, and the input ended inside an edit
   pub record EndsInsideEdit : Type 0 where
     pub answered : HasAnswered fair source xs
-    pub finished : HaveFinished fair workers xs
+    pub finished : HaveFinished fair 1 workers xs
     pub over : (answered.ended ≡ true) × IsNextLine answered.left CutEdit
     pub written : WritesThen sink answered.text (codes "input: ended inside an edit\n")
 
@@ -113,7 +113,7 @@ module _ (fair : Sequent → Attempt → Type 0) (workers : ℕ)
   pub record EndsAtReadFault : Type 0 where
     pub failed : SourceFailed source
     pub answered : HasAnswered fair source xs
-    pub finished : HaveFinished fair workers xs
+    pub finished : HaveFinished fair 1 workers xs
     pub over : (answered.ended ≡ false) × (answered.left ≡ [])
     pub written : WritesThen sink answered.text (codes "input: read fault\n")
 
@@ -121,7 +121,7 @@ module _ (fair : Sequent → Attempt → Type 0) (workers : ℕ)
   pub record EndsAtWriteFault : Type 0 where
     pub failed : SinkFailed sink
     pub reached : HasReached fair source xs
-    pub finished : HaveFinished fair workers xs
+    pub finished : HaveFinished fair 1 workers xs
     pub line : Line
     pub said : List ℕ
     pub over : reached.begun ≡ Some (line, tells said)
@@ -131,7 +131,7 @@ module _ (fair : Sequent → Attempt → Type 0) (workers : ℕ)
   -- STATUS 7, `full: input`: all lines in the first 67,108,864 bytes were answered, and the input has more bytes
   pub record EndsWithFullInput : Type 0 where
     pub answered : HasAnswered fair source xs
-    pub finished : HaveFinished fair workers xs
+    pub finished : HaveFinished fair 1 workers xs
     pub full : length answered.taken ≡ 67108865
     pub over : (answered.ended ≡ false) × (answered.left ≡ [])
     pub written : WritesThen sink answered.text (codes "full: input\n")
@@ -141,7 +141,7 @@ module _ (fair : Sequent → Attempt → Type 0) (workers : ℕ)
   -- was begun.
   pub record EndsAtStoreFault (event : Event) (line : List ℕ) (s : State) : Type 0 where
     pub reached : HasReached fair source xs
-    pub failed : IsFailedEvent fair reached.begun s event
+    pub failed : IsFailedEvent fair 1 (λ user. reached.begun) s event
     pub over : reached.begun ≡ None → IsReadOut source reached.taken reached.ended reached.left
     pub written : WritesUpTo reached.begun sink reached.text line
 
@@ -150,5 +150,5 @@ module _ (fair : Sequent → Attempt → Type 0) (workers : ℕ)
   pub record EndsWithoutMemory (event : Option Event) (s : State) : Type 0 where
     pub reached : HasReached fair source xs
     pub done : HasOnlyTextLeft reached.begun
-    pub failed : IfSome event (IsFailedEvent fair reached.begun s)
+    pub failed : IfSome event (IsFailedEvent fair 1 (λ user. reached.begun) s)
     pub written : Writes sink reached.text

@@ -29,7 +29,7 @@ module _ (fair : Sequent → Attempt → Type 0) (base : Durable) (source : Sour
     pub events : history ≡ events_of xs
     pub run : Runs (opened base) (exchanges_of xs) s
     pub reached : HasReached fair source xs
-    pub next : IsFailedEvent fair reached.begun s event
+    pub next : IsFailedEvent fair 1 (λ user. reached.begun) s event
 
 module _ {D : Type 0} (bytes_of : D → Sides) (images : D → Sides → Type 0) where
   -- the entry that the event adds has no room on the disk
