@@ -294,6 +294,13 @@ impl<V: Kept> Desk<V> {
 impl<V: Kept> Chair<V> {
     ghost use Rattle.turn_desk.specs.Chairs.{IsOf, new_chair, with_chair};
 
+    /// The number of the chair.
+    pub fn number(&self) -> u32
+        ensures { result ≡ self.now.number }
+    {
+        self.number
+    }
+
     /// Makes the chair with the next number, which has seen the same as chair 0.
     pub fn split(&mut self, desk: &Desk<V>) -> Chair<V>
         requires of { IsOf desk.now self.old }
