@@ -15,7 +15,7 @@ ghost use Rattle.session_run.specs.PrivateActing.{ActsOn, TookNamed};
 use core_steps::{Event, Question, Reply};
 use formula_core::PoName;
 use outside::Gate;
-use prover_pool::Tools;
+use prover_pool::{Office, Tools};
 use sequent_core::{Prover, Ticket};
 use std::sync::Wait;
 use store_log::{Apply, EventStore, StoreFault};
@@ -36,26 +36,45 @@ pub(crate) fn act_on<R: Wait, V: EventStore>(
     desk.act(rt, chair, Apply { event })
 }
 
+// Which of two users has the chair.
+fn user_of<V: EventStore>(chair: &Chair<V>) -> u32
+    ensures { result < 2 }
+{
+    u32::from(chair.number() > 0)
+}
+
+/// Waits for a finish by another chair.
+pub(crate) fn wait_for_finish<R: Wait, V: EventStore>(
+    rt: &R,
+    office: &Office<'_, V>,
+    chair: &Chair<V>,
+) {
+    office.notices.finished_for(rt, user_of(chair));
+}
+
 /// Asks the prover on a ticket that the chair took, and hands in what it answers.
+///
+/// The other user is told of the finish, also where it met a fault of the store: that user may wait for it.
 pub(crate) fn finish_ticket<R: Wait, V: EventStore, P: Prover, G: Gate>(
     tools: &Tools<'_, R, P, G>,
-    desk: &Desk<V>,
+    office: &Office<'_, V>,
     chair: &mut Chair<V>,
     ticket: Ticket,
 ) -> Result<Reply, StoreFault>
-    requires chair { IsOf desk.now chair.old }
+    requires chair { IsOf office.now.desk.now chair.old }
     requires sequent { IsSequent ticket.sequent }
     ensures chair { chair.new ≡ record chair.old { acts = chair.old.acts + 1; seen = chair.new.seen } }
     ensures acted { (attempt : Attempt)
         × fair (P.answers tools.now.prover.now) (P.sure tools.now.prover.now) ticket.sequent attempt
-        × ActsOn desk.now.base chair.old.number (Event.Finish ticket.number attempt) chair.old.seen
+        × ActsOn office.now.desk.now.base chair.old.number (Event.Finish ticket.number attempt) chair.old.seen
         result chair.new.seen }
 {
     let number = ticket.number;
     let attempt = tools.prover.attempt(tools.alloc, &ticket.sequent);
     tools.gate.before_finish(number);
-    let reply = act_on(tools.rt, desk, chair, Event::Finish(number, attempt));
+    let reply = act_on(tools.rt, office.desk, chair, Event::Finish(number, attempt));
     tools.gate.after_finish(number);
+    office.notices.finish_by(tools.rt, user_of(chair));
     reply
 }
 

@@ -15,7 +15,7 @@ ghost use Rattle.session_run.specs.Private.{GoesOn, StoppedWithin};
 ghost use Rattle.store_log.specs.declared.Logged.{Logged};
 ghost use Rattle.store_log.specs.declared.StoreFault.{StoreFault as Fault};
 
-use crate::acting::{act_on, ask_idle, finish_ticket, take_named, take_next};
+use crate::acting::{act_on, ask_idle, finish_ticket, take_named, take_next, wait_for_finish};
 use core_steps::{Event, Reply, one_answer, stays_orderly};
 use formula_core::{OutOfMemory, PoName};
 use outside::Gate;
@@ -124,7 +124,7 @@ fn finish_told<R: Wait, V: EventStore, P: Prover, G: Gate>(
     one_answer();
     stays_orderly();
     shows_well_formulas();
-    match finish_ticket(tools, office.desk, chair, ticket) {
+    match finish_ticket(tools, office, chair, ticket) {
         Ok(reply) => text_of(tools.alloc, &reply),
         Err(fault) => Err(Stop::Store(fault)),
     }
@@ -153,7 +153,7 @@ fn auto<R: Wait, V: EventStore, P: Prover, G: Gate>(
 }
 
 // A round of `wait`: a ticket is taken and finished, or it is asked whether all is idle. Where it isn't, it waits for the
-// finish of a worker.
+// finish of another chair.
 fn wait_turn<R: Wait, V: EventStore, P: Prover, G: Gate>(
     tools: &Tools<'_, R, P, G>,
     office: &Office<'_, V>,
@@ -175,7 +175,7 @@ fn wait_turn<R: Wait, V: EventStore, P: Prover, G: Gate>(
     stays_orderly();
     match take_next(tools.rt, office.desk, chair) {
         Err(fault) => Err(fault),
-        Ok(Some(ticket)) => match finish_ticket(tools, office.desk, chair, ticket) {
+        Ok(Some(ticket)) => match finish_ticket(tools, office, chair, ticket) {
             Ok(reply) => {
                 drop(reply);
                 Ok(false)
@@ -186,7 +186,7 @@ fn wait_turn<R: Wait, V: EventStore, P: Prover, G: Gate>(
             Err(fault) => Err(fault),
             Ok(idle) => {
                 if !idle {
-                    office.notices.finished(tools.rt);
+                    wait_for_finish(tools.rt, office, chair);
                 }
                 Ok(idle)
             }
