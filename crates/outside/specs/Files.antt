@@ -1,4 +1,4 @@
--- What contracts see of a disk of two files.
+-- What contracts see of a disk of two files, and of a source or a sink over one.
 use Rattle.std.specs.Prelude.{◌≡◌, ℕ, ℤ, pos, ◌<ℤ◌, Bool, true, Option, None, is_some, IfSome}
 use Rattle.outside.specs.declared.side.Side.{Side}
 use Rattle.outside.specs.declared.side.Side.TheVariants.{Left, Right}
@@ -41,3 +41,18 @@ pub record KeepsFiles (old new : FilesOfDisk) : Type 0 where
   pub opened : old.opened ≡ true → new.opened ≡ true
   pub left : old.opened ≡ true → is_some old.left ≡ true → new.left ≡ old.left
   pub right : old.opened ≡ true → is_some old.right ≡ true → new.right ≡ old.right
+
+-- of one file: whether a call has opened it, its descriptor if it is there, and how often a call failed
+pub record StreamOfFile : Type 0 where
+  pub opened : Bool
+  pub descriptor : Option ℤ
+  pub faults : ℕ
+
+-- it doesn't have the descriptor of a standard stream
+abbrev pub LeavesEachStream : StreamOfFile → Type 0
+LeavesEachStream stream = IfSome stream.descriptor IsNoStream
+
+-- what a call has opened stays so
+pub record StaysOpen (old new : StreamOfFile) : Type 0 where
+  pub opened : old.opened ≡ true → new.opened ≡ true
+  pub descriptor : old.opened ≡ true → new.descriptor ≡ old.descriptor

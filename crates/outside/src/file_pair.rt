@@ -8,11 +8,11 @@ ghost use Rattle.outside.specs.Private.{descriptor_of, HasNoStream};
 ghost use Rattle.outside.specs.Disk.{overwritten, Torn, TornCut, OnSide, ReadsSide, Leaves, SameImages, Syncs, Elapses, ReadsAt};
 
 use crate::faults::Faults;
+use crate::standard_streams::{fill_streams, no_stream};
 use crate::{Disk, Failed, Side};
 use std::fs::{File, OpenOptions};
 use std::io::{self, Read, Seek, SeekFrom, Write};
 use std::marker::Model;
-use std::os::fd::{AsRawFd, IntoRawFd};
 use std::rt::Files;
 
 /// The files `rodin.left` and `rodin.right` of the working directory as a disk, which tells no content. Each error of a
@@ -51,33 +51,6 @@ impl<'a, R: Files<File = File>> Model for FilePair<'a, R> {
     } };
 
     ghost invariant = { λ d. HasNoStream d.left × HasNoStream d.right };
-}
-
-/// The greatest descriptor of a standard stream.
-const LAST_STREAM: i32 = 2;
-
-// Gives the directory to each standard stream that is closed, for good: what is opened next would take its descriptor.
-fn fill_streams<R: Files<File = File>>(rt: &R) -> io::Result<()> {
-    for _ in 0..=LAST_STREAM {
-        let folder = File::open(rt, ".")?;
-        if folder.as_raw_fd() > LAST_STREAM {
-            return Ok(());
-        }
-        folder.into_raw_fd();
-    }
-    Ok(())
-}
-
-// Refuses a file with the descriptor of a standard stream, which would be read or written as that stream.
-fn no_stream(file: File) -> io::Result<File>
-    ensures refused { IsOk result ↔ IsNoStream (file_raw_fd file) }
-    ensures same { IfOk result (λ it. it ≡ file) }
-{
-    if file.as_raw_fd() > LAST_STREAM {
-        Ok(file)
-    } else {
-        Err(io::ErrorKind::Other.into())
-    }
 }
 
 // Makes the names of the files outlast a stop of the machine.
