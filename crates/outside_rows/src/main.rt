@@ -3,6 +3,7 @@
 #![tactic(auto)]
 
 mod disks;
+mod file_streams;
 mod files;
 mod journals;
 mod rows;
@@ -25,6 +26,7 @@ fn main(rt: HostRuntime) -> io::Result<()> {
     disks::images(&rt, alloc)?;
     disks::sure(&rt, alloc)?;
     files::two_disks(&rt)?;
+    file_streams::from_nothing(&rt)?;
     journals::refused(&rt, alloc)?;
     journals::standing(&rt, alloc)?;
     journals::written(&rt, alloc)?;

@@ -7,10 +7,10 @@ use std::collections::VecDeque;
 use std::io;
 use std::io::{ErrorKind, Write};
 
-// A call of a sink.
+/// A call of a sink.
 #[derive(Clone, Copy)]
-enum Call {
-    Write(&'static str),
+pub enum Call<'a> {
+    Write(&'a str),
     Flush,
 }
 
@@ -24,7 +24,7 @@ fn flush<S: Sink>(rt: &impl Print, sink: &mut S) -> io::Result<()> {
     with_faults(rt, answer, sink.faults())
 }
 
-fn make_call<S: Sink>(rt: &impl Print, name: &str, sink: &mut S, call: Call) -> io::Result<()> {
+fn make_call<S: Sink>(rt: &impl Print, name: &str, sink: &mut S, call: Call<'_>) -> io::Result<()> {
     match call {
         Call::Write(piece) => {
             print!(rt; "{name} takes '{piece}'\t")?;
@@ -37,7 +37,13 @@ fn make_call<S: Sink>(rt: &impl Print, name: &str, sink: &mut S, call: Call) -> 
     }
 }
 
-fn make_each<S: Sink>(rt: &impl Print, name: &str, sink: &mut S, calls: &[Call]) -> io::Result<()> {
+/// Calls of a sink, one after the other.
+pub fn make_each<S: Sink>(
+    rt: &impl Print,
+    name: &str,
+    sink: &mut S,
+    calls: &[Call<'_>],
+) -> io::Result<()> {
     for it in calls {
         make_call(rt, name, sink, *it)?;
     }
@@ -74,7 +80,7 @@ pub fn memory(rt: &impl Print, alloc: Global) -> io::Result<()> {
     )
 }
 
-const TAKEN: [Call; 3] = [Call::Write("abc"), Call::Write(""), Call::Flush];
+const TAKEN: [Call<'_>; 3] = [Call::Write("abc"), Call::Write(""), Call::Flush];
 
 pub fn sure(rt: &impl Print) -> io::Result<()> {
     make_each(rt, "sure sink", &mut SureSink::new(), &TAKEN)

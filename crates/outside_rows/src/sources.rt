@@ -23,7 +23,8 @@ fn read<S: Source>(rt: &impl Print, source: &mut S, room: usize) -> io::Result<(
     print_read(rt, got, &into[..count], source.faults())
 }
 
-fn each_read<S: Source>(
+/// Reads of a source, one after the other, into slices of so many bytes.
+pub fn each_read<S: Source>(
     rt: &impl Print,
     name: &str,
     source: &mut S,
