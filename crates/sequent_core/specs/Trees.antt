@@ -1,11 +1,12 @@
 -- When a proof tree applies to a sequent, and when it derives it.
-use Rattle.std.specs.Prelude.{◌≡◌, ◌+◌, ℕ, Bool, true, false, List, [], ◌∷◌, ◌++◌, Option, Some, None, IfSome, IsTrue, Contains, length, sum, if◌then◌else◌, ⊤}
+use Rattle.std.specs.Prelude.{◌≡◌, ◌+◌, ◌-◌, ◌^◌, min, ℕ, Bool, true, false, List, [], ◌∷◌, ◌++◌, Option, Some, None, IfSome, IsTrue, Contains, length, sum, if◌then◌else◌, ⊤}
 use Rattle.std.specs.List.{AllByRecursion, list_all, list_any}
 use Rattle.formula_core.specs.declared.Formula.{Formula}
 use Rattle.formula_core.specs.Env.{type_in}
 use Rattle.sequent_core.specs.declared.sequent.Sequent.{Sequent}
 use Rattle.rule_table.specs.declared.rule.Rule.{Rule}
 use Rattle.rule_table.specs.declared.rule.Antecedent.{Antecedent}
+use Rattle.sequent_core.specs.declared.tally.Tally.{Tally}
 use Rattle.sequent_core.specs.declared.tree.Tree.{Tree}
 use Rattle.sequent_core.specs.declared.tree.Tree.TheOpen.{Tree-F, Leaf, Node}
 use Rattle.sequent_core.specs.declared.tree.Tree.TheFolds.{fold-Tree}
@@ -100,6 +101,13 @@ rule_count_step (Node r children) = sum children + 1
 -- the number of nodes that are rules
 abbrev pub rule_count : Tree → ℕ
 rule_count = fold-Tree ℕ rule_count_step
+
+-- what one walk through the tree tells of it, the numbers up to the greatest of 64 bits
+pub record IsTallyOf (tree : Tree) (t : Tally) : Type 0 where
+  pub nodes : t.nodes ≡ min (node_count tree) (2 ^ 64 - 1)
+  pub rules : t.rules ≡ min (rule_count tree) (2 ^ 64 - 1)
+  pub closed : t.closed ≡ is_closed tree
+  pub reviewed : t.reviewed ≡ is_reviewed tree
 
 -- the sequent to which the way leads
 abbrev pub at_end : List Antecedent → Sequent → Sequent

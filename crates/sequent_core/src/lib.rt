@@ -6,6 +6,7 @@ mod members;
 mod needs;
 mod prover;
 mod sequent;
+mod tally;
 mod tree;
 
 pub use hint::{Hint, Path};
@@ -13,4 +14,5 @@ pub use needs::meets;
 pub use prover::{Attempt, Prover};
 pub use rule_table::{Antecedent, Rule, RuleKind};
 pub use sequent::{Obligation, Sequent, Ticket};
+pub use tally::Tally;
 pub use tree::Tree;

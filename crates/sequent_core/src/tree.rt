@@ -1,8 +1,9 @@
 // Proof trees.
 ghost use Rattle.std.specs.Prelude.{◌≡◌, ◌↔◌, ◌-◌, ◌^◌, IsTrue, IfOk, min, sum, map};
 ghost use Rattle.std.specs.List.{list_all, list_any};
-ghost use Rattle.sequent_core.specs.Trees.{is_closed, is_reviewed, node_count};
+ghost use Rattle.sequent_core.specs.Trees.{IsTallyOf, is_closed, is_reviewed, node_count, rule_count};
 
+use crate::tally::{LEAF, NONE, Tally};
 use formula_core::{List, OutOfMemory};
 use rule_table::Rule;
 use std::alloc::Global;
@@ -56,39 +57,38 @@ impl Tree {
         }
     }
 
-    /// Whether no leaf is left.
-    #[cycle(closed)]
-    pub fn is_closed(&self) -> bool
-        ensures { result ≡ is_closed self.now }
+    /// What one walk through it tells.
+    #[cycle(tally)]
+    pub fn tally(&self) -> Tally
+        ensures { IsTallyOf self.now result }
     {
         match self {
-            Tree::Leaf => false,
-            Tree::Node(_, children) => are_closed(children.items()),
-        }
-    }
-
-    /// Whether a review stands in it.
-    #[cycle(reviewed)]
-    pub fn is_reviewed(&self) -> bool
-        ensures { result ≡ is_reviewed self.now }
-    {
-        match self {
-            Tree::Leaf => false,
+            Tree::Leaf => LEAF,
             Tree::Node(rule, children) => {
-                rule.kind.is_review() || is_any_reviewed(children.items())
+                tally_of_all(children.items()).under(rule.kind.is_review())
             }
         }
     }
 
+    /// Whether no leaf is left.
+    pub fn is_closed(&self) -> bool
+        ensures { result ≡ is_closed self.now }
+    {
+        self.tally().closed
+    }
+
+    /// Whether a review stands in it.
+    pub fn is_reviewed(&self) -> bool
+        ensures { result ≡ is_reviewed self.now }
+    {
+        self.tally().reviewed
+    }
+
     /// How many nodes it has, leaves counted, or the greatest `u64` where there are more.
-    #[cycle(count)]
     pub fn node_count(&self) -> u64
         ensures { result ≡ min (node_count self.now) (2 ^ 64 - 1) }
     {
-        match self {
-            Tree::Leaf => 1,
-            Tree::Node(_, children) => node_count_of_all(children.items()).saturating_add(1),
-        }
+        self.tally().nodes
     }
 }
 
@@ -118,37 +118,16 @@ fn same_trees(xs: &[Tree], ys: &[Tree]) -> bool
     true
 }
 
-#[cycle(closed)]
-fn are_closed(trees: &[Tree]) -> bool
-    ensures { result ≡ list_all (λ closed. closed) (map is_closed trees.now) }
+#[cycle(tally)]
+fn tally_of_all(trees: &[Tree]) -> Tally
+    ensures nodes { result.nodes ≡ min (sum (map node_count trees.now)) (2 ^ 64 - 1) }
+    ensures rules { result.rules ≡ min (sum (map rule_count trees.now)) (2 ^ 64 - 1) }
+    ensures closed { result.closed ≡ list_all (λ closed. closed) (map is_closed trees.now) }
+    ensures reviewed { result.reviewed ≡ list_any (λ reviewed. reviewed) (map is_reviewed trees.now) }
 {
+    let mut all = NONE;
     for tree in trees {
-        if !tree.is_closed() {
-            return false;
-        }
+        all = all.and(tree.tally());
     }
-    true
-}
-
-#[cycle(reviewed)]
-fn is_any_reviewed(trees: &[Tree]) -> bool
-    ensures { result ≡ list_any (λ reviewed. reviewed) (map is_reviewed trees.now) }
-{
-    for tree in trees {
-        if tree.is_reviewed() {
-            return true;
-        }
-    }
-    false
-}
-
-#[cycle(count)]
-fn node_count_of_all(trees: &[Tree]) -> u64
-    ensures { result ≡ min (sum (map node_count trees.now)) (2 ^ 64 - 1) }
-{
-    let mut total: u64 = 0;
-    for tree in trees {
-        total = total.saturating_add(tree.node_count());
-    }
-    total
+    all
 }
