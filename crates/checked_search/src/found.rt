@@ -2,11 +2,10 @@
 ghost use Rattle.std.specs.Prelude.{◌≤◌, ◌↔◌, IsTrue, IfOk, IfSome};
 ghost use Rattle.sequent_core.specs.Trees.{Derives, rule_count};
 
-use crate::count::rule_count;
 use formula_core::OutOfMemory;
 pub use proof_search::Passes;
 use proof_search::searched;
-use proof_tree::derives;
+use proof_tree::applies_to;
 use sequent_core::{Sequent, Tree};
 use std::alloc::Global;
 use term_bank::Stop;
@@ -26,7 +25,11 @@ pub fn proof_within(
         Ok(None) | Err(Stop::Spent) => return Ok(None),
         Err(Stop::NoMemory) => return Err(OutOfMemory),
     };
-    if rule_count(&tree) > budget as u64 || !derives(&tree, alloc, sequent)? {
+    let tally = tree.tally();
+    if tally.rules > budget as u64 || !tally.closed || tally.reviewed {
+        return Ok(None);
+    }
+    if !applies_to(&tree, alloc, sequent)? {
         return Ok(None);
     }
     Ok(Some(tree))

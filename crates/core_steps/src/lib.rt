@@ -24,5 +24,5 @@ pub use project::Project;
 pub use proof_entries::{Entry, Origin, Proof};
 pub use readings_core::Follows;
 pub use room::{Room, push_in};
-pub use stored::{Facts, StoredProof, applies, facts_of, is_unsettled, status_by};
+pub use stored::{Facts, StoredProof, applies, facts_by, facts_of, is_unsettled, status_by};
 pub use texts::Texts;

@@ -3,7 +3,7 @@ ghost use Rattle.std.specs.Prelude.{◌≡◌, ◌↔◌, ◌+◌, map, IsTrue, 
 ghost use Rattle.sequent_core.specs.declared.Sequent.{Sequent};
 ghost use Rattle.sequent_core.specs.declared.Tree.{Tree};
 ghost use Rattle.sequent_core.specs.Sequents.{IsSequent};
-ghost use Rattle.sequent_core.specs.Trees.{Applies};
+ghost use Rattle.sequent_core.specs.Trees.{Applies, IsTallyOf};
 ghost use Rattle.proof_deps.specs.Prints.{print_of};
 ghost use Rattle.core_steps.specs.Status.{IsTreeStatus, IsStatus, IsUnsettled, origin_of};
 ghost use Rattle.core_steps.specs.Stored.{AreFactsOf, IsSettledAs};
@@ -12,7 +12,7 @@ use crate::events::Status;
 use formula_core::{List, OutOfMemory, Steps};
 use proof_deps::{Deps, fits, fits_by, of};
 use proof_entries::{Origin, Proof};
-use sequent_core::{Sequent, Tree};
+use sequent_core::{Sequent, Tally, Tree};
 use std::alloc::Global;
 use std::marker::Model;
 use std::sync::ledger::Ledger;
@@ -46,17 +46,18 @@ impl Model for StoredProof {
     ghost invariant = { λ s. AreFactsOf s.proof.tree s.facts };
 }
 
-// The status of the tree wherever it applies.
-fn settled(tree: &Tree) -> Status
+// The status of the tree, of which this is told, wherever it applies.
+fn settled(tree: &Tree, tally: Tally) -> Status
+    requires tally { IsTallyOf tree.now tally }
     ensures { IsSettledAs tree.now result }
 {
     if tree.is_leaf() {
         return Status::Unattempted;
     }
-    if !tree.is_closed() {
+    if !tally.closed {
         return Status::Pending;
     }
-    if tree.is_reviewed() {
+    if tally.reviewed {
         return Status::Reviewed;
     }
     Status::Discharged
@@ -71,11 +72,25 @@ pub fn facts_of<L: Ledger>(
     ensures facts { IfOk result (λ facts. AreFactsOf tree.now facts) }
     ensures step { steps.new ≡ steps.old + 1 }
 {
+    facts_by(alloc, tree, tree.tally(), steps)
+}
+
+/// The same, by what a walk through the tree told.
+pub fn facts_by<L: Ledger>(
+    alloc: Global,
+    tree: &Tree,
+    tally: Tally,
+    steps: &mut Steps<L>,
+) -> Result<Facts, OutOfMemory>
+    requires tally { IsTallyOf tree.now tally }
+    ensures facts { IfOk result (λ facts. AreFactsOf tree.now facts) }
+    ensures step { steps.new ≡ steps.old + 1 }
+{
     steps.tick();
     let deps = of(alloc, tree)?;
     Ok(Facts {
         deps,
-        settled: settled(tree),
+        settled: settled(tree, tally),
     })
 }
 

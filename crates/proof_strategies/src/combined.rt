@@ -5,7 +5,6 @@ ghost use Rattle.proof_strategies.specs.Growth.{beside, whole};
 ghost use Rattle.proof_strategies.specs.Private.{ContinuesWith};
 ghost use Rattle.proof_strategies.specs.Strategies.{GivesOrElse, GivesRepeat, GivesThen, IfFound};
 
-use crate::count::rule_count;
 use crate::growing::{Grower, grow};
 use crate::room::{Room, Times};
 use crate::strategy::Strategy;
@@ -91,9 +90,10 @@ fn room_beside(tree: &Tree, budget: u32) -> Room
     requires nodes { node_count tree.now ≤ 2048 }
     ensures { result ≡ beside tree.now (whole budget) }
 {
+    let tally = tree.tally();
     Room {
-        rules: budget - rule_count(tree) as u32,
-        nodes: (MOST_NODES - tree.node_count()) as u32,
+        rules: budget - tally.rules as u32,
+        nodes: (MOST_NODES - tally.nodes) as u32,
     }
 }
 

@@ -6,7 +6,6 @@ ghost use Rattle.sequent_core.specs.PrivateChildren.{EachApplies};
 ghost use Rattle.sequent_core.specs.Trees.{Applies, IsFresh, extended, node_count, rule_count};
 ghost use Rattle.proof_strategies.specs.Private.{HasGrown, HaveGrown, IsPlacedWithin, WasTried};
 
-use crate::count::rule_count;
 use crate::ends::extended;
 use crate::room::{Room, Times};
 use crate::strategy::Strategy;
@@ -140,12 +139,12 @@ fn placed(tree: Tree, room: &mut Room) -> Option<Tree>
     if tree.is_leaf() {
         return None;
     }
-    let nodes = tree.node_count();
-    if nodes > room.nodes as u64 + 1 {
+    let tally = tree.tally();
+    if tally.nodes > room.nodes as u64 + 1 {
         room.rules = 0;
         return None;
     }
-    room.rules -= rule_count(&tree) as u32;
-    room.nodes = (room.nodes as u64 + 1 - nodes) as u32;
+    room.rules -= tally.rules as u32;
+    room.nodes = (room.nodes as u64 + 1 - tally.nodes) as u32;
     Some(tree)
 }

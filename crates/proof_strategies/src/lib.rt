@@ -2,7 +2,6 @@
 #![tactic(auto)]
 
 mod combined;
-mod count;
 mod ends;
 mod growing;
 mod one;

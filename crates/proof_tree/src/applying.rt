@@ -5,13 +5,13 @@ ghost use Rattle.formula_core.specs.Env.{type_in};
 ghost use Rattle.formula_core.specs.Typed.{Stands};
 ghost use Rattle.sequent_core.specs.PrivateChildren.{EachApplies};
 ghost use Rattle.sequent_core.specs.Provers.{IsGoodTree};
-ghost use Rattle.sequent_core.specs.Trees.{Applies, Derives, IsFresh, Meets, extended, at_end, AreFresh};
+ghost use Rattle.sequent_core.specs.Trees.{Applies, Derives, IsFresh, IsTallyOf, Meets, extended, at_end, AreFresh};
 ghost use Rattle.proof_tree.specs.Ways.{antecedents_of};
 
 use crate::way::Way;
 use formula_core::{Formula, Name, OutOfMemory, Ty};
 use rule_kernel::is_rule;
-use sequent_core::{Antecedent, Rule, Sequent, Tree};
+use sequent_core::{Antecedent, Rule, Sequent, Tally, Tree};
 use std::alloc::Global;
 
 /// The most nodes of a tree that may be stored.
@@ -21,20 +21,34 @@ const MOST_NODES: u64 = 2048;
 pub fn derives(tree: &Tree, alloc: Global, sequent: &Sequent) -> Result<bool, OutOfMemory>
     ensures derives { IfOk result (λ derives. IsTrue derives ↔ Derives tree.now sequent.now) }
 {
-    if !tree.is_closed() || tree.is_reviewed() {
-        return Ok(false);
-    }
-    applies_to(tree, alloc, sequent)
+    derives_by(tree, tree.tally(), alloc, sequent)
 }
 
 /// Whether the tree may be stored as a proof of the sequent. Its nodes are counted first.
 pub fn is_good(tree: &Tree, alloc: Global, sequent: &Sequent) -> Result<bool, OutOfMemory>
     ensures good { IfOk result (λ good. IsTrue good ↔ IsGoodTree tree.now sequent.now) }
 {
-    if tree.node_count() > MOST_NODES {
+    let tally = tree.tally();
+    if tally.nodes > MOST_NODES {
         return Ok(false);
     }
-    derives(tree, alloc, sequent)
+    derives_by(tree, tally, alloc, sequent)
+}
+
+// Whether the tree, of which this is told, derives the sequent.
+fn derives_by(
+    tree: &Tree,
+    tally: Tally,
+    alloc: Global,
+    sequent: &Sequent,
+) -> Result<bool, OutOfMemory>
+    requires tally { IsTallyOf tree.now tally }
+    ensures derives { IfOk result (λ derives. IsTrue derives ↔ Derives tree.now sequent.now) }
+{
+    if !tally.closed || tally.reviewed {
+        return Ok(false);
+    }
+    applies_to(tree, alloc, sequent)
 }
 
 /// Whether the tree applies to the sequent.

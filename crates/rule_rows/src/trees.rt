@@ -57,17 +57,18 @@ pub fn change(alloc: Global, trees: &mut Vec<Tree>, word: &str, parts: &str) -> 
 
 /// Writes what a tree is: a leaf, closed, reviewed, and how many nodes it has.
 pub fn add_marks(tree: &Tree, out: &mut String) -> Option<()> {
+    let tally = tree.tally();
     let marks = [
         (tree.is_leaf(), "leaf, "),
-        (tree.is_closed(), "closed, "),
-        (tree.is_reviewed(), "reviewed, "),
+        (tally.closed, "closed, "),
+        (tally.reviewed, "reviewed, "),
     ];
     for (is_so, word) in marks {
         if is_so {
             out.push_str(word).ok()?;
         }
     }
-    write!(out, "{} nodes", tree.node_count()).ok()
+    write!(out, "{} nodes", tally.nodes).ok()
 }
 
 pub fn add_answer(is_so: bool, out: &mut String) -> Option<()> {

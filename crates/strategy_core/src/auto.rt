@@ -21,9 +21,6 @@ const ALL_PASSES: Passes = Passes {
     reckons: true,
 };
 
-/// The most nodes of a proof that may be stored.
-const MOST_NODES: u64 = 2048;
-
 /// A prover of logic, sets and arithmetic, whose proofs have at most `budget` rules.
 #[derive(Debug, Clone, Copy)]
 pub struct AutoProver {
@@ -55,16 +52,13 @@ fn short_proof(alloc: Global, sequent: &Sequent) -> Result<Option<Tree>, OutOfMe
 }
 
 /// What the search finds. A proof has no leaf and so as many nodes as rules: none that is found is too large to be stored.
+#[tactic(auto, using(crate::proofs::Closed::is_good))]
 fn searched(alloc: Global, sequent: &Sequent, budget: u32) -> Result<Option<Tree>, OutOfMemory>
+    requires most { budget ≤ 2000 }
     ensures good { IfOk result (λ o. IfSome o (λ tree. IsGoodTree tree sequent.now)) }
     ensures few { IfOk result (λ o. IfSome o (λ tree. rule_count tree ≤ budget)) }
 {
-    if let Some(tree) = proof_within(alloc, sequent, budget, ALL_PASSES)? {
-        if tree.node_count() <= MOST_NODES {
-            return Ok(Some(tree));
-        }
-    }
-    Ok(None)
+    proof_within(alloc, sequent, budget, ALL_PASSES)
 }
 
 /// What the search finds, or else what is found by cases: the search goes first, since its proofs are shorter.

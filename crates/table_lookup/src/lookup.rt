@@ -18,7 +18,7 @@ ghost use Rattle.core_steps.specs.Tickets.{CanTake, IsFor, IsPresentStatus, CanS
 ghost use Rattle.table_lookup.specs.Tickets.{IsTicketAt};
 
 use build_core::Numbered;
-use core_steps::{Facts, Follows, PoMap, Status, StoredProof, facts_of, is_unsettled, status_by};
+use core_steps::{Facts, Follows, PoMap, Status, StoredProof, facts_by, is_unsettled, status_by};
 use formula_core::{OutOfMemory, PoName, Steps};
 use proof_entries::Origin;
 use proof_tree::is_good;
@@ -213,10 +213,11 @@ fn facts_if_good<L: Ledger>(
     ensures good { IfOk result (λ found. IsSome found ↔ IsGoodTree tree.now sequent.now) }
     ensures step { steps.new ≤ steps.old + 1 }
 {
-    if tree.node_count() > MOST_NODES {
+    let tally = tree.tally();
+    if tally.nodes > MOST_NODES {
         return Ok(None);
     }
-    let facts = facts_of(alloc, tree, steps)?;
+    let facts = facts_by(alloc, tree, tally, steps)?;
     if is_discharged(status_by(&facts, sequent)) {
         return Ok(Some(facts));
     }

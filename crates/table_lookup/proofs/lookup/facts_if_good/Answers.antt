@@ -7,7 +7,7 @@ pub returns-then-is_discharged-clause-good : goal.returns-then-is_discharged-cla
 returns-then-is_discharged-clause-good g c =
     let tree = c.args.tree.now in
     let is = c.status_by.ensures tree c.in_ok-facts.ensures.facts in
-    let small : node_count tree ≤ 2048 = omega (arith, c.node_count.ensures, c.if-node_count-gt-MOST_NODES.false) in
+    let small : node_count tree ≤ 2048 = omega (arith, c.tally-tally.ensures.nodes, c.if-tally-gt-MOST_NODES.false) in
     ((λ t. good_discharged tree c.args.sequent.now c.status_by.result is small (c.is_discharged.ensures.0 c.if-is_discharged.true)), (λ good. refl))
 
 pub returns-clause-good : goal.returns-clause-good

@@ -1,5 +1,5 @@
 use Rattle.core_steps.proofs.Known.{fits_some}
-use Rattle.core_steps.proofs.stored.facts_of.Goals as goal
+use Rattle.core_steps.proofs.stored.facts_by.Goals as goal
 
 pub returns-clause-facts : goal.returns-clause-facts
 returns-clause-facts g c = record {
