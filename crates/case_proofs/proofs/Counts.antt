@@ -1,5 +1,5 @@
 -- The connectives of a formula at each variant, and how many rules are enough for so many.
-use Rattle.std.proofs.Common.{◌≡◌, ◌∙◌, sym, ap, refl, ℕ, ◌+◌, ℤ, ◌*◌, ◌^◌, ◌-◌, ◌≤◌, ◌<◌, min, Bool, true, false, List, [], ◌∷◌, length, map, if◌then◌else◌, arith}
+use Rattle.std.proofs.Common.{◌≡◌, ◌∙◌, sym, ap, subst, refl, ℕ, ◌+◌, ℤ, ◌*◌, ◌^◌, ◌-◌, ◌≤◌, ◌<◌, min, Bool, true, false, List, [], ◌∷◌, length, map, if◌then◌else◌, arith}
 use Rattle.std.specs.Prelude.{nat_le}
 use Rattle.std.proofs.Math.Pow.{pow_mono}
 use Rattle.formula_core.specs.declared.Op.{Op}
@@ -60,6 +60,22 @@ module _ (f : Formula) (o : Op) (parts items : List Formula) (t : Ty) (is : f �
 -- seven connectives are too many for 2,000 rules
 pub too_many : (count : ℕ) → 7 ≤ count → 2048 ≤ 16 * 2 ^ count
 too_many count h = let more : 2 ^ 7 ≤ 2 ^ count = pow_mono h in omega (arith, more)
+
+-- sixty connectives allow more rules than a number of 64 bits
+most_rules : (c : ℕ) → 60 ≤ c → 2 ^ 64 ≤ 16 * 2 ^ c
+most_rules c h = let more : 2 ^ 60 ≤ 2 ^ c = pow_mono h in omega (arith, more)
+
+pub many_rules : (c count : ℕ) → count ≡ min c (2 ^ 32 - 1) → 60 ≤ count → 2 ^ 64 - 1 ≡ min (16 * 2 ^ c) (2 ^ 64 - 1)
+many_rules c count e many = let more : 60 ≤ c = omega (arith, e, many) in let large = most_rules c more in omega (arith, large)
+
+pub few_rules : (c count : ℕ) → count ≡ min c (2 ^ 32 - 1) → count ≤ 59 → 16 * 2 ^ count ≡ min (16 * 2 ^ c) (2 ^ 64 - 1)
+few_rules c count e few =
+    let same : count ≡ c = omega (arith, e, few) in
+    let less : 2 ^ count ≤ 2 ^ 59 = pow_mono few in
+    ap (λ n. 16 * 2 ^ n) same ∙ whole c (subst (λ n. 2 ^ n ≤ 2 ^ 59) same less)
+  where
+    whole : (n : ℕ) → 2 ^ n ≤ 2 ^ 59 → 16 * 2 ^ n ≡ min (16 * 2 ^ n) (2 ^ 64 - 1)
+    whole n h = omega (arith, h)
 
 -- the count that stops at its greatest value is exact where the rules are enough
 pub exact_count : (c count budget : ℕ) → count ≡ min c (2 ^ 32 - 1) → 16 * 2 ^ count ≤ budget → budget ≤ 2000 → count ≡ c

@@ -34,13 +34,13 @@ module _ (xs : List Formula) (f : Formula) (s : Bool) where
   -- what is said is there
   said_there : (ys : List Signed) → is_said ys s f ≡ true → AllByRecursion (Says xs) ys → Contains xs (if s then f else negation f)
   said_there [] e h = absurd (cc)
-  said_there (y ∷ ys) e h = go (same_formula y.0 f && same_sign y.1 s) refl e (λ k. said_there ys k h.1)
+  said_there (y ∷ ys) e h = go (same_sign y.1 s && same_formula y.0 f) refl e (λ k. said_there ys k h.1)
     where
-      go : (b : Bool) → (same_formula y.0 f && same_sign y.1 s) ≡ b → (b || is_said ys s f) ≡ true → (is_said ys s f ≡ true → Contains xs (if s then f else negation f))
+      go : (b : Bool) → (same_sign y.1 s && same_formula y.0 f) ≡ b → (b || is_said ys s f) ≡ true → (is_said ys s f ≡ true → Contains xs (if s then f else negation f))
           → Contains xs (if s then f else negation f)
       go true k e later =
-          let one : Contains xs (if s then y.0 else negation y.0) = subst (λ b. Contains xs (if b then y.0 else negation y.0)) (same_signs y.1 s (second_true (same_formula y.0 f) _ k)) h.0 in
-          subst (λ g. Contains xs (if s then g else negation g)) (same_formula_exact y.0 f (first_true _ _ k)) one
+          let one : Contains xs (if s then y.0 else negation y.0) = subst (λ b. Contains xs (if b then y.0 else negation y.0)) (same_signs y.1 s (first_true _ _ k)) h.0 in
+          subst (λ g. Contains xs (if s then g else negation g)) (same_formula_exact y.0 f (second_true (same_sign y.1 s) _ k)) one
       go false k e later = later e
 
 -- a formula that is there with both signs is there with its negation

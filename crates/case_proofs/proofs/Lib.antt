@@ -1,5 +1,6 @@
 pub mod Counts
 pub mod EndTrees
+pub mod Few
 pub mod Joins
 pub mod RowTrees
 pub mod Roots

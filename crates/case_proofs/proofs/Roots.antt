@@ -88,16 +88,24 @@ said_hypotheses xs (f ∷ hs) h = (h.0, said_hypotheses xs hs h.1)
 denied_first : (s : Sequent) (xs : List Formula) → HasAll xs (negation s.goal ∷ s.hyps) → AllByRecursion (Contains xs) (map formula_of (root s))
 denied_first s xs h = there xs (root s) (all_both (Says xs) (hypotheses s.hyps) (signed s.goal false ∷ []) (said_hypotheses xs s.hyps h.1) (h.0, tt))
 
--- what refutes them proves the sequent by one rule more
-pub root_closed : (s : Sequent) (fuel budget : ℕ) (t : Tree) → IsSequent s → AllByRecursion IsHalfSize s.hyps → IsHalfSize s.goal → 16 * 2 ^ fuel ≤ budget → budget ≤ 2000
-    → Closes (root s) fuel t → IsGoodTree (contra_tree s.goal t) s × (rule_count (contra_tree s.goal t) ≤ budget)
-root_closed s fuel budget t is hyps goal enough most closes =
-    let r = closes s.env (root_half s is hyps goal) in
-    let h = half s.env s.goal is.goal goal in
-    let turned : Refutes s.env (negation s.goal ∷ s.hyps) r.size t = proves_more s.env (map formula_of (root s)) (negation s.goal ∷ s.hyps) r.size t bottom (λ xs a. denied_first s xs a) r.refutes in
-    let proof : IsProofOf (r.size + 1) (contra_tree s.goal t) s =
-    contra_proves s.env s.goal s.hyps r.size t (fit s.env s.goal h) (fit_negation s.env s.goal h) (fit_bottom s.env) turned s refl (own s.hyps) refl in
-    let few = r.few in
-    let nodes = proof.nodes in
-    let rules = proof.rules in
-    (record { small = omega (arith, few, nodes, enough, most); derives = proof.derives }, omega (arith, few, rules, enough))
+-- what refutes them proves the sequent by one rule more, by at most 10 · 2^fuel − 7 rules together
+module _ (s : Sequent) (fuel : ℕ) (t : Tree) (is : IsSequent s) (hyps : AllByRecursion IsHalfSize s.hyps) (goal : IsHalfSize s.goal) (closes : Closes (root s) fuel t) where
+  root_proof : (n : ℕ) × (n + 7 ≤ 10 * 2 ^ fuel) × IsProofOf n (contra_tree s.goal t) s
+  root_proof =
+      let r = closes s.env (root_half s is hyps goal) in
+      let h = half s.env s.goal is.goal goal in
+      let turned : Refutes s.env (negation s.goal ∷ s.hyps) r.size t = proves_more s.env (map formula_of (root s)) (negation s.goal ∷ s.hyps) r.size t bottom (λ xs a. denied_first s xs a) r.refutes in
+      let proof : IsProofOf (r.size + 1) (contra_tree s.goal t) s =
+      contra_proves s.env s.goal s.hyps r.size t (fit s.env s.goal h) (fit_negation s.env s.goal h) (fit_bottom s.env) turned s refl (own s.hyps) refl in
+      let few = r.few in
+      (r.size + 1, omega (arith, few), proof)
+
+  pub root_few : rule_count (contra_tree s.goal t) ≤ 16 * 2 ^ fuel
+  root_few = let p = root_proof in let few = p.1 in let rules = p.2.rules in omega (arith, few, rules)
+
+  pub root_good : (budget : ℕ) → 16 * 2 ^ fuel ≤ budget → budget ≤ 2000 → IsGoodTree (contra_tree s.goal t) s
+  root_good budget enough most =
+      let p = root_proof in
+      let few = p.1 in
+      let nodes = p.2.nodes in
+      record { small = omega (arith, few, nodes, enough, most); derives = p.2.derives }

@@ -200,11 +200,11 @@ same_sign_refl false = refl
 
 each_said : (before xs : List Signed) → AllByRecursion (λ x. is_said xs x.1 x.0 ≡ true) xs
 each_said before [] = tt
-each_said before (x ∷ xs) = (ap (λ b. b || is_said xs x.1 x.0) (both_true _ _ (same_formula_refl x.0) (same_sign_refl x.1)), later xs (each_said before xs))
+each_said before (x ∷ xs) = (ap (λ b. b || is_said xs x.1 x.0) (both_true _ _ (same_sign_refl x.1) (same_formula_refl x.0)), later xs (each_said before xs))
   where
     later : (ys : List Signed) → AllByRecursion (λ y. is_said xs y.1 y.0 ≡ true) ys → AllByRecursion (λ y. is_said (x ∷ xs) y.1 y.0 ≡ true) ys
     later [] h = tt
-    later (y ∷ ys) h = (or_true (same_formula x.0 y.0 && same_sign x.1 y.1) (is_said xs y.1 y.0) h.0, later ys h.1)
+    later (y ∷ ys) h = (or_true (same_sign x.1 y.1 && same_formula x.0 y.0) (is_said xs y.1 y.0) h.0, later ys h.1)
 
 -- literals that don't contradict one another are true together
 pub literals_hold : (xs : List Signed) → AllByRecursion (λ x. ways x ≡ []) xs → is_contradictory xs ≡ false → IsSatisfiable xs

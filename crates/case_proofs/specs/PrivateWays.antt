@@ -75,7 +75,7 @@ abbrev pub same_sign : Bool → Bool → Bool
 same_sign s t = if s then t else not t
 
 abbrev pub is_said : List Signed → Bool → Formula → Bool
-is_said xs s f = list_any (λ x. same_formula x.0 f && same_sign x.1 s) xs
+is_said xs s f = list_any (λ x. same_sign x.1 s && same_formula x.0 f) xs
 
 abbrev pub contradicts : List Signed → Signed → Bool
 contradicts all x = is_absurd x || is_said all (not x.1) x.0

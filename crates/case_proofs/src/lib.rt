@@ -10,3 +10,4 @@ mod sizes;
 mod standing;
 
 pub use proof::proof_by_cases;
+pub use sizes::rules_by_cases;

@@ -1,6 +1,6 @@
 //! Proofs by cases.
 ghost use Rattle.std.specs.Prelude.{◌≡◌, ◌≤◌, ◌++◌, ◌∷◌, [], IfOk, IfSome, IsNone, false, map, true};
-ghost use Rattle.case_proofs.specs.Cases.{IsSureByCases};
+ghost use Rattle.case_proofs.specs.Cases.{HasFewRules, IsSureByCases};
 ghost use Rattle.case_proofs.specs.PrivateWays.{signed};
 ghost use Rattle.sequent_core.specs.Provers.{IsGoodTree};
 ghost use Rattle.sequent_core.specs.Sequents.{IsSequent};
@@ -15,7 +15,7 @@ use sequent_core::{Sequent, Tree};
 use std::alloc::Global;
 
 /// A proof of at most `budget` rules, for each sequent of few connectives whose goal is true in each propositional reading
-/// that makes the hypotheses true.
+/// that makes the hypotheses true. For c connectives it has at most 16 · 2^c rules.
 pub fn proof_by_cases(
     alloc: Global,
     sequent: &Sequent,
@@ -26,6 +26,7 @@ pub fn proof_by_cases(
     ensures sure { IfOk result (λ o. IsNone o → ¬ IsSureByCases budget sequent.now) }
     ensures good { IfOk result (λ o. IfSome o (λ tree. IsGoodTree tree sequent.now)) }
     ensures few { IfOk result (λ o. IfSome o (λ tree. rule_count tree ≤ budget)) }
+    ensures by_connectives { IfOk result (λ o. IfSome o (HasFewRules sequent.now)) }
 {
     let count = connective_count(sequent);
     if !is_enough(budget, count) {

@@ -1,7 +1,7 @@
 //! How large a sequent is.
 ghost use Rattle.std.specs.Prelude.{◌≡◌, ◌≤◌, ◌+◌, ◌-◌, ◌*◌, ◌^◌, ◌↔◌, IsTrue, min};
 ghost use Rattle.std.specs.List.{AllByRecursion};
-ghost use Rattle.case_proofs.specs.Cases.{IsHalfSize, connectives, connectives_of};
+ghost use Rattle.case_proofs.specs.Cases.{IsHalfSize, connectives, connectives_of, rules_by_cases};
 
 use formula_core::Formula;
 use formula_readings::{joins_two, negates};
@@ -83,6 +83,17 @@ fn connectives(f: &Formula) -> u32
         },
         _ => 0,
     }
+}
+
+/// 16 · 2^c, where the hypotheses and the goal have c connectives together, or the greatest `u64` where that is more.
+pub fn rules_by_cases(sequent: &Sequent) -> u64
+    ensures rules { result ≡ min (rules_by_cases sequent.now) (2 ^ 64 - 1) }
+{
+    let count = connective_count(sequent);
+    if count > 59 {
+        return u64::MAX;
+    }
+    16 * 2u64.pow(count)
 }
 
 /// Whether proofs of so many connectives have at most `budget` rules.

@@ -115,7 +115,7 @@ fn is_said(all: &[Said], sign: bool, f: &Formula) -> bool
     ensures { result ≡ is_said all.now sign f.now }
 {
     for x in all {
-        if x.formula.same(f) && same_sign(x.sign, sign) {
+        if same_sign(x.sign, sign) && x.formula.same(f) {
             return true;
         }
     }

@@ -2,28 +2,27 @@
 ghost use Rattle.std.specs.Prelude.{◌≤◌, ◌↔◌, IsTrue, IfOk, IfSome};
 ghost use Rattle.sequent_core.specs.Trees.{Derives, rule_count};
 
-use formula_core::OutOfMemory;
-pub use proof_search::Passes;
+pub use proof_search::{Effort, Passes};
 use proof_search::searched;
 use proof_tree::applies_to;
 use sequent_core::{Sequent, Tree};
 use std::alloc::Global;
-use term_bank::Stop;
+pub use term_bank::Stop;
 
-/// A proof of the sequent that has at most `budget` rules, if the search finds one. It is counted and tested here.
+/// A proof of the sequent that has at most `budget` rules, if the search finds one. It is counted and tested here. It ends
+/// with `Stop::Spent` where more fuel might change what is found.
 pub fn proof_within(
     alloc: Global,
     sequent: &Sequent,
     budget: u32,
     passes: Passes,
-) -> Result<Option<Tree>, OutOfMemory>
+    effort: Effort,
+) -> Result<Option<Tree>, Stop>
     ensures rules { IfOk result (λ o. IfSome o (λ tree. rule_count tree ≤ budget)) }
     ensures derives { IfOk result (λ o. IfSome o (λ tree. Derives tree sequent.now)) }
 {
-    let tree = match searched(alloc, sequent, budget, passes) {
-        Ok(Some(tree)) => tree,
-        Ok(None) | Err(Stop::Spent) => return Ok(None),
-        Err(Stop::NoMemory) => return Err(OutOfMemory),
+    let Some(tree) = searched(alloc, sequent, budget, passes, effort)? else {
+        return Ok(None);
     };
     let tally = tree.tally();
     if tally.rules > budget as u64 || !tally.closed || tally.reviewed {

@@ -3,4 +3,4 @@
 
 mod found;
 
-pub use found::{Passes, proof_within};
+pub use found::{Effort, Passes, Stop, proof_within};

@@ -52,35 +52,29 @@ const THIRD: Attempt = Attempt {
 /// The greatest height of a tree that is built.
 const HIGHEST: u32 = 4096;
 
-/// A tree for the sequent that has at most `budget` rules, if the search finds one. Nothing is known of it yet.
+/// How much fuel a search has: that of the first attempt, or that of those behind it.
+#[derive(Clone, Copy, Debug, PartialEq, Eq)]
+pub enum Effort {
+    Small,
+    Large,
+}
+
+/// A tree for the sequent that has at most `budget` rules, if the search finds one. Nothing is known of it yet. It ends with
+/// `Stop::Spent` where more fuel might change what is found.
 pub fn searched(
     alloc: Global,
     sequent: &Sequent,
     budget: u32,
     passes: Passes,
+    effort: Effort,
 ) -> Result<Option<Tree>, Stop> {
-    match attempted(alloc, sequent, budget, passes, FIRST)? {
-        Outcome::Found(tree) => return Ok(Some(tree)),
-        Outcome::Exhausted => return Ok(None),
-        Outcome::HeldBack => {}
+    match effort {
+        Effort::Small => attempted(alloc, sequent, budget, passes, FIRST),
+        Effort::Large => match attempted(alloc, sequent, budget, passes, SECOND) {
+            Err(Stop::Spent) => attempted(alloc, sequent, budget, passes, THIRD),
+            other => other,
+        },
     }
-    match attempted(alloc, sequent, budget, passes, SECOND)? {
-        Outcome::Found(tree) => return Ok(Some(tree)),
-        Outcome::Exhausted => return Ok(None),
-        Outcome::HeldBack => {}
-    }
-    match attempted(alloc, sequent, budget, passes, THIRD)? {
-        Outcome::Found(tree) => Ok(Some(tree)),
-        _ => Ok(None),
-    }
-}
-
-/// What came of an attempt: a tree, nothing that more fuel could change, or nothing.
-#[derive(Drop)]
-enum Outcome {
-    Found(Tree),
-    Exhausted,
-    HeldBack,
 }
 
 fn attempted(
@@ -89,20 +83,7 @@ fn attempted(
     budget: u32,
     passes: Passes,
     attempt: Attempt,
-) -> Result<Outcome, Stop> {
-    match found(alloc, sequent, budget, passes, attempt) {
-        Err(Stop::Spent) => Ok(Outcome::HeldBack),
-        other => other,
-    }
-}
-
-fn found(
-    alloc: Global,
-    sequent: &Sequent,
-    budget: u32,
-    passes: Passes,
-    attempt: Attempt,
-) -> Result<Outcome, Stop> {
+) -> Result<Option<Tree>, Stop> {
     let mut search = Search::new(alloc, &sequent.env)?;
     let hyps = search.hypotheses(sequent)?;
     let goal = search.formula_of(&sequent.goal)?;
@@ -130,11 +111,10 @@ fn found(
     let mut branch = first_branch(alloc, &mut finder, &hyps, goal, attempt)?;
     match finder.solve(&mut branch, attempt.limits, 400)? {
         Some(proof) if finder.facts.search.proof(proof).size <= budget => {
-            let tree = finder.facts.search.tree(proof, HIGHEST)?;
-            Ok(Outcome::Found(tree))
+            Ok(Some(finder.facts.search.tree(proof, HIGHEST)?))
         }
-        None if !finder.held_back => Ok(Outcome::Exhausted),
-        _ => Ok(Outcome::HeldBack),
+        None if !finder.held_back => Ok(None),
+        _ => Err(Stop::Spent),
     }
 }
 

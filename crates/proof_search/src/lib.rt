@@ -5,4 +5,4 @@ mod attempt;
 mod finder;
 mod solve;
 
-pub use attempt::{Passes, searched};
+pub use attempt::{Effort, Passes, searched};

@@ -2,10 +2,11 @@ use Rattle.std.proofs.Common.{◌≡◌, ◌∙◌, sym, ap, subst, true, false,
 use Rattle.sequent_core.specs.Provers.{IsGoodTree}
 use Rattle.sequent_core.specs.Trees.{rule_count}
 use Rattle.case_proofs.specs.Cases.{connectives, connectives_of}
+use Rattle.case_trees.specs.Trees.{contra_tree}
 use Rattle.case_proofs.specs.PrivateSearch.{AreHalfSize, IsOutcome}
 use Rattle.case_proofs.specs.PrivateWays.{to_break, IsSatisfiable}
 use Rattle.case_proofs.proofs.Counts.{exact_count, needs_less}
-use Rattle.case_proofs.proofs.Roots.{root, root_break, root_half, root_open, root_sound, root_closed}
+use Rattle.case_proofs.proofs.Roots.{root, root_break, root_half, root_open, root_sound, root_few, root_good}
 use Rattle.case_proofs.proofs.Steps.{Closes}
 use Rattle.case_proofs.proofs.proof.proof_by_cases.Goals as goal
 
@@ -44,23 +45,36 @@ pub returns-in-Closed-clause-good : goal.returns-in-Closed-clause-good
 returns-in-Closed-clause-good c =
     let s = c.args.sequent.now in
     let count = c.connective_count-count.result in
-    let enough = c.is_enough.ensures.0 c.if-not-is_enough.false in
     let halves = c.has_half_size.ensures.0 c.if-not-has_half_size.false in
+    let enough = c.is_enough.ensures.0 c.if-not-is_enough.false in
     let told : Closes (root s) count c.in-Closed.tree =
     subst (IsOutcome (root s) count) c.in-Closed.is (subst (λ ys. IsOutcome ys count c.in_ok-tree.field-0) (c.items.ensures ∙ c.in_ok-hyps.ensures) c.in_ok-tree.ensures.outcome) in
-    let both = root_closed s count c.args.budget c.in-Closed.tree c.requires.sequent halves.0 halves.1 enough c.requires.most told in
-    subst (λ t. IsGoodTree t s) (sym c.in_ok-contra_tree-in-Closed.ensures.tree) both.0
+    subst (λ t. IsGoodTree t s) (sym c.in_ok-contra_tree-in-Closed.ensures.tree) (root_good s count c.in-Closed.tree c.requires.sequent halves.0 halves.1 told c.args.budget enough c.requires.most)
 
 pub returns-in-Closed-clause-few : goal.returns-in-Closed-clause-few
 returns-in-Closed-clause-few c =
     let s = c.args.sequent.now in
     let count = c.connective_count-count.result in
-    let enough = c.is_enough.ensures.0 c.if-not-is_enough.false in
     let halves = c.has_half_size.ensures.0 c.if-not-has_half_size.false in
+    let enough = c.is_enough.ensures.0 c.if-not-is_enough.false in
     let told : Closes (root s) count c.in-Closed.tree =
     subst (IsOutcome (root s) count) c.in-Closed.is (subst (λ ys. IsOutcome ys count c.in_ok-tree.field-0) (c.items.ensures ∙ c.in_ok-hyps.ensures) c.in_ok-tree.ensures.outcome) in
-    let both = root_closed s count c.args.budget c.in-Closed.tree c.requires.sequent halves.0 halves.1 enough c.requires.most told in
-    subst (λ t. rule_count t ≤ c.args.budget) (sym c.in_ok-contra_tree-in-Closed.ensures.tree) both.1
+    let few = root_few s count c.in-Closed.tree c.requires.sequent halves.0 halves.1 told in
+    let within : rule_count (contra_tree s.goal c.in-Closed.tree) ≤ c.args.budget = omega (arith, few, enough) in
+    subst (λ t. rule_count t ≤ c.args.budget) (sym c.in_ok-contra_tree-in-Closed.ensures.tree) within
+
+pub returns-in-Closed-clause-by_connectives : goal.returns-in-Closed-clause-by_connectives
+returns-in-Closed-clause-by_connectives c =
+    let s = c.args.sequent.now in
+    let count = c.connective_count-count.result in
+    let halves = c.has_half_size.ensures.0 c.if-not-has_half_size.false in
+    let all = connectives_of s.hyps + connectives s.goal in
+    let enough = c.is_enough.ensures.0 c.if-not-is_enough.false in
+    let exact : count ≡ all = exact_count all count c.args.budget c.connective_count-count.ensures enough c.requires.most in
+    let told : Closes (root s) count c.in-Closed.tree =
+    subst (IsOutcome (root s) count) c.in-Closed.is (subst (λ ys. IsOutcome ys count c.in_ok-tree.field-0) (c.items.ensures ∙ c.in_ok-hyps.ensures) c.in_ok-tree.ensures.outcome) in
+    let few = root_few s count c.in-Closed.tree c.requires.sequent halves.0 halves.1 told in
+    subst (λ t. rule_count t ≤ 16 * 2 ^ all) (sym c.in_ok-contra_tree-in-Closed.ensures.tree) (subst (λ n. rule_count (contra_tree s.goal c.in-Closed.tree) ≤ 16 * 2 ^ n) exact few)
 
 pub returns-clause-sure : goal.returns-clause-sure
 returns-clause-sure c = λ same sure.
