@@ -68,10 +68,13 @@ most_rules c h = let more : 2 ^ 60 ≤ 2 ^ c = pow_mono h in omega (arith, more)
 pub many_rules : (c count : ℕ) → count ≡ min c (2 ^ 32 - 1) → 60 ≤ count → 2 ^ 64 - 1 ≡ min (16 * 2 ^ c) (2 ^ 64 - 1)
 many_rules c count e many = let more : 60 ≤ c = omega (arith, e, many) in let large = most_rules c more in omega (arith, large)
 
+pub few_power : (count : ℕ) → count ≤ 59 → 2 ^ count ≤ 2 ^ 59
+few_power count few = pow_mono few
+
 pub few_rules : (c count : ℕ) → count ≡ min c (2 ^ 32 - 1) → count ≤ 59 → 16 * 2 ^ count ≡ min (16 * 2 ^ c) (2 ^ 64 - 1)
 few_rules c count e few =
     let same : count ≡ c = omega (arith, e, few) in
-    let less : 2 ^ count ≤ 2 ^ 59 = pow_mono few in
+    let less = few_power count few in
     ap (λ n. 16 * 2 ^ n) same ∙ whole c (subst (λ n. 2 ^ n ≤ 2 ^ 59) same less)
   where
     whole : (n : ℕ) → 2 ^ n ≤ 2 ^ 59 → 16 * 2 ^ n ≡ min (16 * 2 ^ n) (2 ^ 64 - 1)

@@ -1,6 +1,5 @@
 pub mod Counts
 pub mod EndTrees
-pub mod Few
 pub mod Joins
 pub mod RowTrees
 pub mod Roots

@@ -2,8 +2,8 @@
 ghost use Rattle.std.specs.Prelude.{◌≤◌, ◌↔◌, IsTrue, IfOk, IfSome};
 ghost use Rattle.sequent_core.specs.Trees.{Derives, rule_count};
 
-pub use proof_search::{Effort, Passes};
 use proof_search::searched;
+pub use proof_search::{Effort, Passes};
 use proof_tree::applies_to;
 use sequent_core::{Sequent, Tree};
 use std::alloc::Global;

@@ -87,12 +87,7 @@ fn long_proof(alloc: Global, sequent: &Sequent, budget: u32) -> Result<Option<Tr
 }
 
 /// A proof that the search found; or one by cases, where that one has more rules than one by cases may have.
-fn fewest(
-    alloc: Global,
-    sequent: &Sequent,
-    budget: u32,
-    tree: Tree,
-) -> Result<Tree, OutOfMemory>
+fn fewest(alloc: Global, sequent: &Sequent, budget: u32, tree: Tree) -> Result<Tree, OutOfMemory>
     requires sequent { IsSequent sequent.now }
     requires most { budget ≤ 2000 }
     requires good { IsGoodTree tree sequent.now }
