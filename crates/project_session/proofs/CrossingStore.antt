@@ -12,6 +12,8 @@ use Rattle.std.specs.contracts.alloc.Global as Global
 use Rattle.std.specs.contracts.snapshot.Snapshot as Snapshot
 use Rattle.sequent_core.specs.contracts.sequent.Ticket as Ticket
 use Rattle.sequent_core.specs.contracts.sequent.Sequent as Sequent
+use Rattle.act_history.specs.contracts.History as History
+use Rattle.act_history.specs.contracts.History.TheInside as HistoryInside
 use Rattle.core_steps.specs.contracts.durable.Durable as Durable
 use Rattle.core_steps.specs.contracts.events.Event as Event
 use Rattle.core_steps.proofs.maps.PoMap.TheSendSync as po_maps
@@ -50,13 +52,19 @@ kept_fault = declared_send KeptFault.the_type (store_faults.the_send, (act, tt))
 base : IsSend (Snapshot.the_row Durable.the_row)
 base = search crosses
 
+noted : (R : RattleType) → IsSend (Snapshot.the_row R)
+noted R = search crosses
+
+history : (R : RattleType) → IsSend (History.the_row R)
+history R = view_send _ _ _ _ _ (declared_send (HistoryInside.the_type R) (Vec-send (Snapshot.the_row R) (noted R), tt))
+
 pub store : (D K : RattleType) (g : Ghosts D.Denot) (k : openings.Ghosts K.Denot) → IsSend D → IsSend K → IsSend (Store.the_row D K g k)
 store D K g k s t = view_send _ _ _ _ _ (
     declared_send (StoreInside.the_type D K g k) (
       allocator,
       (
         journals.the_send D g s,
-        (core, (Vec-send (Tuple (u32 ∷ Event.the_row ∷ [])) act, (number, (option_send KeptFault.the_row kept_fault, (base, (number, (search sendable, tt))))))),
+        (core, (history (Tuple (u32 ∷ Event.the_row ∷ [])), (number, (option_send KeptFault.the_row kept_fault, (base, (number, (search sendable, tt))))))),
       ),
     )
     )

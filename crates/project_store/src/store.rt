@@ -20,6 +20,7 @@ use crate::acting::perform;
 use crate::fault::{KeptFault, OpenFault};
 use crate::moment::Opening;
 use crate::opening::open_core;
+use act_history::History;
 use core_steps::{Durable, Event, Reply, opens_orderly};
 use event_weights::weight_within;
 use formula_core::Steps;
@@ -73,7 +74,7 @@ pub struct Store<D: Disk, K: Opening> {
     alloc: Global,
     journal: Journal<D>,
     core: Core,
-    history: Vec<(u32, Event)>,
+    history: History<(u32, Event)>,
     weight: u64,
     // the first fault, and the act that met it
     kept: Option<KeptFault>,
@@ -183,7 +184,7 @@ impl<D: Disk, K: Opening> Store<D, K> {
                     alloc,
                     journal,
                     core,
-                    history: Vec::new(alloc),
+                    history: History::new(alloc),
                     weight: 0,
                     kept: None,
                     base,
@@ -273,14 +274,14 @@ impl<D: Disk, K: Opening> Store<D, K> {
                 return Err(StoreFault::SessionFull);
             }
         };
-        if self.history.reserve(1).is_err() {
+        if self.history.reserve().is_err() {
             keep(&mut self.kept, StoreFault::OutOfMemory, chair, event);
             return Err(StoreFault::OutOfMemory);
         }
         match perform(self.alloc, &mut self.journal, &mut self.core, &event, steps) {
             Ok(reply) => {
                 self.weight += weight;
-                self.history.push_reserved((chair, event));
+                self.history.note((chair, event));
                 Ok(reply)
             }
             Err(fault) => {
@@ -291,8 +292,8 @@ impl<D: Disk, K: Opening> Store<D, K> {
     }
 
     /// The acts that were done, in order.
-    pub fn history(&self) -> &[(u32, Event)]
-        ensures history { result.now ≡ self.now.history }
+    pub fn history(&self) -> &History<(u32, Event)>
+        ensures history { result.now.items ≡ self.now.history }
     {
         &self.history
     }
@@ -333,7 +334,7 @@ impl<D: Disk, K: Opening> Store<D, K> {
     }
 
     /// The disk, the acts and what lasts.
-    pub fn into_parts(self) -> (D, Vec<(u32, Event)>, Durable)
+    pub fn into_parts(self) -> (D, History<(u32, Event)>, Durable)
         ensures disk { result.0 ≡ self.journal.disk }
         ensures history { result.1.items ≡ self.history }
         ensures durable { result.2 ≡ self.core.durable }

@@ -21,6 +21,7 @@ use crate::round::work;
 use crate::session::{Session, perform, start};
 use crate::streams::{LONGEST_INPUT, ReadError, read_input};
 use crate::texts::printed;
+use act_history::History;
 use check_input::{InputError, InputFault, input_line, parts_of};
 use core_steps::{
     Durable, Event, FaultLine, Origin, Question, Reply, Status, decides_sequents, enters_all,
@@ -119,7 +120,7 @@ pub fn no_part(alloc: Global, status: u8) -> Part
 {
     Part {
         status,
-        history: Vec::new(alloc),
+        history: History::new(alloc),
         last: Durable::empty(alloc),
     }
 }

@@ -1,11 +1,12 @@
 //! What a run answers.
+use act_history::History;
 use core_steps::{Durable, Event};
 
 /// What a command without a disk answers: the exit status, the events, each with its chair, and what lasts.
 #[derive(Drop)]
 pub struct Part {
     pub status: u8,
-    pub history: Vec<(u32, Event)>,
+    pub history: History<(u32, Event)>,
     pub last: Durable,
 }
 
@@ -15,6 +16,6 @@ pub struct Part {
 pub struct Run<D> {
     pub status: u8,
     pub disk: D,
-    pub history: Vec<(u32, Event)>,
+    pub history: History<(u32, Event)>,
     pub last: Durable,
 }

@@ -1,5 +1,5 @@
 // A core with the history of what it did.
-ghost use Rattle.std.specs.Prelude.{◌≡◌, ◌+◌, ◌<◌, ◌^◌, [], ◌∷◌, ◌++◌, None, IfOk, OnOk, OnErr, MatchOption, vec_len, vec_capacity};
+ghost use Rattle.std.specs.Prelude.{◌≡◌, ◌+◌, ◌<◌, ◌^◌, [], ◌∷◌, ◌++◌, None, IfOk, OnOk, OnErr, MatchOption};
 ghost use Rattle.core_steps.specs.declared.Event.{Event};
 ghost use Rattle.core_steps.specs.declared.Reply.{Reply};
 ghost use Rattle.core_steps.specs.State.{opened, no_texts};
@@ -7,6 +7,7 @@ ghost use Rattle.core_steps.specs.Step.{IsTake, take_reply};
 ghost use Rattle.sequent_core.specs.declared.Ticket.{Ticket};
 ghost use Rattle.rodin_cli.specs.PrivateSession.{PerformsInSession, IsUnchanged};
 
+use act_history::History;
 use core_steps::{BuildFault, Durable, Event, Reply};
 use formula_core::{OutOfMemory, Steps};
 use sequent_core::{Attempt, Ticket};
@@ -18,7 +19,7 @@ use std::sync::ledger::Ledger;
 #[derive(Drop)]
 pub struct Session {
     pub core: Core,
-    pub history: Vec<(u32, Event)>,
+    pub history: History<(u32, Event)>,
 }
 
 /// The session of the empty project, before its first event.
@@ -29,21 +30,10 @@ pub fn start<L: Ledger>(alloc: Global, steps: &mut Steps<L>) -> Result<Session, 
     match Core::start(alloc, Durable::empty(alloc), steps) {
         Ok(core) => Ok(Session {
             core,
-            history: Vec::new(alloc),
+            history: History::new(alloc),
         }),
         Err(BuildFault::OutOfMemory) => Err(OutOfMemory),
         Err(BuildFault::TableFull(_)) => unreachable!(),
-    }
-}
-
-// Adds an event of chair 0 where there is room for it.
-fn note(history: &mut Vec<(u32, Event)>, event: Event)
-    requires { vec_len history.old < vec_capacity history.old }
-    ensures { history.new.items ≡ history.old.items ++ (0, event) ∷ [] }
-{
-    match history.push((0, event)) {
-        Ok(()) => {}
-        Err(_) => unreachable!(),
     }
 }
 
@@ -57,10 +47,10 @@ pub fn perform<L: Ledger>(
     ensures done { IfOk result (λ reply. PerformsInSession session.old event reply session.new) }
     ensures err { OnErr result (IsUnchanged session.old session.new) }
 {
-    session.history.reserve(1)?;
+    session.history.reserve()?;
     let prepared = session.core.prepare(&event, steps)?;
     let reply = session.core.commit(prepared);
-    note(&mut session.history, event);
+    session.history.note((0, event));
     Ok(reply)
 }
 

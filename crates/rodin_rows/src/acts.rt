@@ -62,21 +62,25 @@ fn keep(tickets: &mut Vec<Ticket>, reply: Reply) -> Result<(), AllocError> {
     }
 }
 
-// Does an event, and adds its reply.
+// Does an event, adds its reply, and answers whether the store did it.
 fn act(
     alloc: Global,
     store: &mut Store<MemoryDisk, ()>,
     tickets: &mut Vec<Ticket>,
     event: Event,
     out: &mut String,
-) -> Result<(), AllocError> {
+) -> Result<bool, AllocError> {
     match apply(store, event) {
         Ok(reply) => {
             let told = add_reply_line(alloc, out, &reply);
             keep(tickets, reply)?;
-            told
+            told?;
+            Ok(true)
         }
-        Err(fault) => add_fault(out, &fault),
+        Err(fault) => {
+            add_fault(out, &fault)?;
+            Ok(false)
+        }
     }
 }
 
@@ -105,51 +109,64 @@ fn next_event(commands: &mut Commands) -> Result<Option<Event>, AllocError> {
     }
 }
 
-// Reads a line of a session, and does the event that it ends.
-fn act_on_line(
-    alloc: Global,
-    store: &mut Store<MemoryDisk, ()>,
-    tickets: &mut Vec<Ticket>,
-    commands: &mut Commands,
-    line: &str,
-    out: &mut String,
-) -> Result<(), AllocError> {
+// The event that a line of a session ends.
+fn ended_event(commands: &mut Commands, line: &str) -> Result<Option<Event>, AllocError> {
     if commands.feed(line.as_bytes()).is_err() || commands.feed(b"\n").is_err() {
         return Err(AllocError);
     }
-    match next_event(commands)? {
-        Some(event) => act(alloc, store, tickets, event, out),
-        None => Ok(()),
+    next_event(commands)
+}
+
+// The event of a line.
+fn event_at(
+    alloc: Global,
+    tickets: &[Ticket],
+    commands: &mut Commands,
+    line: &str,
+) -> Result<Option<Event>, AllocError> {
+    match told_event(alloc, tickets, line) {
+        Some(event) => Ok(Some(event)),
+        None => ended_event(commands, line),
     }
 }
 
-fn act_all(
+// Does an event, and keeps the same one again if the store did it.
+fn act_and_keep(
     alloc: Global,
     store: &mut Store<MemoryDisk, ()>,
     tickets: &mut Vec<Ticket>,
-    commands: &mut Commands,
-    text: &str,
+    both: (Event, Event),
+    acts: &mut Vec<(u32, Event)>,
     out: &mut String,
 ) -> Result<(), AllocError> {
-    for line in text.split('\n') {
-        match told_event(alloc, tickets, line) {
-            Some(event) => act(alloc, store, tickets, event, out)?,
-            None => act_on_line(alloc, store, tickets, commands, line, out)?,
-        }
+    let (event, again) = both;
+    if act(alloc, store, tickets, event, out)? {
+        acts.push((0, again))?;
+    } else {
+        drop(again);
     }
     Ok(())
 }
 
-// Does the events of a row one after another, with the tickets that they take.
-fn play(
+// Reads each line twice, since the store keeps no event.
+fn act_all(
     alloc: Global,
     store: &mut Store<MemoryDisk, ()>,
     text: &str,
+    acts: &mut Vec<(u32, Event)>,
     out: &mut String,
 ) -> Result<(), AllocError> {
     let mut tickets = Vec::new(alloc);
     let mut commands = Commands::new(alloc);
-    act_all(alloc, store, &mut tickets, &mut commands, text, out)
+    let mut commands_again = Commands::new(alloc);
+    for line in text.split('\n') {
+        let event = event_at(alloc, &tickets, &mut commands, line)?;
+        let again = event_at(alloc, &tickets, &mut commands_again, line)?;
+        if let (Some(event), Some(again)) = (event, again) {
+            act_and_keep(alloc, store, &mut tickets, (event, again), acts, out)?;
+        }
+    }
+    Ok(())
 }
 
 // The chair and the event that met a fault of the disk.
@@ -178,7 +195,7 @@ fn add_last(out: &mut String, faults: u64, durable: &Durable) -> Result<(), Allo
     out.push('\n')
 }
 
-// Does the events of a row on a store, and the same acts on a core. Adds the replies of each.
+// Does the events of a row on a store one after another, and the acts that it did on a core. Adds the replies of each.
 fn acts_on(
     alloc: Global,
     store: Store<MemoryDisk, ()>,
@@ -187,10 +204,11 @@ fn acts_on(
     by_core: &mut String,
 ) -> Result<(), AllocError> {
     let mut store = store;
-    let done = play(alloc, &mut store, text, told);
+    let mut acts = Vec::new(alloc);
+    let done = act_all(alloc, &mut store, text, &mut acts, told);
     let failed = add_failed(told, store.failed());
     let done_acts = store.history().len();
-    let (disk, acts, durable) = store.into_parts();
+    let (disk, history, durable) = store.into_parts();
     let faults = disk.faults();
     drop(disk);
     let kept = match faults {
@@ -201,9 +219,10 @@ fn acts_on(
     if done.is_err() || failed.is_err() || kept.is_err() {
         return Err(AllocError);
     }
-    if acts.len() != done_acts {
+    if acts.len() != done_acts || history.len() != done_acts {
         told.push_str("another history is given back\n")?;
     }
+    drop(history);
     add_replies(alloc, &acts, by_core)
 }
 

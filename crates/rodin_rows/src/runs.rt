@@ -2,7 +2,7 @@
 
 use crate::gates::{Holding, Watched};
 use crate::row::Row;
-use core_steps::{Durable, Event};
+use core_steps::Durable;
 use outside::{Disk, MemoryDisk, MemorySink, MemorySource, Side};
 use prover_pool::Tools;
 use rodin_cli::outcome::Run;
@@ -77,8 +77,8 @@ impl Sides {
     }
 }
 
-/// What a run came to: the exit status, the number of events, what it wrote, the components that last, its disk, whether a
-/// ticket that was held passed, and how many builds stand before its finish.
+/// What a run came to: the exit status, the number of events, what it wrote, the components that last, its disk, and whether a
+/// ticket that was held passed.
 #[derive(Drop)]
 pub struct Ran {
     pub status: u8,
@@ -87,7 +87,6 @@ pub struct Ran {
     pub last: String,
     pub disk: MemoryDisk,
     pub is_passed: bool,
-    pub builds: u64,
 }
 
 impl Ran {
@@ -102,7 +101,6 @@ impl Ran {
             last: String::new(alloc),
             disk,
             is_passed: false,
-            builds: 0,
         })
     }
 }
@@ -170,19 +168,6 @@ pub fn disk_of(
     MemoryDisk::new(alloc, left, right, room, DISK_CALLS, fails)
 }
 
-// How many builds stand before the finish of the first ticket.
-fn builds_before_finish(history: &[(u32, Event)]) -> u64 {
-    let mut builds: u64 = 0;
-    for (_, event) in history {
-        match event {
-            Event::Build => builds = builds.saturating_add(1),
-            Event::Finish(1, _) => break,
-            _ => {}
-        }
-    }
-    builds
-}
-
 // What was written, and the names of the components that last.
 fn tell(sink: &MemorySink, last: &Durable, ran: &mut Ran) -> Result<(), AllocError> {
     ran.written.clear();
@@ -213,7 +198,6 @@ fn keep(
     } = done;
     ran.status = status;
     ran.events = history.len();
-    ran.builds = builds_before_finish(&history);
     ran.is_passed = is_passed;
     ran.disk = disk;
     drop(history);

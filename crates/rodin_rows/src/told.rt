@@ -117,9 +117,8 @@ fn add_held(out: &mut String, ran: &Ran) -> Result<(), AllocError> {
     } else {
         "did not pass"
     };
-    add_two(out, "the first ticket ", passed)?;
-    out.push_str(" behind ")?;
-    add_count(out, ran.builds, " builds\n")
+    out.push_str("the first ticket ")?;
+    add_line(out, passed)
 }
 
 // The lines that `tell` asks for.

@@ -15,6 +15,7 @@ ghost use Rattle.session_ends.specs.Written.{WritesOrFails};
 
 use crate::exit;
 use crate::statuses::{closing, opening_line, opening_status};
+use act_history::History;
 use core_steps::{Durable, Event, enters_all, one_answer, stays_orderly, tells_the_rebuilt};
 use formula_core::Steps;
 use outside::{Disk, Sink};
@@ -30,7 +31,7 @@ use std::sync::ledger::{Blank, Ledger};
 pub struct Ended<D> {
     pub status: u8,
     pub disk: D,
-    pub history: Vec<(u32, Event)>,
+    pub history: History<(u32, Event)>,
     pub last: Durable,
 }
 
@@ -144,7 +145,7 @@ fn nothing_done<D>(alloc: Global, status: u8, disk: D) -> Ended<D>
     Ended {
         status,
         disk,
-        history: Vec::new(alloc),
+        history: History::new(alloc),
         last: Durable::empty(alloc),
     }
 }

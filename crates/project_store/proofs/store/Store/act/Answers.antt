@@ -1,4 +1,4 @@
-use Rattle.std.proofs.Common.{◌≡◌, ◌∙◌, None, sym, ap, subst, inl, arith, ◌+◌, ◌≤◌, Some, [], ◌∷◌, ◌++◌}
+use Rattle.std.proofs.Common.{◌≡◌, ◌∙◌, None, sym, ap, subst, inl, arith, ◌+◌, ◌≤◌, Some, [], ◌∷◌, ◌++◌, length}
 use Rattle.event_weights.specs.Weights.{weight_of}
 use Rattle.store_log.specs.declared.fault.StoreFault.TheVariants.{SessionFull, OutOfMemory}
 use Rattle.project_store.specs.Store.{met, weight}
@@ -19,7 +19,7 @@ perform-requires g c =
       sound = sound;
       small = old.small;
       orderly = old.orderly;
-      number = omega (arith, old.tickets, c.self.inside.history.ok.0, c.self.inside.history.ok.1, c.self.inside.history.small);
+      number = omega (arith, old.tickets, c.reserve.ensures.few, ap length c.reserve.ensures.items);
       reads = λ t. old.reads t sound;
       stops = λ t e here. old.stops t e here;
     }
@@ -76,12 +76,12 @@ invariant_of-self-in-Ok g c =
     let none : c.self.inside.kept ≡ None = ap (λ s. s.kept) c.self.view_is ∙ c.requires.sound in
     let old = subst (Sound g.D.Disk.told g.D.Disk.bytes_of g.D.Disk.images g.D.Disk.clock g.D.Disk.moments g.D.Disk.faults c.self.inside.base.value c.self.inside.count c.self.inside.journal c.self.inside.core c.self.inside.history.items) none c.self.invariant.0 in
     let light : weight c.self.inside.history.items + weight_of c.args.event ≤ 67108864 = omega (arith, c.self.invariant.1, c.self.invariant.0.light, c.in-Some.ensures.weight.0, c.in-Some.ensures.weight.1) in
-    let is = c.push_reserved.ensures.items ∙ ap (λ l. l ++ (c.args.chair, c.args.event) ∷ []) c.reserve.ensures.items in (
-      subst (Sound g.D.Disk.told g.D.Disk.bytes_of g.D.Disk.images g.D.Disk.clock g.D.Disk.moments g.D.Disk.faults c.self.inside.base.value c.self.inside.count c.perform.new.journal c.perform.new.core c.push_reserved.new.self.items) (sym none)
-          (done_by g.D.Disk.told g.D.Disk.bytes_of g.D.Disk.images g.D.Disk.clock g.D.Disk.moments g.D.Disk.faults c.self.inside.base.value c.self.inside.count c.self.inside.journal c.self.inside.core c.self.inside.history.items old c.perform.new.journal c.args.chair c.args.event c.in-Ok.reply c.perform.new.core c.push_reserved.new.self.items c.in-Ok.ensures.outcome is c.in-Ok.ensures.later light),
+    let is = c.note.ensures ∙ ap (λ l. l ++ (c.args.chair, c.args.event) ∷ []) c.reserve.ensures.items in (
+      subst (Sound g.D.Disk.told g.D.Disk.bytes_of g.D.Disk.images g.D.Disk.clock g.D.Disk.moments g.D.Disk.faults c.self.inside.base.value c.self.inside.count c.perform.new.journal c.perform.new.core c.note.new.self.items) (sym none)
+          (done_by g.D.Disk.told g.D.Disk.bytes_of g.D.Disk.images g.D.Disk.clock g.D.Disk.moments g.D.Disk.faults c.self.inside.base.value c.self.inside.count c.self.inside.journal c.self.inside.core c.self.inside.history.items old c.perform.new.journal c.args.chair c.args.event c.in-Ok.reply c.perform.new.core c.note.new.self.items c.in-Ok.ensures.outcome is c.in-Ok.ensures.later light),
       omega (arith, c.self.invariant.1, c.in-Some.ensures.weight.0, ap weight is, weight_on c.self.inside.history.items c.args.chair c.args.event),
-      λ known t. subst (Stood g.D.Disk.clock g.D.Disk.moments g.K.Opening.moment g.K.Opening.images g.K.Opening.moments c.self.inside.base.value c.self.inside.count c.perform.new.journal c.perform.new.core c.push_reserved.new.self.items) (sym none)
-          (stood_done g.D.Disk.clock g.D.Disk.moments g.K.Opening.moment g.K.Opening.images g.K.Opening.moments c.self.inside.base.value c.self.inside.count c.self.inside.journal c.self.inside.core c.self.inside.history.items old.exchanges old.run (subst (Stood g.D.Disk.clock g.D.Disk.moments g.K.Opening.moment g.K.Opening.images g.K.Opening.moments c.self.inside.base.value c.self.inside.count c.self.inside.journal c.self.inside.core c.self.inside.history.items) none (c.self.invariant.2 known t)) c.args.chair c.args.event c.perform.new.journal c.perform.new.core c.push_reserved.new.self.items is (c.in-Ok.ensures.any_moment t)),
+      λ known t. subst (Stood g.D.Disk.clock g.D.Disk.moments g.K.Opening.moment g.K.Opening.images g.K.Opening.moments c.self.inside.base.value c.self.inside.count c.perform.new.journal c.perform.new.core c.note.new.self.items) (sym none)
+          (stood_done g.D.Disk.clock g.D.Disk.moments g.K.Opening.moment g.K.Opening.images g.K.Opening.moments c.self.inside.base.value c.self.inside.count c.self.inside.journal c.self.inside.core c.self.inside.history.items old.exchanges old.run (subst (Stood g.D.Disk.clock g.D.Disk.moments g.K.Opening.moment g.K.Opening.images g.K.Opening.moments c.self.inside.base.value c.self.inside.count c.self.inside.journal c.self.inside.core c.self.inside.history.items) none (c.self.invariant.2 known t)) c.args.chair c.args.event c.perform.new.journal c.perform.new.core c.note.new.self.items is (c.in-Ok.ensures.any_moment t)),
     )
 
 pub returns-in-Ok-clause-outcome : goal.returns-in-Ok-clause-outcome
@@ -89,8 +89,8 @@ returns-in-Ok-clause-outcome g c = rw (← c.self.view_is) (
     let none : c.self.inside.kept ≡ None = ap (λ s. s.kept) c.self.view_is ∙ c.requires.sound in
     let old = subst (Sound g.D.Disk.told g.D.Disk.bytes_of g.D.Disk.images g.D.Disk.clock g.D.Disk.moments g.D.Disk.faults c.self.inside.base.value c.self.inside.count c.self.inside.journal c.self.inside.core c.self.inside.history.items) none c.self.invariant.0 in
     let light : weight c.self.inside.history.items + weight_of c.args.event ≤ 67108864 = omega (arith, c.self.invariant.1, c.self.invariant.0.light, c.in-Some.ensures.weight.0, c.in-Some.ensures.weight.1) in
-    let is = c.push_reserved.ensures.items ∙ ap (λ l. l ++ (c.args.chair, c.args.event) ∷ []) c.reserve.ensures.items in
-    acted g.D.Disk.told g.D.Disk.bytes_of g.D.Disk.images g.D.Disk.clock g.D.Disk.moments g.D.Disk.faults c.self.inside.base.value c.self.inside.count c.self.inside.journal c.self.inside.core c.self.inside.history.items c.self.inside.kept c.perform.new.journal c.args.chair c.args.event c.in-Ok.reply c.perform.new.core c.push_reserved.new.self.items c.in-Ok.ensures.outcome is light none)
+    let is = c.note.ensures ∙ ap (λ l. l ++ (c.args.chair, c.args.event) ∷ []) c.reserve.ensures.items in
+    acted g.D.Disk.told g.D.Disk.bytes_of g.D.Disk.images g.D.Disk.clock g.D.Disk.moments g.D.Disk.faults c.self.inside.base.value c.self.inside.count c.self.inside.journal c.self.inside.core c.self.inside.history.items c.self.inside.kept c.perform.new.journal c.args.chair c.args.event c.in-Ok.reply c.perform.new.core c.note.new.self.items c.in-Ok.ensures.outcome is light none)
 
 pub invariant_of-self-in-Err : goal.invariant_of-self-in-Err
 invariant_of-self-in-Err g c =

@@ -59,7 +59,7 @@ invariant_of-result g c =
     let leads = subst (λ ps. Leads no_texts (bodies_of ps) c.in-Ok-open_core.core.durable) c.deref.ensures.value c.in-Ok-open_core.ensures.opened.1 in
     let sound = sound_at_first g.D.Disk.told g.D.Disk.bytes_of g.D.Disk.images g.D.Disk.faults c.in-Ok.opened.0 c.in-Ok-open_core.core c.of-base.result.value c.new.result.items c.faults-count.result (bodies_of c.in-Ok.opened.1.items)
     (c.of-base.ensures ∙ c.durable.ensures.durable) begun (subst IsOrderly (sym begun) (c.opens_orderly.ensures c.in-Ok-open_core.core.durable)) c.in-Ok-open_core.ensures.small leads
-    c.in-Ok.ensures.begun c.in-Ok.ensures.read c.in-Ok.ensures.standing (omega (arith, c.faults-count.ensures, c.in-Ok.ensures.later)) c.new.ensures.items in (
+    c.in-Ok.ensures.begun c.in-Ok.ensures.read c.in-Ok.ensures.standing (omega (arith, c.faults-count.ensures, c.in-Ok.ensures.later)) c.new.ensures in (
       sound.0,
       sound.1,
       λ known t. stood_first g.D.Disk.clock g.D.Disk.moments g.K.Opening.moment g.K.Opening.images g.K.Opening.moments g.D.Disk.images c.args.disk (c.requires.opening known t) _ (c.in-Ok.ensures.any_moment t),
