@@ -1,146 +1,137 @@
--- The rules of logic and of equations, as the table makes them.
-use Rattle.std.proofs.Common.{Bool, List, None, Option, Some, [], false, map, refl, subst, sym, true, ℕ, ◌∷◌, ◌≡◌}
-use Rattle.std.specs.Option.{option_and_then}
-use Rattle.std.specs.Prelude.{if◌then◌else◌}
-use Rattle.formula_core.specs.Formulas.{joined}
-use Rattle.formula_core.specs.Types.{is_truth}
+-- An instance of a formula denotes what the formula does with the values of the terms.
+use Rattle.std.proofs.Common.{Bool, List, None, Option, Some, [], ap, append-nil, append_assoc, arith, false, length, length-append, map, refl, reverse, slice_get, subst, sym, true, ℕ, ◌++◌, ◌+◌, ◌-◌, ◌∙◌, ◌∷◌, ◌≡◌, ◌≤◌}
+use Rattle.std.proofs.lemmas.Bool.{ltb-false, ltb-true}
+use Rattle.std.proofs.lemmas.List.{length-reverse, reverse-append}
+use Rattle.std.proofs.lemmas.Option.{slice_get-map}
+use Rattle.std.specs.List.{AllByRecursion}
+use Rattle.std.specs.Option.{option_map, option_map_or}
+use Rattle.std.specs.Prelude.{if◌then◌else◌, nat_lt, unwrap_or}
+use Rattle.formula_core.proofs.BindingLaw.{reverse-map}
+use Rattle.formula_core.proofs.Instantiation.{instantiated-Bind, instantiated-Bound, instantiated-Free, instantiated-Int, instantiated-Node}
+use Rattle.formula_core.proofs.Keeping.{both}
+use Rattle.formula_core.proofs.Lists.{slice_get-append_left, slice_get-append_right}
+use Rattle.formula_core.proofs.Types.{same_type_exact}
+use Rattle.formula_core.proofs.Wellness.{well-Bound}
+use Rattle.formula_core.specs.Formulas.{instantiated}
+use Rattle.formula_core.specs.Types.{same_type}
 use Rattle.formula_core.specs.Wellness.{type_of}
 use Rattle.formula_core.specs.declared.Formula.{Formula}
-use Rattle.formula_core.specs.declared.Formula.TheVariants.{Node}
-use Rattle.formula_core.specs.declared.Op.{Op}
-use Rattle.formula_core.specs.declared.Op.TheVariants as op
+use Rattle.formula_core.specs.declared.Formula.TheOpen.{Bound as BoundF}
+use Rattle.formula_core.specs.declared.Formula.TheVariants.{Bound}
 use Rattle.formula_core.specs.declared.Ty.{Ty}
-use Rattle.well_defined.specs.Conditions.{wd_of}
-use Rattle.well_defined.specs.Connectives.{is_top}
-use Rattle.well_defined.specs.Predicates.{implication}
-use Rattle.rule_table.specs.Rewriting.{replaced}
-use Rattle.rule_table.specs.Rows.{adds, after_condition, and_l, and_r, assumes, backward, both, cases, contr, contra, cut, eq_goal, eq_hyp, eq_refl, forward, hyp, iff_l, iff_r, imp_l, imp_r, mp, not_l, not_r, or_l, or_r, proves}
-use Rattle.rule_table.specs.Rules.{IsSound, added_by}
-use Rattle.rule_table.specs.Shapes.{bottom, equal, negation, on_one, on_two}
-use Rattle.rule_table.specs.declared.kind.RuleKind.{RuleKind}
-use Rattle.rule_table.specs.declared.rule.Antecedent.{Antecedent}
-use Rattle.rule_table.specs.declared.rule.Body.{Body}
-use Rattle.sequent_core.specs.declared.sequent.Sequent.{Sequent}
-use Rattle.meanings.specs.Universes.{Universe}
-use Rattle.meanings.proofs.Fitting.{IsWellIn}
-use Rattle.true_laws.proofs.Forms.{is_on_one, is_on_two}
-use Rattle.true_rules.proofs.EqualityRows.{keeps-eq_goal, keeps-eq_hyp, keeps-eq_refl}
-use Rattle.true_rules.proofs.LogicRows.{Keeps, keeps-and_l, keeps-and_r, keeps-cases, keeps-contr, keeps-contra, keeps-cut, keeps-hyp, keeps-iff_l, keeps-iff_r, keeps-imp_l, keeps-imp_r, keeps-mp, keeps-not_l, keeps-not_r, keeps-or_l, keeps-or_r}
+use Rattle.formula_core.specs.declared.formula.Formula.TheViews.{roll-Formula, rolls-Bound}
+use Rattle.meanings.specs.Denotations.{Assignment, bound_value, denotation, holds}
+use Rattle.meanings.specs.Operations.{truth_value}
+use Rattle.meanings.specs.Universes.{Valuation, Universe}
+use Rattle.meanings.specs.Values.{Denotation, sort}
+use Rattle.meanings.proofs.Carrying.{carried}
+use Rattle.meanings.proofs.Casts.{cast_known}
+use Rattle.meanings.proofs.Denotations.{denotation-Bound, denotation-Free, denotation-Int, sort_of}
+use Rattle.meanings.proofs.Fitting.{IsWellIn, well_below, well_parts}
+use Rattle.meanings.proofs.Lists.{found}
+use Rattle.meanings.proofs.Quantifiers.{sorts_are}
+use Rattle.meanings.proofs.Truths.{true_in}
 
--- what a row is made of
-pub made_of : {X : Type 0} → (make : X → Option Body) (o : Option X) (b : Body) → option_and_then make o ≡ Some b → (x : X) × (make x ≡ Some b)
-made_of make None b h = absurd cc
-made_of make (Some x) b h = (x, h)
+-- what stands behind a list
+behind : {X Y : Type 0} → (g : X → Y) (before : List Y) (xs : List X) (k : ℕ) → length before ≤ k
+    → slice_get (before ++ map g xs) k ≡ option_map g (slice_get xs (k - length before))
+behind g before xs k ge = slice_get-append_right before (map g xs) k ge ∙ slice_get-map g xs (k - length before)
 
--- a condition adds no name
-pub added_after : (l : Formula) (rest : List Antecedent) → joined (map (λ (a : Antecedent). a.idents) rest) ≡ [] → joined (map (λ (a : Antecedent). a.idents) (after_condition l rest)) ≡ []
-added_after l rest h = go (is_top l)
-  where
-    go : (c : Bool) → joined (map (λ (a : Antecedent). a.idents) (if c then rest else proves l ∷ rest)) ≡ []
-    go true = h
-    go false = h
+all_reversed : {X : Type 0} → (P : X → Type 0) (xs : List X) → AllByRecursion P xs → AllByRecursion P (reverse xs)
+all_reversed P [] h = tt
+all_reversed P (x ∷ xs) h =
+    subst (AllByRecursion P) (sym (reverse-append (x ∷ []) xs))
+    (both P (reverse xs) (x ∷ []) (all_reversed P xs h.1) (h.0, tt))
 
-module _ {carrier : List ℕ → Type 0} (U : Universe carrier) (s : Sequent) where
-  -- truth is kept, and no name is added
-  abbrev pub Outcome : Body → Type 0
-  Outcome b = Keeps U s b × (added_by b ≡ [])
+module _ {carrier : List ℕ → Type 0} (U : Universe carrier) (names : Valuation carrier) where
+  abbrev M : Formula → Assignment U → Denotation carrier
+  M = denotation U names
 
-  module _ (b : Body) where
-    -- the rows over plain forms
-    abbrev Row : (Formula → Option Body) → Type 0
-    Row make = (g : Formula) → make g ≡ Some b → Outcome b
+  -- a term that denotes the same in each scope
+  abbrev pub IsClosed : Formula → Type 0
+  IsClosed e = (σ : Assignment U) → M e σ ≡ M e []
 
-    pub is_now : (c : Body) → Some c ≡ Some b → Keeps U s c → added_by c ≡ [] → Outcome b
-    is_now c e k none = let same : c ≡ b = cc in subst Outcome same (k, none)
+  abbrev pub value_of : Formula → Denotation carrier
+  value_of e = denotation U names e []
 
-    two : (o : Op) (make : Formula → Formula → Formula → Body) → ((g p q : Formula) → added_by (make g p q) ≡ []) → ((p q : Formula) (t : Ty) → Keeps U s (make (Node o (p ∷ q ∷ []) t) p q))
-        → (g : Formula) → on_two o g (λ p q. Some (make g p q)) ≡ Some b → Outcome b
-    two o make none keeps g h =
-        let n = is_on_two b o g (λ p q. Some (make g p q)) h in
-        is_now (make g n.0 n.1) n.4 (subst (λ f. Keeps U s (make f n.0 n.1)) (sym n.3) (keeps n.0 n.1 n.2)) (none g n.0 n.1)
+  abbrev bound_at : Ty → Option (Denotation carrier) → Denotation carrier
+  bound_at t o = (sort t, bound_value U (sort t) o)
 
-    one : (o : Op) (make : Formula → Formula → Body) → ((g p : Formula) → added_by (make g p) ≡ []) → ((p : Formula) (t : Ty) → Keeps U s (make (Node o (p ∷ []) t) p))
-        → (g : Formula) → on_one o g (λ p. Some (make g p)) ≡ Some b → Outcome b
-    one o make none keeps g h =
-        let n = is_on_one b o g (λ p. Some (make g p)) h in
-        is_now (make g n.0) n.3 (subst (λ f. Keeps U s (make f n.0)) (sym n.2) (keeps n.0 n.1)) (none g n.0)
+  pub have_sorts : (es : List Formula) → sorts_are U (map value_of es) ≡ map sort (map type_of es)
+  have_sorts [] = refl
+  have_sorts (e ∷ es) = λ i. sort_of U names e [] i ∷ have_sorts es i
 
-    pub row-hyp : Row hyp
-    row-hyp g h = is_now (both g (g ∷ []) []) h (keeps-hyp U s g) refl
+  module _ (terms : List Formula) (closed : AllByRecursion IsClosed terms) where
+    -- the last term is the one of the nearest identifier
+    abbrev turned : List Formula
+    turned = reverse terms
 
-    pub row-contr : Row contr
-    row-contr p h = is_now _ h (keeps-contr U s p) refl
+    -- the scope of an instance, and that of the formula with the types in it
+    abbrev Near : List Ty → ℕ → Assignment U → Assignment U → Type 0
+    Near types d σ τ = (inner : List Ty) × (length inner ≡ d) × (length σ ≡ d)
+        × (types ≡ inner ++ map type_of turned) × (τ ≡ σ ++ map value_of turned)
 
-    pub row-and_r : Row and_r
-    row-and_r = two op.And (λ g p q. backward g (proves p ∷ proves q ∷ [])) (λ g p q. refl) (keeps-and_r U s)
+    near_bind : (own types : List Ty) (d : ℕ) (σ τ vs : Assignment U) → length vs ≡ length own → Near types d σ τ
+        → Near (reverse own ++ types) (d + length own) (vs ++ σ) (vs ++ τ)
+    near_bind own types d σ τ vs e near = (
+      reverse own ++ near.0,
+      omega (arith, length-append (reverse own) near.0, length-reverse own, near.1),
+      omega (arith, length-append vs σ, e, near.2),
+      ap (λ s. reverse own ++ s) near.3 ∙ sym (append_assoc (reverse own) near.0 (map type_of turned)),
+      ap (λ s. vs ++ s) near.4 ∙ sym (append_assoc vs σ (map value_of turned)),
+    )
 
-    pub row-and_l : Row and_l
-    row-and_l = two op.And (λ g p q. forward (g ∷ []) (adds (p ∷ q ∷ []) ∷ [])) (λ g p q. refl) (keeps-and_l U s)
+    module _ (k : ℕ) (t : Ty) (types : List Ty) (σ τ : Assignment U) (near : Near types (length σ) σ τ)
+        (fits : IsWellIn (Bound k t) types) where
+      -- the term of an index of the binder's own has its type
+      typed : length σ ≤ k → (o : Option Formula) → slice_get turned (k - length σ) ≡ o
+          → option_map_or (λ u. same_type u t) (option_map type_of o) false ≡ true
+      typed ge o is =
+          let there : slice_get types k ≡ option_map type_of o =
+          ap (λ l. slice_get l k) near.3 ∙ behind type_of near.0 turned k (omega (arith, near.1, ge))
+          ∙ ap (λ n. option_map type_of (slice_get turned (k - n))) near.1 ∙ ap (option_map type_of) is in
+          ap (λ o. option_map_or (λ u. same_type u t) o false) (sym there) ∙ sym (well-Bound k t types) ∙ fits
 
-    pub row-or_r : Row or_r
-    row-or_r = two op.Or (λ g p q. backward g (assumes (negation p) q ∷ [])) (λ g p q. refl) (keeps-or_r U s)
+      at_term : length σ ≤ k → (o : Option Formula) → slice_get turned (k - length σ) ≡ o
+          → M (unwrap_or o (roll-Formula (BoundF (k - length terms) t))) σ ≡ bound_at t (slice_get τ k)
+      at_term ge None is = let none : false ≡ true = typed ge None is in absurd cc
+      at_term ge (Some e) is =
+          let there : slice_get τ k ≡ Some (value_of e) =
+          ap (λ s. slice_get s k) near.4 ∙ behind value_of σ turned k ge ∙ ap (option_map value_of) is in
+          let has_type : type_of e ≡ t = same_type_exact (type_of e) t (typed ge (Some e) is) in
+          found IsClosed turned (k - length σ) e (all_reversed IsClosed terms closed) is σ
+          ∙ sym (cast_known U (value_of e) (sort t) (sort_of U names e [] ∙ ap sort has_type))
+          ∙ ap (bound_at t) (sym there)
 
-    pub row-or_l : Row or_l
-    row-or_l = two op.Or (λ g p q. forward (g ∷ []) (adds (p ∷ []) ∷ adds (q ∷ []) ∷ [])) (λ g p q. refl) (keeps-or_l U s)
+      index : (c : Bool) → nat_lt k (length σ) ≡ c → M (if c then roll-Formula (BoundF k t)
+          else (unwrap_or (slice_get turned (k - length σ)) (roll-Formula (BoundF (k - length terms) t)))) σ
+          ≡ bound_at t (slice_get τ k)
+      index true e =
+          ap (λ f. M f σ) (rolls-Bound k t) ∙ denotation-Bound U names k t σ ∙ ap (bound_at t)
+          (sym (ap (λ s. slice_get s k) near.4
+          ∙ slice_get-append_left σ (map value_of turned) k (ltb-true k (length σ) e)))
+      index false e = at_term (ltb-false k (length σ) e) (slice_get turned (k - length σ)) refl
 
-    pub row-imp_r : Row imp_r
-    row-imp_r = two op.Implies (λ g p q. backward g (assumes p q ∷ [])) (λ g p q. refl) (keeps-imp_r U s)
+    index_same : (k : ℕ) (t : Ty) (types : List Ty) (d : ℕ) (σ τ : Assignment U) → Near types d σ τ
+        → IsWellIn (Bound k t) types → M (instantiated terms d (Bound k t)) σ ≡ M (Bound k t) τ
+    index_same k t types d σ τ near fits =
+        ap (λ d. M (instantiated terms d (Bound k t)) σ) (sym near.2)
+        ∙ ap (λ f. M f σ) (instantiated-Bound terms (length σ) k t)
+        ∙ index k t types σ τ (near.0, near.1 ∙ sym near.2, refl, near.3, near.4) fits (nat_lt k (length σ)) refl
+        ∙ sym (denotation-Bound U names k t τ)
 
-    pub row-imp_l : Row imp_l
-    row-imp_l = two op.Implies (λ g p q. forward (g ∷ []) (proves p ∷ adds (q ∷ []) ∷ [])) (λ g p q. refl) (keeps-imp_l U s)
-
-    pub row-mp : Row mp
-    row-mp = two op.Implies (λ g p q. forward (g ∷ p ∷ []) (adds (q ∷ []) ∷ [])) (λ g p q. refl) (keeps-mp U s)
-
-    pub row-iff_r : Row iff_r
-    row-iff_r = two op.Equivalent (λ g p q. backward g (proves (implication p q) ∷ proves (implication q p) ∷ [])) (λ g p q. refl) (keeps-iff_r U s)
-
-    pub row-iff_l : Row iff_l
-    row-iff_l = two op.Equivalent (λ g p q. forward (g ∷ []) (adds (implication p q ∷ implication q p ∷ []) ∷ [])) (λ g p q. refl) (keeps-iff_l U s)
-
-    pub row-not_r : Row not_r
-    row-not_r = one op.Not (λ g p. backward g (assumes p bottom ∷ [])) (λ g p. refl) (keeps-not_r U s)
-
-    pub row-not_l : Row not_l
-    row-not_l = one op.Not (λ g p. forward (g ∷ []) (proves p ∷ [])) (λ g p. refl) (keeps-not_l U s)
-
-    pub row-contra : Row contra
-    row-contra g h = is_now (backward g (assumes (negation g) bottom ∷ [])) h (keeps-contra U s g) refl
-
-    pub row-cut : Row cut
-    row-cut p h = go (is_truth (type_of p)) h
-      where
-        go : (c : Bool) → (if c then Some (forward [] (after_condition (wd_of p) (proves p ∷ adds (p ∷ []) ∷ []))) else None) ≡ Some b → Outcome b
-        go true k = is_now (forward [] (after_condition (wd_of p) (proves p ∷ adds (p ∷ []) ∷ []))) k (keeps-cut U s p (wd_of p)) (added_after (wd_of p) (proves p ∷ adds (p ∷ []) ∷ []) refl)
-        go false k = absurd cc
-
-    pub row-cases : Row cases
-    row-cases p h = go (is_truth (type_of p)) h
-      where
-        go : (c : Bool) → (if c then Some (forward [] (after_condition (wd_of p) (adds (p ∷ []) ∷ adds (negation p ∷ []) ∷ []))) else None) ≡ Some b → Outcome b
-        go true k = is_now (forward [] (after_condition (wd_of p) (adds (p ∷ []) ∷ adds (negation p ∷ []) ∷ []))) k (keeps-cases U s p (wd_of p)) (added_after (wd_of p) (adds (p ∷ []) ∷ adds (negation p ∷ []) ∷ []) refl)
-        go false k = absurd cc
-
-    pub row-eq_refl : Row eq_refl
-    row-eq_refl g h =
-        let n = is_on_two b op.Equal g (λ e f. Some (backward (equal e e) [])) h in
-        is_now (backward (equal n.0 n.0) []) n.4 (keeps-eq_refl U s n.0) refl
-
-  -- The rows that ask for well formulas. They are those that a rule needs.
-  module _ (b : Body) (k : RuleKind) (sound : IsSound k b) where
-    pub is_well_now : (c : Body) → Some c ≡ Some b → (IsSound k c → Keeps U s c) → added_by c ≡ [] → Outcome b
-    is_well_now c e f none = let same : c ≡ b = cc in subst Outcome same (f (subst (IsSound k) (sym same) sound), none)
-
-    pub row-eq_goal : (g h : Formula) → eq_goal g h ≡ Some b → Outcome b
-    row-eq_goal g h e =
-        let n = is_on_two b op.Equal h (λ e f. Some (both g (h ∷ []) (proves (replaced e f g) ∷ []))) e in
-        is_well_now (both g (h ∷ []) (proves (replaced n.0 n.1 g) ∷ [])) n.4 (λ sound.
-        subst (λ h. Keeps U s (both g (h ∷ []) (proves (replaced n.0 n.1 g) ∷ []))) (sym n.3)
-        (keeps-eq_goal U s n.0 n.1 n.2 (subst (λ f. IsWellIn f []) n.3 sound.formulas.1.0.well) g)) refl
-
-    pub row-eq_hyp : (h j : Formula) → eq_hyp h j ≡ Some b → Outcome b
-    row-eq_hyp h j e =
-        let n = is_on_two b op.Equal h (λ e f. Some (forward (h ∷ j ∷ []) (adds (replaced e f j ∷ []) ∷ []))) e in
-        is_well_now (forward (h ∷ j ∷ []) (adds (replaced n.0 n.1 j ∷ []) ∷ [])) n.4 (λ sound.
-        subst (λ h. Keeps U s (forward (h ∷ j ∷ []) (adds (replaced n.0 n.1 j ∷ []) ∷ []))) (sym n.3)
-        (keeps-eq_hyp U s n.0 n.1 n.2 (subst (λ f. IsWellIn f []) n.3 sound.formulas.0.well) j)) refl
+    -- the body of a binder outside of all others
+    pub instance_true : (own : List Ty) → map type_of terms ≡ own → (p : Formula) → IsWellIn p (reverse own ++ [])
+        → holds U names (instantiated terms 0 p) ≡ true_in U names p (reverse (map value_of terms) ++ [])
+    instance_true own are p fits =
+        let types = append-nil (reverse own) ∙ ap reverse (sym are) ∙ reverse-map type_of terms in
+        let values = append-nil (reverse (map value_of terms)) ∙ reverse-map value_of terms in
+        ap (truth_value U) (carried U names names (instantiated terms) IsWellIn Near
+        (λ op parts t d. instantiated-Node terms d op parts t)
+        (λ b own parts t d. instantiated-Bind terms d b own parts t)
+        well_parts well_below near_bind
+        (λ k types d σ τ near fits. ap (λ f. M f σ) (instantiated-Int terms d k)
+        ∙ denotation-Int U names k σ ∙ sym (denotation-Int U names k τ))
+        (λ name t types d σ τ near fits. ap (λ f. M f σ) (instantiated-Free terms d name t)
+        ∙ denotation-Free U names name t σ ∙ sym (denotation-Free U names name t τ))
+        index_same p (reverse own ++ []) 0 [] (reverse (map value_of terms) ++ []) ([], refl, refl, types, values) fits)

@@ -25,6 +25,7 @@ unfolding whole
 bottom_is_underived tree s shape test U is none goal derives =
     let names = λ (name : List ℕ). whole U in
     let held : holds U names s.goal ≡ true =
-    derived_is_true U (each_law_holds U) tree s is derives names (λ set stands x. refl) (subst (AreTrue U names) (sym none) tt) in
+    derived_is_true U (each_law_holds U) tree s is derives names
+    (λ set stands x. refl) (subst (AreTrue U names) (sym none) tt) in
     let k : false ≡ true = sym (true-Bottom U names ty.Truth refl []) ∙ ap (holds U names) (sym goal) ∙ held in
     absurd cc
