@@ -2,6 +2,7 @@
 use Rattle.std.proofs.Common.{◌≡◌, ◌∙◌, sym, subst, refl, ℕ, ◌+◌, ◌≤◌, Bool, true, false, ◌&&◌, List, [], ◌∷◌, map, sum, arith}
 use Rattle.std.proofs.lemmas.List.Sums.{sum_by-cons}
 use Rattle.std.specs.List.{list_all}
+use Rattle.std.specs.Prelude.{Option, Some, None, Result, Ok, Err, IfOk, IfSome}
 use Rattle.sequent_core.specs.declared.sequent.Sequent.{Sequent}
 use Rattle.sequent_core.specs.declared.tree.Tree.{Tree, roll-Tree}
 use Rattle.sequent_core.specs.declared.tree.Tree.TheOpen.{Tree-F, Leaf as LeafF, Node as NodeF}
@@ -45,3 +46,10 @@ is_counted = ind-Tree IsCounted (λ x y is. let Q : Tree-F Tree → Type 0 = λ 
 -- a proof of so few rules may be stored
 pub is_good : (tree : Tree) (s : Sequent) (budget : ℕ) → Derives tree s → rule_count tree ≤ budget → budget ≤ 2000 → IsGoodTree tree s
 is_good tree s budget derives few most = record { small = omega (arith, is_counted tree derives.closed, few, most); derives = derives }
+
+-- so is what a search finds
+pub good_found : {E : Type 0} (s : Sequent) (budget : ℕ) → budget ≤ 2000 → (r : Result (Option Tree) E) → IfOk r (λ o. IfSome o (λ tree. rule_count tree ≤ budget))
+    → IfOk r (λ o. IfSome o (λ tree. Derives tree s)) → IfOk r (λ o. IfSome o (λ tree. IsGoodTree tree s))
+good_found s budget most (Ok (Some tree)) few derives = is_good tree s budget derives few most
+good_found s budget most (Ok None) few derives = tt
+good_found s budget most (Err e) few derives = tt

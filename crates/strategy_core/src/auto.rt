@@ -53,7 +53,6 @@ fn short_proof(alloc: Global, sequent: &Sequent) -> Result<Option<Tree>, OutOfMe
 }
 
 /// What the search finds. A proof has no leaf and so as many nodes as rules: none that is found is too large to be stored.
-#[tactic(auto, using(crate::proofs::Closed::is_good))]
 fn searched(
     alloc: Global,
     sequent: &Sequent,
