@@ -1,6 +1,5 @@
 //! The prover by logic: short proofs, and else proofs by cases.
 ghost use Rattle.std.specs.Prelude.{◌≡◌, ◌≤◌, ◌<◌, ◌^◌};
-ghost use Rattle.case_proofs.specs.Cases.{HasFewRulesIfFound, IsSureByCases};
 ghost use Rattle.prover_prop.specs.Sure.{IsSurePropositionally};
 ghost use Rattle.sequent_core.specs.Members.{members_of};
 ghost use Rattle.sequent_core.specs.Provers.{AnswersWithin, IsGood};
@@ -43,7 +42,6 @@ impl Prover for PropProver {
         ensures sure { IsSurePropositionally self.now.budget sequent.now → IsGood result sequent.now }
         ensures few { members_of result < 2 ^ 32 }
         ensures short { IsSureByLogic sequent.now → IsShortIfFound result sequent.now }
-        ensures by_connectives { IsSureByCases self.now.budget sequent.now → HasFewRulesIfFound sequent.now result }
     {
         match proof_by_logic(alloc, sequent) {
             Ok(Some(short)) => Attempt::found(short),
